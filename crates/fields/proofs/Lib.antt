@@ -1,0 +1,9 @@
+-- Laws of the crate's definitions. `FieldLaws` has those that other crates and readers go by; the other files serve it and the proofs.
+pub mod FieldLaws
+pub mod FromRight
+pub mod TextSteps
+pub mod Places
+pub mod Answers
+pub mod Columns
+pub mod Signs
+pub mod Range

@@ -1,0 +1,7 @@
+-- What the contracts of `fields` cite: document 01, "Fields", a file for each notion.
+pub mod Place
+pub mod Number
+pub mod Spelling
+pub mod Text
+pub mod Answer
+pub mod Ending

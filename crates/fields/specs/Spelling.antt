@@ -1,0 +1,35 @@
+-- How a value is spelled in a number field (document 01, "Fields": "right aligned, spaces in front"), column by column from the right.
+-- Assumes nothing.
+--   spell w v        the w columns of the value v
+--   columns w l      the last w columns, where l is still to be written
+use mathlib.Core.Bool.{Bool, true, false, cond}
+use mathlib.Core.List.{List, [], _∷_, _++_}
+use Prim.Native.Nat.{ℕ, zero, suc, _+_, _/_, _%_}
+use lib.Dec.{leb}
+use lib.IntN.{ℤ, pos, negsuc}
+use Rattle.fields.specs.declared.Left.{Left}
+use Rattle.fields.specs.declared.Left.the-variants.{Blanks, Minus, Digits}
+
+-- the byte of the last column
+abbrev pub lastOf : Left → ℕ
+lastOf Blanks = 32
+lastOf Minus = 45
+lastOf (Digits n minus) = 48 + n % 10
+
+-- what is left before it: the other digits, ""-" directly before the digits", "spaces in front"
+abbrev pub restOf : Left → Left
+restOf Blanks = Blanks
+restOf Minus = Blanks
+restOf (Digits n minus) = cond (leb 10 n) (Digits (n / 10) minus) (cond minus Minus Blanks)
+
+unfoldable pub columns : ℕ → Left → List ℕ
+columns zero l = []
+columns (suc w) l = columns w (restOf l) ++ (lastOf l ∷ [])
+
+-- a value, as what is to be written
+abbrev pub leftOf : ℤ → Left
+leftOf (pos n) = Digits n false
+leftOf (negsuc n) = Digits (suc n) true
+
+unfoldable pub spell : ℕ → ℤ → List ℕ
+spell w v = columns w (leftOf v)

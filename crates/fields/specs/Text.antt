@@ -1,0 +1,32 @@
+-- The other fields (document 01, "Fields"): N is two-byte Shift JIS, X is spaces. Assumes nothing.
+--   isName f         the bytes f are two-byte characters
+--   isBlanks f       the bytes f are spaces
+--   textAt p s c w   the answer to the w columns of s from column c on, where p says what is well formed
+use mathlib.Core.Bool.{Bool, true, false, cond, _&&_, _||_}
+use mathlib.Core.List.{List, [], _∷_}
+use Prim.Native.Nat.{ℕ}
+use lib.Dec.{leb, eqb}
+use Rattle.fields.specs.Place.{isInside, bytesAt}
+use Rattle.fields.specs.declared.Text.{Text}
+use Rattle.fields.specs.declared.Text.the-variants.{WellFormed, Refused}
+
+abbrev pub within : ℕ → ℕ → ℕ → Bool
+within low high b = leb low b && leb b high
+
+-- "lead 81-9F or E0-FC, trail 40-7E or 80-FC"
+abbrev pub isPair : ℕ → ℕ → Bool
+isPair a b = (within 0x81 0x9f a || within 0xe0 0xfc a) && (within 0x40 0x7e b || within 0x80 0xfc b)
+
+-- "N is two-byte Shift JIS"
+unfoldable pub isName : List ℕ → Bool
+isName [] = true
+isName (a ∷ []) = false
+isName (a ∷ b ∷ bs) = cond (isPair a b) (isName bs) false
+
+-- "X is spaces"
+unfoldable pub isBlanks : List ℕ → Bool
+isBlanks [] = true
+isBlanks (b ∷ bs) = cond (eqb b 32) (isBlanks bs) false
+
+unfoldable pub textAt : (List ℕ → Bool) → List ℕ → ℕ → ℕ → Text
+textAt p s c w = cond (isInside s c w && p (bytesAt s c w)) WellFormed Refused
