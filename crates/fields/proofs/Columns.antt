@@ -52,7 +52,7 @@ unfolding columns
 fill-done buf at zero l h = rw (add-zero, take-append-drop)
 fill-done buf at (suc k) l h = absurd (omega arith)
 
-blanks-front : (k : ℕ) (ys : List ℕ) → 32 ∷ (columns k Blanks ++ ys) ≡ columns (suc k) Blanks ++ ys
+pub blanks-front : (k : ℕ) (ys : List ℕ) → 32 ∷ (columns k Blanks ++ ys) ≡ columns (suc k) Blanks ++ ys
 unfolding columns
 blanks-front zero ys = refl
 blanks-front (suc k) ys = ap (_∷_ 32) (columns-suc k Blanks ys) ∙ blanks-front k (32 ∷ ys) ∙ sym (columns-suc (suc k) Blanks ys)

@@ -127,7 +127,7 @@ blanks-passed (z ∷ q) ys h = blanks-by z q ys (λ k. blanks-passed q ys k) (is
 
 -- a digit is no space and no sign
 module _ (b : ℕ) (ys : List ℕ) (l : 48 ≤ b) where
-  digit-first : signedOf (afterBlanks (b ∷ ys)) ≡ plainOf (b ∷ ys)
+  pub digit-first : signedOf (afterBlanks (b ∷ ys)) ≡ plainOf (b ∷ ys)
   unfolding signedOf afterBlanks
   digit-first =
       let n : b ≡ 32 → ⊥ = λ e. omega arith in

@@ -1,5 +1,6 @@
 -- Laws of the crate's definitions. `FieldLaws` has those that other crates and readers go by; the other files serve it and the proofs.
 pub mod FieldLaws
+pub mod Cases
 pub mod FromRight
 pub mod TextSteps
 pub mod Places
@@ -7,3 +8,5 @@ pub mod Answers
 pub mod Columns
 pub mod Signs
 pub mod Range
+pub mod Spelled
+pub mod Unspelled

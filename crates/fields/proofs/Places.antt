@@ -5,8 +5,8 @@ use mathlib.Core.List.{List, _++_}
 use Prim.Native.Nat.{ℕ, _+_, _-_, _≤_, _<_}
 use native.Mathlib.Omega.{arith}
 use lib.Dec.{leb}
-use lib.ListN.{length, take, drop, length-append, length-drop}
-use lib.Seq.{length-take-le}
+use lib.ListN.{length, take, drop, length-append, length-drop, take-append-drop}
+use lib.Seq.{length-take-le, take-at, drop-at, drop-drop}
 use borrow.Author.Tests.{le-leb, lt-leb, leb-true, not-false}
 use Rattle.fields.specs.Place.{isInside, bytesAt, put}
 
@@ -46,3 +46,44 @@ module _ (s : List ℕ) (c w : ℕ) where
   part-is =
       let e : c - 1 + w - (c - 1) ≡ w = omega arith in
       rw e
+
+module _ (s : List ℕ) (c w : ℕ) (t : List ℕ) (i : isInside s c w ≡ true) (l : length t ≡ w) where
+  pub put-length : length (put s c t) ≡ length s
+  unfolding put
+  put-length =
+      let b = inside-bounds s c w i in
+      let k : c - 1 ≤ length s = omega arith in
+      rw (length-append, length-append, length-take-le (c - 1) s k, length-drop, l) (omega arith)
+
+  -- what was put is inside, and stands there
+  pub put-inside : isInside (put s c t) c w ≡ true
+  put-inside =
+      let b = inside-bounds s c w i in
+      inside-fits (put s c t) c w (b .0) (rw put-length (b .1))
+
+  pub put-bytes : bytesAt (put s c t) c w ≡ t
+  unfolding put bytesAt
+  put-bytes =
+      let b = inside-bounds s c w i in
+      let k : c - 1 ≤ length s = omega arith in
+      rw (drop-at (take (c - 1) s) (t ++ drop (c - 1 + length t) s) (c - 1) (length-take-le (c - 1) s k)) (take-at t (drop (c - 1 + length t) s) w l)
+
+bytes-rest : (s : List ℕ) (c w : ℕ) → bytesAt s c w ++ drop w (drop (c - 1) s) ≡ drop (c - 1) s
+unfolding bytesAt
+bytes-rest s c w = take-append-drop w (drop (c - 1) s)
+
+module _ (s : List ℕ) (c w : ℕ) (i : isInside s c w ≡ true) where
+  pub bytes-length : length (bytesAt s c w) ≡ w
+  unfolding bytesAt
+  bytes-length =
+      let b = inside-bounds s c w i in
+      length-take-le w (drop (c - 1) s) (rw length-drop (omega arith))
+
+  -- a field's own bytes, put where they stand
+  pub put-same : put s c (bytesAt s c w) ≡ s
+  unfolding put
+  put-same =
+      rw bytes-length
+      (ap (λ x. take (c - 1) s ++ (bytesAt s c w ++ x)) (sym (drop-drop w (c - 1) s))
+      ∙ ap (λ x. take (c - 1) s ++ x) (bytes-rest s c w)
+      ∙ take-append-drop (c - 1) s)

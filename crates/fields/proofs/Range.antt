@@ -2,7 +2,7 @@
 use mathlib.Core.Path.{_≡_, refl, sym, ap, _∙_}
 use mathlib.Core.Bool.{Bool, true, false, _&&_}
 use Prim.Native.Nat.{ℕ, zero, suc, _+_, _-_, _^_, _≤_, _<_}
-use native.Mathlib.Nat.{pow-le-pow-right}
+use native.Mathlib.Nat.{pow-le-pow-right, one-le-pow}
 use native.Mathlib.Omega.{arith}
 use lib.Dec.{leb, lit<, leb·zero, leb·suc-zero, leb·suc-suc}
 use lib.IntN.{ℤ, pos, negsuc, negℤ, natAbs}
@@ -43,20 +43,51 @@ pub holds-neg : (w n : ℕ) → holds w (negsuc n) ≡ isWidth w && leb (suc n) 
 unfolding holds
 holds-neg w n = rw (low-neg (10 ^ (w - 1) - 1) n, and-true (leb (suc n) (10 ^ (w - 1) - 1)))
 
--- a value that some width holds has at most six digits
-narrow : (w : ℕ) (b : Bool) → isWidth w && b ≡ true → (1 ≤ w) × (w ≤ 6) × (b ≡ true)
-narrow w b h =
-    let t = both (isWidth w) b h in
-    let u = both (leb 1 w) (leb w 6) (t .0) in
-    (leb-true _ _ (u .0), leb-true _ _ (u .1), t .1)
+module _ (w n : ℕ) where
+  split-pos : holds w (pos n) ≡ true → (isWidth w ≡ true) × (leb n (10 ^ w - 1) ≡ true)
+  split-pos h = both (isWidth w) (leb n (10 ^ w - 1)) (sym (holds-pos w n) ∙ h)
 
+  split-neg : holds w (negsuc n) ≡ true → (isWidth w ≡ true) × (leb (suc n) (10 ^ (w - 1) - 1) ≡ true)
+  split-neg h = both (isWidth w) (leb (suc n) (10 ^ (w - 1) - 1)) (sym (holds-neg w n) ∙ h)
+
+  -- at most 10^w-1, at least -(10^(w-1)-1)
+  pub holds-size : holds w (pos n) ≡ true → n < 10 ^ w
+  holds-size h = omega (arith, leb-true n (10 ^ w - 1) (split-pos h .1), one-le-pow w 10 (lit< tt))
+
+  pub holds-minus : holds w (negsuc n) ≡ true → suc n < 10 ^ (w - 1)
+  holds-minus h = omega (arith, leb-true (suc n) (10 ^ (w - 1) - 1) (split-neg h .1), one-le-pow (w - 1) 10 (lit< tt))
+
+-- the widths that hold a value
+width-bounds : (w : ℕ) → isWidth w ≡ true → (1 ≤ w) × (w ≤ 6)
+width-bounds w h =
+    let t = both (leb 1 w) (leb w 6) h in
+    (leb-true _ _ (t .0), leb-true _ _ (t .1))
+
+pub holds-width : (w : ℕ) (v : ℤ) → holds w v ≡ true → (1 ≤ w) × (w ≤ 6)
+holds-width w (pos n) h = width-bounds w (split-pos w n h .0)
+holds-width w (negsuc n) h = width-bounds w (split-neg w n h .0)
+
+-- such a value has at most six digits
 pub holds-small : (w : ℕ) (v : ℤ) → holds w v ≡ true → natAbs v < 1000000
 holds-small w (pos n) h =
-    let t = narrow w (leb n (10 ^ w - 1)) (sym (holds-pos w n) ∙ h) in
-    let p : 10 ^ w ≤ 10 ^ 6 = pow-le-pow-right (lit< tt) (t .1) in
-    omega (arith, leb-true n (10 ^ w - 1) (t .2))
+    let p : 10 ^ w ≤ 10 ^ 6 = pow-le-pow-right (lit< tt) (holds-width w (pos n) h .1) in
+    omega (arith, holds-size w n h)
 holds-small w (negsuc n) h =
-    let t = narrow w (leb (suc n) (10 ^ (w - 1) - 1)) (sym (holds-neg w n) ∙ h) in
-    let l : w - 1 ≤ 6 = omega (arith, t .1) in
+    let l : w - 1 ≤ 6 = omega (arith, holds-width w (negsuc n) h .1) in
     let p : 10 ^ (w - 1) ≤ 10 ^ 6 = pow-le-pow-right (lit< tt) l in
-    omega (arith, leb-true (suc n) (10 ^ (w - 1) - 1) (t .2))
+    omega (arith, holds-minus w n h)
+
+-- the same range as an order of numbers; a wider field holds more
+abbrev pub InRange : ℕ → ℤ → Type 0
+InRange w (pos n) = n < 10 ^ w
+InRange w (negsuc n) = suc n < 10 ^ (w - 1)
+
+pub range-wider : (w k : ℕ) (v : ℤ) → w ≤ k → InRange w v → InRange k v
+range-wider w k (pos n) l h = omega (arith, h, pow-le-pow-right {n = 10} (lit< tt) l)
+range-wider w k (negsuc n) l h =
+    let m : w - 1 ≤ k - 1 = omega arith in
+    omega (arith, h, pow-le-pow-right {n = 10} (lit< tt) m)
+
+pub range-holds : (w : ℕ) (v : ℤ) → isWidth w ≡ true → InRange w v → holds w v ≡ true
+range-holds w (pos n) y h = holds-pos w n ∙ rw (y, le-leb n (10 ^ w - 1) (omega (arith, h)))
+range-holds w (negsuc n) y h = holds-neg w n ∙ rw (y, le-leb (suc n) (10 ^ (w - 1) - 1) (omega (arith, h)))

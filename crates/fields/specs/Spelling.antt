@@ -2,11 +2,15 @@
 -- Assumes nothing.
 --   spell w v        the w columns of the value v
 --   columns w l      the last w columns, where l is still to be written
-use mathlib.Core.Bool.{Bool, true, false, cond}
+--   Says s c w v     the w columns of s from column c on say v: they are there, the width holds v, and v is spelled so
+use mathlib.Core.Path.{_≡_}
+use mathlib.Core.Bool.{true, false, cond}
 use mathlib.Core.List.{List, [], _∷_, _++_}
 use Prim.Native.Nat.{ℕ, zero, suc, _+_, _/_, _%_}
 use lib.Dec.{leb}
 use lib.IntN.{ℤ, pos, negsuc}
+use Rattle.fields.specs.Place.{isInside, bytesAt}
+use Rattle.fields.specs.Number.{holds}
 use Rattle.fields.specs.declared.Left.{Left}
 use Rattle.fields.specs.declared.Left.the-variants.{Blanks, Minus, Digits}
 
@@ -33,3 +37,8 @@ leftOf (negsuc n) = Digits (suc n) true
 
 unfoldable pub spell : ℕ → ℤ → List ℕ
 spell w v = columns w (leftOf v)
+
+pub record Says (s : List ℕ) (c w : ℕ) (v : ℤ) : Type 0 where
+  pub there : isInside s c w ≡ true
+  pub held : holds w v ≡ true
+  pub spelled : bytesAt s c w ≡ spell w v
