@@ -1,15 +1,15 @@
 -- Each public function's answer, put together from what its steps found. Assumes nothing.
-use mathlib.Core.Path.{_≡_, refl, sym, ap, _∙_}
-use mathlib.Core.Bool.{Bool, true, false, cond, _&&_}
+use mathlib.Core.Bool.{Bool, true, false, cond}
 use mathlib.Core.List.{List, _++_}
+use mathlib.Core.Path.{_≡_}
 use Prim.Native.Nat.{ℕ, _+_, _-_}
 use lib.IntN.{ℤ}
 use lib.ListN.{length, take, drop}
 use borrow.Author.Tests.{eq-eqb, ne-eqb}
-use Rattle.fields.specs.Place.{isInside, bytesAt, put}
-use Rattle.fields.specs.Number.{numberOf, numberAt, holds}
-use Rattle.fields.specs.Text.{textAt, isName}
 use Rattle.fields.specs.Answer.{numberFits, nameFits, Wrote}
+use Rattle.fields.specs.Number.{numberOf, numberAt, holds}
+use Rattle.fields.specs.Place.{isInside, put}
+use Rattle.fields.specs.Text.{textAt, isName}
 use Rattle.fields.specs.declared.Number.the-variants as number
 use Rattle.fields.specs.declared.Text.the-variants as text
 use Rattle.fields.specs.declared.Writing.the-variants as writing

@@ -1,12 +1,12 @@
 -- Document 01's worked number fields ("The smallest sheet and its neighbours", "Proved"), with the ends of the range of width 1 and of
 -- width 2, as one list under one theorem. Assumes nothing.
-use mathlib.Core.Path.{_≡_, refl}
 use mathlib.Core.List.{List, [], _∷_, map}
+use mathlib.Core.Path.{_≡_, refl}
 use Prim.Native.Nat.{ℕ}
 use lib.IntN.{pos, negsuc}
-use Rattle.fields.specs.declared.Number.{Number}
-use Rattle.fields.specs.declared.Number.the-variants.{Value, Refused}
 use Rattle.fields.specs.Number.{numberOf, signedOf, plainOf, digitsOf, afterBlanks}
+use Rattle.fields.specs.declared.Number.the-variants.{Value, Refused}
+use Rattle.fields.specs.declared.Number.{Number}
 
 unfoldable pub cases : List (List ℕ)
 cases =

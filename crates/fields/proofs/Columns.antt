@@ -1,6 +1,6 @@
 -- The columns that are written from the right: one step of `columns` in a buffer, and how long they are. Assumes nothing.
-use mathlib.Core.Path.{_≡_, refl, sym, ap, _∙_}
 use mathlib.Core.List.{List, [], _∷_, _++_, append-assoc, append-nil}
+use mathlib.Core.Path.{_≡_, refl, sym, ap, _∙_}
 use Prim.Native.Nat.{ℕ, zero, suc, _+_, _-_, _≤_, _<_}
 use native.Mathlib.Nat.{add-suc, add-zero}
 use native.Mathlib.Numerals.{add-one}
@@ -8,9 +8,9 @@ use native.Mathlib.Omega.{arith}
 use lib.IntN.{ℤ}
 use lib.ListN.{length, take, drop, set, replicate, take-append-drop, length-append}
 use lib.Seq.{drop-cons, take-set-le, drop-set-lt, getD-set-same, lt-length-set}
-use Rattle.fields.specs.declared.Left.{Left}
-use Rattle.fields.specs.declared.Left.the-variants.{Blanks}
 use Rattle.fields.specs.Spelling.{lastOf, restOf, columns, leftOf, spell}
+use Rattle.fields.specs.declared.Left.the-variants.{Blanks}
+use Rattle.fields.specs.declared.Left.{Left}
 
 pub columns-length : (w : ℕ) (l : Left) → length (columns w l) ≡ w
 unfolding columns

@@ -1,27 +1,27 @@
 -- THE LAWS OF FIELDS, each once over the width. docs/PROMISES.md leads here; other crates cite these and no definition's text.
 -- Assumes nothing.
-use mathlib.Core.Path.{_≡_, refl, sym, ap, _∙_}
 use mathlib.Core.Bool.{Bool, true, false, cond, _&&_}
 use mathlib.Core.List.{List, [], _∷_}
 use mathlib.Core.Logic.{_⊎_, inl, inr}
+use mathlib.Core.Path.{_≡_, refl, sym, _∙_}
 use Prim.Native.Nat.{ℕ, zero, suc}
 use native.Mathlib.Omega.{arith}
 use lib.Dec.{eqb}
 use lib.IntN.{ℤ}
 use lib.ListN.{length, replicate, length-replicate}
 use borrow.Author.Tests.{eq-eqb, eqb-true}
-use Rattle.fields.specs.Place.{isInside, bytesAt, put}
+use Rattle.fields.specs.Answer.{numberRefusal, valueOf, textRefusal, writingRefusal, numberFits, nameFits, Wrote}
 use Rattle.fields.specs.Number.{numberOf, numberAt, holds}
+use Rattle.fields.specs.Place.{isInside, bytesAt, put}
 use Rattle.fields.specs.Spelling.{spell, Says}
 use Rattle.fields.specs.Text.{isName, isBlanks, textAt}
-use Rattle.fields.specs.Answer.{numberRefusal, valueOf, textRefusal, writingRefusal, numberFits, nameFits, Wrote}
-use Rattle.fields.specs.declared.Number.{Number}
 use Rattle.fields.specs.declared.Number.the-variants as number
+use Rattle.fields.specs.declared.Number.{Number}
 use Rattle.fields.specs.declared.Text.the-variants as text
-use Rattle.fields.specs.declared.Writing.{Writing}
 use Rattle.fields.specs.declared.Writing.the-variants as writing
-use Rattle.fields.proofs.Places.{both, bytes-length, put-inside, put-bytes, put-same}
+use Rattle.fields.specs.declared.Writing.{Writing}
 use Rattle.fields.proofs.Columns.{spell-length}
+use Rattle.fields.proofs.Places.{both, bytes-length, put-inside, put-bytes, put-same}
 use Rattle.fields.proofs.Spelled.{read-spelled}
 use Rattle.fields.proofs.Unspelled.{spelled-read, holds-read}
 

@@ -1,24 +1,23 @@
 -- The reader goes from the right and the definition from the left: they give the same answer. What the definition makes of a field
 -- hangs on the digits at its end and on the byte before them, since a byte that is no digit refuses every digit to its left.
 -- Assumes nothing.
-use mathlib.Core.Path.{_≡_, refl, sym, ap, _∙_}
 use mathlib.Core.Bool.{Bool, true, false, cond, _&&_, not}
 use mathlib.Core.List.{List, [], _∷_, _++_}
+use mathlib.Core.Path.{_≡_, refl, sym, ap, _∙_}
 use Prim.Native.Nat.{ℕ, zero, suc, _+_, _-_, _*_, _^_, _≤_, _<_}
-use native.Mathlib.Nat.{pow-suc, sub-self, add-mul, mul-assoc, mul-comm, le-refl, le-of-eq, mul-le-mul-right, pow-le-pow-right}
-use native.Mathlib.Numerals.{add-one}
+use native.Mathlib.Nat.{pow-suc, sub-self, add-mul, mul-assoc, mul-comm, le-refl, mul-le-mul-right, pow-le-pow-right}
 use native.Mathlib.Omega.{arith}
 use lib.Dec.{lit<, lit≤, leb, eqb}
+use lib.IntN.{pos}
 use lib.ListN.{length, getD, take, drop, take-append-drop, drop-of-length-le}
 use lib.Seq.{drop-cons, drop-length, split-at, take-suc}
-use lib.IntN.{pos}
-use borrow.Author.Tests.{le-leb, lt-leb, leb-true, ne-eqb, eq-eqb, eqb-true, eqb-false, not-true, not-false}
+use borrow.Author.Tests.{le-leb, lt-leb, ne-eqb, eq-eqb, eqb-true, eqb-false, not-true, not-false}
+use Rattle.fields.specs.Ending.{DigitsFrom, EndsIn, Plain}
 use Rattle.fields.specs.Number.{isBlank, isMinus, isDigit, afterBlanks, digitsOf, zeroThen, plainOf, minus, signedOf, numberOf}
 use Rattle.fields.specs.Text.{isBlanks}
-use Rattle.fields.specs.Ending.{DigitsFrom, EndsIn}
+use Rattle.fields.specs.declared.Number.the-variants.{Value, Refused}
 use Rattle.fields.specs.declared.Number.{Number}
 use Rattle.fields.proofs.Places.{both}
-use Rattle.fields.specs.declared.Number.the-variants.{Value, Refused}
 
 -- ---- the digits, one more at each step to the left
 
@@ -28,7 +27,7 @@ digits-none f = record {
   inside = le-refl (length f);
   start = λ h. absurd (omega arith);
   small = rw sub-self (lit< tt);
-  said = λ a. rw (drop-length f, sub-self) (ap (λ x. Value (pos x)) (omega arith))
+  said = λ a. rw (drop-length f, sub-self) (ap (λ x. Value (pos x)) (omega arith));
 }
 
 -- a digit d, worth u, before what says n
@@ -50,7 +49,7 @@ module _ (f : List ℕ) (j n : ℕ) (s : DigitsFrom f (suc j) n) (low : 48 ≤ g
     inside = omega (arith, s .inside);
     start = λ h. low;
     small = rw units (still-small (getD f j 0 - 48) (10 ^ (length f - suc j)) n (omega arith) (s .small));
-    said = λ a. rw (drop-cons f j 0 (s .inside), le-leb _ _ low, le-leb _ _ high, s .said, units) (ap (λ x. Value (pos x)) (place-value a (getD f j 0 - 48) (10 ^ (length f - suc j)) n))
+    said = λ a. rw (drop-cons f j 0 (s .inside), le-leb _ _ low, le-leb _ _ high, s .said, units) (ap (λ x. Value (pos x)) (place-value a (getD f j 0 - 48) (10 ^ (length f - suc j)) n));
   }
 
 -- the step as the code takes it, from index i to i - 1, where u is what the next digit counts
@@ -60,12 +59,6 @@ digits-more f zero n u p e s l h = absurd (omega arith)
 digits-more f (suc j) n u p e s l h =
     let z : suc j - 1 ≡ j = omega arith in
     rw (e, z) (digits-step f j n s (rw z at l) (rw z at h), sym (units f j n s (rw z at l) (rw z at h)))
-
--- at most six digits
-pub digits-small : {f : List ℕ} {i n : ℕ} → length f ≤ 6 → DigitsFrom f i n → n < 1000000
-digits-small {f} {i} {n} h s =
-    let p : 10 ^ (length f - i) ≤ 10 ^ 6 = pow-le-pow-right (lit< tt) {i = length f - i} {j = 6} (omega arith) in
-    omega (arith, s .small)
 
 -- ---- a byte that is no digit
 
@@ -210,70 +203,85 @@ module _ {f : List ℕ} {i n : ℕ} (e : EndsIn f i n) where
       let p : plainOf (drop i f) ≡ Refused = ap plainOf q ∙ zero-leads _ _ in
       tail-refused f i (e .digits .inside) (e .all) (ap (λ x. signedOf (afterBlanks x)) q ∙ digit-first 48 _ (lit≤ tt) ∙ zero-leads _ _) p
 
-  -- the digits, which have no leading zero
-  said-whole : i < length f → digitsOf 0 (getD f i 0 ∷ drop (suc i) f) ≡ Value (pos n)
-  said-whole l =
+module _ {f : List ℕ} {i n : ℕ} (g : Plain f i n) where
+  -- at most six digits
+  pub plain-small : n < 1000000
+  plain-small =
+      let p : 10 ^ (length f - i) ≤ 10 ^ 6 = pow-le-pow-right (lit< tt) {i = length f - i} {j = 6} (omega (arith, g .narrow)) in
+      omega (arith, g .ends .digits .small)
+
+  digits-whole : digitsOf 0 (getD f i 0 ∷ drop (suc i) f) ≡ Value (pos n)
+  digits-whole =
       let z : 0 * 10 ^ (length f - i) + n ≡ n = omega arith in
-      rw (← drop-cons f i 0 l) (e .digits .said 0 ∙ ap (λ x. Value (pos x)) z)
+      rw (← drop-cons f i 0 (g .some)) (g .ends .digits .said 0 ∙ ap (λ x. Value (pos x)) z)
 
-  plain-by : i < length f → (t : Bool) → eqb (getD f i 0) 48 ≡ t → (t ≡ true → i + 1 ≡ length f) → cond t (zeroThen (drop (suc i) f)) (digitsOf 0 (getD f i 0 ∷ drop (suc i) f)) ≡ Value (pos n)
+  plain-by : (t : Bool) → eqb (getD f i 0) 48 ≡ t → cond t (zeroThen (drop (suc i) f)) (digitsOf 0 (getD f i 0 ∷ drop (suc i) f)) ≡ Value (pos n)
   unfolding digitsOf
-  plain-by l true z s =
-      let q : length f ≤ suc i = omega (arith, s refl) in
+  plain-by true z =
       let b : getD f i 0 ≡ 48 = eqb-true _ _ z in
-      rw (drop-of-length-le f q) (rw (b, drop-of-length-le f q) at (said-whole l))
-  plain-by l false z s = said-whole l
+      let q : length f ≤ suc i = omega (arith, g .alone b) in
+      rw (drop-of-length-le f q) (rw (b, drop-of-length-le f q) at digits-whole)
+  plain-by false z = digits-whole
 
-  plain-said : i < length f → (getD f i 0 ≡ 48 → i + 1 ≡ length f) → plainOf (drop i f) ≡ Value (pos n)
+  -- the digits, as the definition takes them
+  plain-said : plainOf (drop i f) ≡ Value (pos n)
   unfolding plainOf
-  plain-said l s = rw (drop-cons f i 0 l) (plain-by l (eqb (getD f i 0) 48) refl (λ t. s (eqb-true _ _ t)))
+  plain-said = rw (drop-cons f i 0 (g .some)) (plain-by (eqb (getD f i 0) 48) refl)
 
-  digits-first : i < length f → signedOf (afterBlanks (drop i f)) ≡ plainOf (drop i f)
-  digits-first l = rw (drop-cons f i 0 l) (digit-first (getD f i 0) (drop (suc i) f) (e .digits .start l))
+  digits-first : signedOf (afterBlanks (drop i f)) ≡ plainOf (drop i f)
+  digits-first = rw (drop-cons f i 0 (g .some)) (digit-first (getD f i 0) (drop (suc i) f) (g .ends .digits .start (g .some)))
+
+  taken-from : numberOf f ≡ signedOf (afterBlanks f)
+  taken-from = taken f (omega (arith, g .some)) (g .narrow)
 
   -- spaces before them, or nothing
-  pub taken-plain : i < length f → length f ≤ 6 → (getD f i 0 ≡ 48 → i + 1 ≡ length f) → isBlanks (take i f) ≡ true → numberOf f ≡ Value (pos n)
-  taken-plain l h s b =
-      taken f (omega arith) h
+  pub taken-plain : isBlanks (take i f) ≡ true → numberOf f ≡ Value (pos n)
+  taken-plain b =
+      taken-from
       ∙ ap (λ x. signedOf (afterBlanks x)) (sym (take-append-drop i f))
       ∙ ap signedOf (blanks-passed (take i f) (drop i f) b)
-      ∙ digits-first l
-      ∙ plain-said l s
+      ∙ digits-first
+      ∙ plain-said
 
--- the byte before the digits, at index i - 1
-module _ (f : List ℕ) (i n : ℕ) (e : EndsIn f i n) (p : 0 < i) where
-  split : f ≡ take (i - 1) f ++ (getD f (i - 1) 0 ∷ drop i f)
-  split =
-      let z : suc (i - 1) ≡ i = omega arith in
-      split-at f (i - 1) 0 (omega (arith, e .digits .inside)) ∙ rw z
+  -- nothing before them
+  pub taken-whole : i ≡ 0 → numberOf f ≡ Value (pos n)
+  unfolding isBlanks
+  taken-whole z = taken-plain (rw z refl)
 
-  -- "-" behind spaces
-  pub taken-minus : i < length f → length f ≤ 6 → (getD f i 0 ≡ 48 → i + 1 ≡ length f) → getD f (i - 1) 0 ≡ 45 → isBlanks (take (i - 1) f) ≡ true → numberOf f ≡ minus (Value (pos n))
-  taken-minus l h s m b =
-      taken f (omega arith) h
-      ∙ ap (λ x. signedOf (afterBlanks x)) split
-      ∙ ap signedOf (blanks-passed (take (i - 1) f) (getD f (i - 1) 0 ∷ drop i f) b)
-      ∙ rw m (minus-first (drop i f))
-      ∙ ap minus (plain-said e l s)
+  module _ (p : 0 < i) where
+    -- the byte before them, at index i - 1
+    split : f ≡ take (i - 1) f ++ (getD f (i - 1) 0 ∷ drop i f)
+    split =
+        let z : suc (i - 1) ≡ i = omega arith in
+        split-at f (i - 1) 0 (omega (arith, g .some)) ∙ rw z
 
-  refused-before : (isBlanks (take (i - 1) f) ≡ true → signedOf (afterBlanks (getD f (i - 1) 0 ∷ drop i f)) ≡ Refused) → numberOf f ≡ Refused
-  refused-before h = refused f (ap (λ x. signedOf (afterBlanks x)) split ∙ broken (take (i - 1) f) (getD f (i - 1) 0) (drop i f) (e .all p) h)
+    -- "-" behind spaces
+    pub taken-minus : getD f (i - 1) 0 ≡ 45 → isBlanks (take (i - 1) f) ≡ true → numberOf f ≡ minus (Value (pos n))
+    taken-minus m b =
+        taken-from
+        ∙ ap (λ x. signedOf (afterBlanks x)) split
+        ∙ ap signedOf (blanks-passed (take (i - 1) f) (getD f (i - 1) 0 ∷ drop i f) b)
+        ∙ rw m (minus-first (drop i f))
+        ∙ ap minus plain-said
 
-  -- "-" behind something else than spaces
-  pub refused-minus : isBlanks (take (i - 1) f) ≡ false → numberOf f ≡ Refused
-  refused-minus b = refused-before (λ t. let z : _≡_ {A = ℕ} 0 1 = cc in absurd (omega arith))
+    refused-before : (isBlanks (take (i - 1) f) ≡ true → signedOf (afterBlanks (getD f (i - 1) 0 ∷ drop i f)) ≡ Refused) → numberOf f ≡ Refused
+    refused-before h = refused f (ap (λ x. signedOf (afterBlanks x)) split ∙ broken (take (i - 1) f) (getD f (i - 1) 0) (drop i f) (g .ends .all p) h)
 
-  -- neither spaces nor "-"
-  pub refused-other : (getD f (i - 1) 0 ≡ 45 → ⊥) → isBlanks (take i f) ≡ false → numberOf f ≡ Refused
-  refused-other m b = refused-before (λ t. other-first (getD f (i - 1) 0) (drop i f) (e .all p) (no-space t) m)
-    where
-      no-space : isBlanks (take (i - 1) f) ≡ true → getD f (i - 1) 0 ≡ 32 → ⊥
-      no-space t s =
-          let y : suc (i - 1) ≡ i = omega arith in
-          let q : take i f ≡ take (i - 1) f ++ (getD f (i - 1) 0 ∷ []) = rw y at (take-suc f (i - 1) 0 (omega (arith, e .digits .inside))) in
-          let k : isBlanks (take i f) ≡ true = ap isBlanks q ∙ blanks-snoc (take (i - 1) f) (getD f (i - 1) 0) t s in
-          let z : _≡_ {A = ℕ} 0 1 = cc in
-          omega arith
+    -- "-" behind something else than spaces
+    pub refused-minus : isBlanks (take (i - 1) f) ≡ false → numberOf f ≡ Refused
+    refused-minus b = refused-before (λ t. let z : _≡_ {A = ℕ} 0 1 = cc in absurd (omega arith))
+
+    no-space : isBlanks (take i f) ≡ false → isBlanks (take (i - 1) f) ≡ true → getD f (i - 1) 0 ≡ 32 → ⊥
+    no-space b t s =
+        let y : suc (i - 1) ≡ i = omega arith in
+        let q : take i f ≡ take (i - 1) f ++ (getD f (i - 1) 0 ∷ []) = rw y at (take-suc f (i - 1) 0 (omega (arith, g .some))) in
+        let k : isBlanks (take i f) ≡ true = ap isBlanks q ∙ blanks-snoc (take (i - 1) f) (getD f (i - 1) 0) t s in
+        let z : _≡_ {A = ℕ} 0 1 = cc in
+        omega arith
+
+    -- neither spaces nor "-"
+    pub refused-other : (getD f (i - 1) 0 ≡ 45 → ⊥) → isBlanks (take i f) ≡ false → numberOf f ≡ Refused
+    refused-other m b = refused-before (λ t. other-first (getD f (i - 1) 0) (drop i f) (g .ends .all p) (no-space b t) m)
 
 -- ---- the code's tests and sums
 
@@ -296,10 +304,6 @@ unit-small f i u h p e =
 pub digit-small : (d u : ℕ) → d ≤ 9 → u ≤ 100000 → d * u ≤ 900000
 digit-small d u h l = omega (arith, mul-le-mul-right u h)
 
--- nothing before the digits is spaces alone
-pub no-blanks : isBlanks [] ≡ true
-unfolding isBlanks
-no-blanks = refl
-
+-- "-0"
 pub minus-none : (n : ℕ) → n ≡ 0 → minus (Value (pos n)) ≡ Refused
 minus-none n e = rw e

@@ -1,20 +1,19 @@
 -- A value that a width holds, spelled in it, is read as that value. The digits are read one by one in the order in which they were
 -- split off, and the spaces and the sign before them are passed over. Assumes nothing.
-use mathlib.Core.Path.{_≡_, refl, sym, ap, _∙_}
 use mathlib.Core.Bool.{Bool, true, false, cond}
 use mathlib.Core.List.{List, [], _∷_, _++_, append-assoc, append-nil}
+use mathlib.Core.Path.{_≡_, refl, ap, _∙_}
 use Prim.Native.Nat.{ℕ, zero, suc, _+_, _-_, _*_, _/_, _%_, _^_, _≤_, _<_}
 use native.Mathlib.Nat.{pow-suc}
 use native.Mathlib.Omega.{arith}
 use lib.Dec.{leb}
 use lib.IntN.{ℤ, pos, negsuc}
-use lib.ListN.{length}
 use borrow.Author.Tests.{ne-eqb, le-leb, leb-true, leb-false}
-use Rattle.fields.specs.declared.Number.{Number}
-use Rattle.fields.specs.declared.Number.the-variants.{Value}
-use Rattle.fields.specs.declared.Left.the-variants.{Blanks, Minus, Digits}
 use Rattle.fields.specs.Number.{afterBlanks, digitsOf, plainOf, minus, signedOf, numberOf, holds}
 use Rattle.fields.specs.Spelling.{columns, spell}
+use Rattle.fields.specs.declared.Left.the-variants.{Blanks, Minus, Digits}
+use Rattle.fields.specs.declared.Number.the-variants.{Value}
+use Rattle.fields.specs.declared.Number.{Number}
 use Rattle.fields.proofs.Columns.{columns-suc, spell-length}
 use Rattle.fields.proofs.FromRight.{digit-first}
 use Rattle.fields.proofs.Range.{holds-width, holds-size, holds-minus}

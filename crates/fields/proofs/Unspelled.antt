@@ -1,23 +1,23 @@
 -- The value that a field says, spelled in as many columns, is the field; and the width holds that value. Each step of the definition
 -- that took a byte says what that byte was. Assumes nothing.
-use mathlib.Core.Path.{_≡_, refl, sym, ap, _∙_}
-use mathlib.Core.Bool.{Bool, true, false, cond, _&&_}
+use mathlib.Core.Bool.{Bool, true, false, cond}
 use mathlib.Core.List.{List, [], _∷_, _++_, append-nil}
+use mathlib.Core.Path.{_≡_, refl, sym, ap, _∙_}
 use Prim.Native.Nat.{ℕ, zero, suc, _+_, _-_, _*_, _/_, _%_, _^_, _≤_, _<_}
-use native.Mathlib.Nat.{add-zero, pow-suc, mul-le-mul-right, mul-assoc, mul-comm, pow-le-pow-right}
+use native.Mathlib.Nat.{add-zero, pow-suc, mul-le-mul-right, mul-assoc, mul-comm}
 use native.Mathlib.Numerals.{add-one}
 use native.Mathlib.Omega.{arith}
 use lib.Dec.{leb, eqb, lit<}
 use lib.IntN.{ℤ, pos, negsuc}
 use lib.ListN.{length, length-append}
 use borrow.Author.Tests.{eqb-true, eqb-false, le-leb, lt-leb, leb-true}
-use Rattle.fields.specs.declared.Number.{Number}
-use Rattle.fields.specs.declared.Number.the-variants.{Value, Refused}
-use Rattle.fields.specs.declared.Left.the-variants.{Blanks, Minus, Digits}
 use Rattle.fields.specs.Number.{isDigit, afterBlanks, zeroThen, digitsOf, plainOf, minus, signedOf, isWidth, numberOf, holds}
 use Rattle.fields.specs.Spelling.{lastOf, restOf, columns, leftOf, spell}
-use Rattle.fields.proofs.Places.{both}
+use Rattle.fields.specs.declared.Left.the-variants.{Blanks, Minus, Digits}
+use Rattle.fields.specs.declared.Number.the-variants.{Value, Refused}
+use Rattle.fields.specs.declared.Number.{Number}
 use Rattle.fields.proofs.Columns.{columns-length, columns-suc, blanks-front}
+use Rattle.fields.proofs.Places.{both}
 use Rattle.fields.proofs.Range.{InRange, range-wider, range-holds}
 
 -- a refusal is no value
@@ -193,7 +193,7 @@ read-by f v true t e =
     let l : length f ≡ s .0 + length (afterBlanks f) = ap length (s .1) ∙ length-append (columns (s .0) Blanks) (afterBlanks f) ∙ rw columns-length in
     record {
       held = range-holds (length f) v t (range-wider (length (afterBlanks f)) (length f) v (omega arith) (g .inside));
-      spelled = ap (λ w. columns w (leftOf v)) l ∙ g .spelled (s .0) ∙ sym (s .1)
+      spelled = ap (λ w. columns w (leftOf v)) l ∙ g .spelled (s .0) ∙ sym (s .1);
     }
 read-by f v false t e = not-refused e
 

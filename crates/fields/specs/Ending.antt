@@ -20,3 +20,10 @@ pub record DigitsFrom (f : List ℕ) (i n : ℕ) : Type 0 where
 pub record EndsIn (f : List ℕ) (i n : ℕ) : Type 0 where
   pub digits : DigitsFrom f i n
   pub all : 0 < i → isDigit (getD f (i - 1) 0) ≡ false
+
+-- a field of at most six columns with digits at its end, of which a first 0 stands alone
+pub record Plain (f : List ℕ) (i n : ℕ) : Type 0 where
+  pub ends : EndsIn f i n
+  pub some : i < length f
+  pub narrow : length f ≤ 6
+  pub alone : getD f i 0 ≡ 48 → i + 1 ≡ length f

@@ -15,7 +15,7 @@ ghost use Rattle.fields.specs.Number.{numberOf, numberAt, holds};
 ghost use Rattle.fields.specs.Spelling.{lastOf, restOf, columns, leftOf, spell};
 ghost use Rattle.fields.specs.Text.{isPair, isName, isBlanks, textAt};
 ghost use Rattle.fields.specs.Answer.{numberFits, nameFits, Wrote};
-ghost use Rattle.fields.specs.Ending.{EndsIn};
+ghost use Rattle.fields.specs.Ending.{EndsIn, Plain};
 
 // The answer to a number field: its value, or refusal 5.
 pub enum Number {
@@ -92,24 +92,12 @@ fn digits_at_end(f: &[u8]) -> Ending
     Ending { from: 0, size }
 }
 
-// The value of a whole field. Its digits are taken first, then what stands before them is judged:
-// a "-" directly before the digits, and blanks up to it.
-fn number_of(f: &[u8]) -> Number
+// The value of a field whose digits start at `from`, by what stands before them: spaces, and a "-"
+// directly before the digits, which are then not "0".
+fn signed(f: &[u8], from: usize, size: u32) -> Number
+    requires { ⌜ Plain (now f) from size ⌝ }
     ensures { λ r. ⌜ r ≡ numberOf (now (f .entry)) ⌝ }
 {
-    let n = f.len();
-    if 6 < n {
-        return Number::Refused;
-    }
-    let e = digits_at_end(f);
-    let from = e.from;
-    let size = e.size;
-    if from == n {
-        return Number::Refused;
-    }
-    if (f[from] == 48) & (from + 1 != n) {
-        return Number::Refused;
-    }
     if from == 0 {
         return Number::Value(size as i32);
     }
@@ -126,6 +114,26 @@ fn number_of(f: &[u8]) -> Number
         return Number::Refused;
     }
     Number::Value(size as i32)
+}
+
+// The value of a whole field: at most six columns, digits at the end, no leading zero among them.
+fn number_of(f: &[u8]) -> Number
+    ensures { λ r. ⌜ r ≡ numberOf (now (f .entry)) ⌝ }
+{
+    let n = f.len();
+    if 6 < n {
+        return Number::Refused;
+    }
+    let e = digits_at_end(f);
+    let from = e.from;
+    let size = e.size;
+    if from == n {
+        return Number::Refused;
+    }
+    if (f[from] == 48) & (from + 1 != n) {
+        return Number::Refused;
+    }
+    signed(f, from, size)
 }
 
 // Reads the number field of `width` columns from `column` on. Refused: a field that is not in `s`,
@@ -156,7 +164,8 @@ fn blanks(f: &[u8]) -> bool
     true
 }
 
-// Whether `a`, `b` is a two-byte character of Shift JIS: "lead 81-9F or E0-FC, trail 40-7E or 80-FC".
+// Whether `a`, `b` is a two-byte character of Shift JIS: "lead 81-9F or E0-FC, trail 40-7E or
+// 80-FC".
 fn pair(a: u8, b: u8) -> bool
     ensures { λ r. ⌜ r ≡ isPair a b ⌝ }
 {
@@ -267,7 +276,8 @@ fn fill(buf: &mut [u8], at: usize, width: usize, left: Left)
     }
 }
 
-// Whether `width` columns hold `value`: "Width w holds -(10^(w-1)-1) to 10^w-1; width 1 holds 0 to 9".
+// Whether `width` columns hold `value`: "Width w holds -(10^(w-1)-1) to 10^w-1; width 1 holds 0 to
+// 9".
 fn in_range(width: usize, value: i32) -> bool
     ensures { λ r. ⌜ r ≡ holds width value ⌝ }
 {

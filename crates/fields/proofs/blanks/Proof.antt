@@ -1,13 +1,12 @@
+-- `fields::blanks` meets its contract. The loop's invariant: what is left is spaces exactly if the whole is. Assumes nothing.
 use mathlib.Core.Path.{_≡_, refl, sym, _∙_}
 use Prim.Native.Nat.{_≤_, _-_}
-use borrow.Author.Needs.{needs}
 use lib.ListN.{length, drop}
+use borrow.Author.Needs.{needs}
 use Rattle.fields.specs.Text.{isBlanks}
 use Rattle.fields.proofs.TextSteps.{blank-end, blank-more, blank-stop}
 use Rattle.fields.proofs.blanks.Statement.{statement}
 use Rattle.fields.proofs.blanks.Tie as tie
-use Rattle.fields.proofs.blanks.Reads as reads
-use Rattle.fields.proofs.blanks.Lts as lts
 
 abbrev Inv-loop : tie.InvT-loop
 Inv-loop f i₀ i = (i ≤ length f) × (isBlanks f ≡ isBlanks (drop i f))
@@ -15,31 +14,24 @@ Inv-loop f i₀ i = (i ≤ length f) × (isBlanks f ≡ isBlanks (drop i f))
 abbrev μ-loop : tie.MeasureT-loop
 μ-loop f i₀ i = length f - i
 
--- src/lib.rt:147:5
 loop-holds : tie.Need-loop-holds Inv-loop μ-loop
 loop-holds c = (search needs, refl)
 
--- src/lib.rt:148:12
 shared-slice-read-if1 : tie.Need-shared-slice-read-if1 Inv-loop μ-loop
 shared-slice-read-if1 c = search needs
 
--- src/lib.rt:149:13
 returns : tie.Need-returns Inv-loop μ-loop
 returns c = sym (c .before .before .before .loop .inv .1 ∙ blank-stop _ _ (c .before .before .loop-test .taken) (c .if1 .taken))
 
--- src/lib.rt:151:9
 add-i : tie.Need-add-i Inv-loop μ-loop
 add-i c = search needs
 
--- src/lib.rt:147:5
 loop-less : tie.Need-loop-less Inv-loop μ-loop
 loop-less c = search needs
 
--- src/lib.rt:147:5
 loop-again : tie.Need-loop-again Inv-loop μ-loop
 loop-again c = (search needs, c .before .before .before .loop .inv .1 ∙ blank-more _ _ (c .before .before .loop-test .taken) (c .if1 .left))
 
--- src/lib.rt:143:1
 returns-2 : tie.Need-returns-2 Inv-loop μ-loop
 returns-2 c = sym (c .before .loop .inv .1 ∙ blank-end _ _ (c .loop-test .left))
 

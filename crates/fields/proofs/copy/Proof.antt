@@ -1,18 +1,15 @@
-use lib.ListN.{take}
+-- `fields::copy` meets its contract. The loop's invariant: the first `i` bytes are pasted. Assumes nothing.
 use denote.Ref.{now}
 use mathlib.Core.List.{append-assoc}
-use native.Mathlib.Numerals.{add-one}
-use lib.Seq.{take-length}
-use mathlib.Core.Path.{_≡_, refl, sym, ap, _∙_}
+use mathlib.Core.Path.{_≡_, refl, _∙_}
 use Prim.Native.Nat.{_≤_, _-_}
+use native.Mathlib.Numerals.{add-one}
 use native.Mathlib.Omega.{arith}
+use lib.ListN.{take, length, length-set}
+use lib.Seq.{take-length, paste, paste-zero, paste-suc}
 use borrow.Author.Needs.{needs}
-use lib.ListN.{length, length-set}
-use lib.Seq.{paste, paste-zero, paste-suc}
 use Rattle.fields.proofs.copy.Statement.{statement}
 use Rattle.fields.proofs.copy.Tie as tie
-use Rattle.fields.proofs.copy.Reads as reads
-use Rattle.fields.proofs.copy.Lts as lts
 
 abbrev Inv-loop : tie.InvT-loop
 Inv-loop buf₀ at bytes i₀ buf i = (length buf ≡ length buf₀) × (i ≤ length bytes) × (buf ≡ paste buf₀ at bytes i)
@@ -20,43 +17,34 @@ Inv-loop buf₀ at bytes i₀ buf i = (length buf ≡ length buf₀) × (i ≤ l
 abbrev μ-loop : tie.MeasureT-loop
 μ-loop buf₀ at bytes i₀ buf i = length bytes - i
 
--- src/lib.rt:314:5
 loop-holds : tie.Need-loop-holds Inv-loop μ-loop
 loop-holds c = (refl, search needs, paste-zero (now (c .args .buf)) (c .args .at) (now (c .args .bytes)))
 
--- src/lib.rt:315:23
 shared-slice-read-buf : tie.Need-shared-slice-read-buf Inv-loop μ-loop
 shared-slice-read-buf c = search needs
 
--- src/lib.rt:315:13
 add-buf : tie.Need-add-buf Inv-loop μ-loop
 add-buf c = search needs
 
--- src/lib.rt:315:9
 slice-write-buf : tie.Need-slice-write-buf Inv-loop μ-loop
 slice-write-buf c = search needs
 
--- src/lib.rt:316:9
 add-i : tie.Need-add-i Inv-loop μ-loop
 add-i c = search needs
 
--- src/lib.rt:314:5
 loop-less : tie.Need-loop-less Inv-loop μ-loop
 loop-less c = search needs
 
--- src/lib.rt:314:5
 loop-again : tie.Need-loop-again Inv-loop μ-loop
 loop-again c = (
-      simp length-set (c .before .before .loop .inv .0),
-      omega arith,
-      rw (add-one, c .before .before .loop .inv .2) (paste-suc (now (c .before .before .before .args .buf)) (c .before .before .before .args .at) (now (c .before .before .before .args .bytes)) (c .before .before .loop .i) 0 (omega arith) (c .before .loop-test .taken)),
-    )
+  simp length-set (c .before .before .loop .inv .0),
+  omega arith,
+  rw (add-one, c .before .before .loop .inv .2) (paste-suc (now (c .before .before .before .args .buf)) (c .before .before .before .args .at) (now (c .before .before .before .args .bytes)) (c .before .before .loop .i) 0 (omega arith) (c .before .loop-test .taken)),
+)
 
--- src/lib.rt:309:1
 same-length : tie.Need-same-length Inv-loop μ-loop
 same-length c = c .before .loop .inv .0
 
--- src/lib.rt:309:1
 returns : tie.Need-returns Inv-loop μ-loop
 returns c = let z : c .before .loop .i ≡ length (now (c .before .before .args .bytes)) = omega arith in
     c .before .loop .inv .2 ∙ rw (z, take-length) (append-assoc (take (c .before .before .args .at) (now (c .before .before .args .buf))) _ _)

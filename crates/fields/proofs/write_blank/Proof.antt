@@ -1,46 +1,46 @@
+-- `fields::write_blank` meets its contract: spaces are what `fill` writes where nothing is left to be written. Assumes nothing.
 use denote.Ref.{now}
 use mathlib.Core.Path.{sym, _∙_}
+use Prim.Native.Nat.{_+_, _-_, _≤_}
 use native.Mathlib.Omega.{arith}
-use borrow.Author.Tests.{not-true, not-false}
-use lib.ListN.{length-replicate}
-use Rattle.fields.proofs.Places.{inside-bounds}
-use Rattle.fields.proofs.Columns.{blanks-are}
-use Rattle.fields.proofs.Answers.{wrote-nothing, wrote-all}
+use lib.ListN.{length, length-replicate}
 use borrow.Author.Needs.{needs}
+use borrow.Author.Tests.{not-true, not-false}
+use Rattle.fields.proofs.Answers.{wrote-nothing, wrote-all}
+use Rattle.fields.proofs.Columns.{blanks-are}
+use Rattle.fields.proofs.Places.{passed}
 use Rattle.fields.proofs.write_blank.Statement.{statement}
 use Rattle.fields.proofs.write_blank.Tie as tie
-use Rattle.fields.proofs.write_blank.Reads as reads
-use Rattle.fields.proofs.write_blank.Lts as lts
-use Rattle.fields.proofs.fill.Reads as fill-reads
-use Rattle.fields.proofs.inside.Reads as inside-reads
 
--- src/lib.rt:346:9
+abbrev start : tie.Else1 → tie.Start
+start c = c .before .before .before .before
+
+-- past the first test the field lies inside
+bounds : (c : tie.Else1) → (1 ≤ start c .args .column) × (start c .args .column - 1 + start c .args .width ≤ length (now (start c .args .buf)))
+bounds c = passed _ _ _ _ (c .before .inside .ensures) (c .if1 .left)
+
 inside-requires : tie.Need-inside-requires
 inside-requires c κs = search needs
 
--- src/lib.rt:347:9
 same-length : tie.Need-same-length
 same-length c = search needs
 
--- src/lib.rt:347:9
 returns : tie.Need-returns
 returns c = wrote-nothing _ _ _ _ (sym (c .before .inside .ensures) ∙ not-true _ (c .if1 .taken))
 
--- src/lib.rt:349:15
 sub-fill : tie.Need-sub-fill
-sub-fill c = let p = inside-bounds (now (c .before .before .before .before .before .args .buf)) (c .before .before .before .before .before .args .column) (c .before .before .before .before .before .args .width) (sym (c .before .before .inside .ensures) ∙ not-false _ (c .before .if1 .left)) in omega arith
+sub-fill c = let p = bounds (c .before) in omega arith
 
--- src/lib.rt:349:5
 fill-requires : tie.Need-fill-requires
-fill-requires c κs = let p = inside-bounds (now (c .before .before .before .before .before .args .buf)) (c .before .before .before .before .before .args .column) (c .before .before .before .before .before .args .width) (sym (c .before .before .inside .ensures) ∙ not-false _ (c .before .if1 .left)) in omega arith
+fill-requires c κs = let p = bounds (c .before) in omega arith
 
--- src/lib.rt:343:1
 same-length-2 : tie.Need-same-length-2
 same-length-2 c = search needs
 
--- src/lib.rt:343:1
 returns-2 : tie.Need-returns-2
-returns-2 c = wrote-all _ _ _ _ (sym (c .before .before .before .before .before .inside .ensures) ∙ not-false _ (c .before .before .before .before .if1 .left)) _ _ (length-replicate (c .before .before .before .before .before .before .before .before .args .width) 32) (c .before .before .fill .ensures ∙ rw blanks-are)
+returns-2 c =
+    let e = c .before .before .before .before in
+    wrote-all _ _ _ _ (sym (e .before .inside .ensures) ∙ not-false _ (e .if1 .left)) _ _ (length-replicate (start e .args .width) 32) (c .before .before .fill .ensures ∙ rw blanks-are)
 
 pub write-blank-spec : {M : Type 1} → statement M
 write-blank-spec =
