@@ -2,6 +2,7 @@
 pub mod FieldLaws
 pub mod Cases
 pub mod FromRight
+pub mod AtGlance
 pub mod TextSteps
 pub mod Places
 pub mod Answers

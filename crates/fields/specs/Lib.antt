@@ -5,3 +5,4 @@ pub mod Spelling
 pub mod Text
 pub mod Answer
 pub mod Ending
+pub mod Glimpse

@@ -6,16 +6,17 @@
 // other two are, `Answer` which refusal of document 01 an answer stands for.
 ghost use mathlib.Core.Path.{_≡_};
 ghost use mathlib.Core.Bool.{true};
-ghost use mathlib.Core.List.{_++_};
+ghost use mathlib.Core.List.{[], _∷_, _++_};
 ghost use Prim.Native.Nat.{ℕ, _+_, _-_, _<_, _≤_};
 ghost use lib.ListN.{length, take, drop, replicate};
 ghost use lib.IntN.{natAbs};
 ghost use Rattle.fields.specs.Place.{isInside};
-ghost use Rattle.fields.specs.Number.{numberOf, numberAt, holds};
+ghost use Rattle.fields.specs.Number.{isDigit, numberOf, numberAt, holds};
 ghost use Rattle.fields.specs.Spelling.{lastOf, restOf, columns, leftOf, spell};
 ghost use Rattle.fields.specs.Text.{isPair, isName, isBlanks, textAt};
 ghost use Rattle.fields.specs.Answer.{numberFits, nameFits, Wrote};
 ghost use Rattle.fields.specs.Ending.{EndsIn, Plain};
+ghost use Rattle.fields.specs.Glimpse.{Glanced};
 
 // The answer to a number field: its value, or refusal 5.
 pub enum Number {
@@ -136,6 +137,73 @@ fn number_of(f: &[u8]) -> Number
     signed(f, from, size)
 }
 
+// What five bytes say at a glance.
+enum Glance {
+    Unsure,
+    Sure(u32),
+}
+
+// Whether a byte is a digit.
+fn digit(b: u8) -> bool
+    ensures { λ r. ⌜ r ≡ isDigit b ⌝ }
+{
+    (48 <= b) & (b <= 57)
+}
+
+// The number that five bytes say where they are spaces and then digits without a leading zero, as
+// nearly every field of width 5 is. It is here for speed alone: it is unsure of everything else.
+fn glance_at(a: u8, b: u8, c: u8, d: u8, e: u8) -> Glance
+    ensures { λ r. ⌜ Glanced (a ∷ b ∷ c ∷ d ∷ e ∷ []) r ⌝ }
+{
+    if !digit(e) {
+        return Glance::Unsure;
+    }
+    let one = wide(e - 48);
+    if !digit(d) {
+        if (a == 32) & (b == 32) & (c == 32) & (d == 32) {
+            return Glance::Sure(one);
+        }
+        return Glance::Unsure;
+    }
+    let two = one + wide(d - 48) * 10;
+    if !digit(c) {
+        if (a == 32) & (b == 32) & (c == 32) & (d != 48) {
+            return Glance::Sure(two);
+        }
+        return Glance::Unsure;
+    }
+    let three = two + wide(c - 48) * 100;
+    if !digit(b) {
+        if (a == 32) & (b == 32) & (c != 48) {
+            return Glance::Sure(three);
+        }
+        return Glance::Unsure;
+    }
+    let four = three + wide(b - 48) * 1000;
+    if a == 32 {
+        if b != 48 {
+            return Glance::Sure(four);
+        }
+        return Glance::Unsure;
+    }
+    if digit(a) & (a != 48) {
+        return Glance::Sure(four + wide(a - 48) * 10000);
+    }
+    Glance::Unsure
+}
+
+// The value of a field of width 5, the width of most fields.
+fn five(f: &[u8]) -> Number
+    requires { ⌜ length (now f) ≡ 5 ⌝ }
+    ensures { λ r. ⌜ r ≡ numberOf (now (f .entry)) ⌝ }
+{
+    let g = glance_at(f[0], f[1], f[2], f[3], f[4]);
+    let Glance::Sure(n) = g else {
+        return number_of(f);
+    };
+    Number::Value(n as i32)
+}
+
 // Reads the number field of `width` columns from `column` on. Refused: a field that is not in `s`,
 // a width that is not 1 to 6, and every spelling but the one that document 01 gives to a value.
 pub fn read_number(s: &[u8], column: usize, width: usize) -> Number
@@ -145,6 +213,9 @@ pub fn read_number(s: &[u8], column: usize, width: usize) -> Number
         return Number::Refused;
     }
     let at = column - 1;
+    if width == 5 {
+        return five(&s[at..at + 5]);
+    }
     number_of(&s[at..at + width])
 }
 

@@ -6,7 +6,7 @@ use native.Mathlib.Omega.{arith}
 use lib.ListN.{length}
 use borrow.Author.Needs.{needs}
 use borrow.Author.Tests.{not-true, not-false}
-use Rattle.fields.proofs.Answers.{number-outside, number-inside}
+use Rattle.fields.proofs.Answers.{number-outside, number-five, number-inside}
 use Rattle.fields.proofs.Places.{passed}
 use Rattle.fields.proofs.read_number.Statement.{statement}
 use Rattle.fields.proofs.read_number.Tie as tie
@@ -24,8 +24,26 @@ returns c = number-outside _ _ _ (c .before .inside .ensures) (not-true _ (c .if
 sub-at : tie.Need-sub-at
 sub-at c = let p = bounds c in omega arith
 
+add-five : tie.Need-add-five
+add-five c = let p = bounds (c .before) in omega arith
+
+sub-five : tie.Need-sub-five
+sub-five c = search needs
+
+part-five-start : tie.Need-part-five-start
+part-five-start c = search needs
+
+part-five-end : tie.Need-part-five-end
+part-five-end c = let p = bounds (c .before) in omega arith
+
+five-requires : tie.Need-five-requires
+five-requires c κs = search needs
+
+returns-2 : tie.Need-returns-2
+returns-2 c = c .five .ensures ∙ number-five _ _ _ (c .before .before .before .before .inside .ensures) (not-false _ (c .before .before .before .if1 .left)) (c .before .before .if2 .taken)
+
 add-number-of : tie.Need-add-number-of
-add-number-of c = let p = bounds c in omega arith
+add-number-of c = let p = bounds (c .before) in omega arith
 
 sub-number-of : tie.Need-sub-number-of
 sub-number-of c = search needs
@@ -34,13 +52,13 @@ part-number-of-start : tie.Need-part-number-of-start
 part-number-of-start c = search needs
 
 part-number-of-end : tie.Need-part-number-of-end
-part-number-of-end c = let p = bounds c in omega arith
+part-number-of-end c = let p = bounds (c .before) in omega arith
 
 number-of-requires : tie.Need-number-of-requires
 number-of-requires c κs = search needs
 
-returns-2 : tie.Need-returns-2
-returns-2 c = c .number-of .ensures ∙ number-inside _ _ _ (c .before .before .before .inside .ensures) (not-false _ (c .before .before .if1 .left))
+returns-3 : tie.Need-returns-3
+returns-3 c = c .number-of .ensures ∙ number-inside _ _ _ (c .before .before .before .before .inside .ensures) (not-false _ (c .before .before .before .if1 .left))
 
 pub read-number-spec : {M : Type 1} → statement M
 read-number-spec =
@@ -49,9 +67,15 @@ read-number-spec =
     inside-requires
     returns
     sub-at
+    add-five
+    sub-five
+    part-five-start
+    part-five-end
+    five-requires
+    returns-2
     add-number-of
     sub-number-of
     part-number-of-start
     part-number-of-end
     number-of-requires
-    returns-2)
+    returns-3)

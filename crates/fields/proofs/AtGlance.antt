@@ -1,0 +1,96 @@
+-- A glance at five bytes is right: their digits are taken from the right as the reader takes them, and spaces stand before. Assumes nothing.
+use mathlib.Core.Bool.{Bool, true, false, not, _&&_}
+use mathlib.Core.List.{List, [], _∷_}
+use mathlib.Core.Path.{_≡_, refl, sym, _∙_}
+use Prim.Native.Nat.{ℕ, _+_, _-_, _*_, _^_, _≤_, _<_}
+use native.Mathlib.Nat.{pow-le-pow-right}
+use native.Mathlib.Omega.{arith}
+use lib.Dec.{leb, eqb, lit<, lit≤}
+use lib.IntN.{pos}
+use lib.ListN.{length, getD, take, drop-of-length-le}
+use lib.Seq.{drop-cons}
+use borrow.Author.Tests.{leb-true, eqb-true, eqb-false, eq-eqb, not-true, not-false}
+use Rattle.fields.specs.Ending.{DigitsFrom, Plain}
+use Rattle.fields.specs.Number.{isDigit, numberOf}
+use Rattle.fields.specs.Text.{isBlanks}
+use Rattle.fields.specs.declared.Number.the-variants.{Value}
+use Rattle.fields.proofs.FromRight.{digits-none, digits-more, taken-plain}
+use Rattle.fields.proofs.Places.{both}
+
+-- a byte that passed the code's test
+pub record Digit (b : ℕ) : Type 0 where
+  pub low : 48 ≤ b
+  pub high : b ≤ 57
+
+pub is-digit : (b : ℕ) → isDigit b ≡ true → Digit b
+is-digit b h =
+    let t = both (leb 48 b) (leb b 57) h in
+    record { low = leb-true _ _ (t .0); high = leb-true _ _ (t .1) }
+
+pub passed-digit : (b : ℕ) (r : Bool) → r ≡ isDigit b → not r ≡ false → Digit b
+passed-digit b r e n = is-digit b (sym e ∙ not-false r n)
+
+abbrev pub bytes : ℕ → ℕ → ℕ → ℕ → ℕ → List ℕ
+bytes a b c d e = a ∷ b ∷ c ∷ d ∷ e ∷ []
+
+-- the last byte alone
+pub one-digit : (a b c d e : ℕ) → Digit e → DigitsFrom (bytes a b c d e) 4 (e - 48)
+one-digit a b c d e h =
+    let z : 0 + (e - 48) * 1 ≡ e - 48 = omega arith in
+    rw z at (digits-more (bytes a b c d e) 5 0 1 (lit< tt) refl (digits-none (bytes a b c d e)) (h .low) (h .high) .0)
+
+-- the byte at index i before them
+pub next-digit : (f : List ℕ) (i n u : ℕ) → 0 < i → u ≡ 10 ^ (length f - i) → DigitsFrom f i n → Digit (getD f (i - 1) 0) → DigitsFrom f (i - 1) (n + (getD f (i - 1) 0 - 48) * u)
+next-digit f i n u p e s h = digits-more f i n u p e s (h .low) (h .high) .0
+
+-- digits from index i on, a first 0 alone, behind spaces
+glanced : {f : List ℕ} {i n : ℕ} → length f ≡ 5 → DigitsFrom f i n → i < 5 → (getD f i 0 ≡ 48 → i + 1 ≡ 5)
+    → (0 < i → getD f (i - 1) 0 ≡ 32) → isBlanks (take i f) ≡ true → (numberOf f ≡ Value (pos n)) × (n < 100000)
+glanced {f} {i} {n} w s l z p b =
+    let g : Plain f i n = record { ends = record { digits = s; all = λ q. rw (p q) }; some = rw w l; narrow = rw w (lit≤ tt); alone = rw w z } in
+    let u : 10 ^ (length f - i) ≤ 10 ^ 5 = pow-le-pow-right (lit< tt) {i = length f - i} {j = 5} (omega arith) in
+    (taken-plain g b, omega (arith, s .small))
+
+-- each way to be sure, with the code's test
+module _ (a b c d e : ℕ) {n : ℕ} where
+  pub sure-4 : DigitsFrom (bytes a b c d e) 4 n → ((eqb a 32 && eqb b 32) && eqb c 32) && eqb d 32 ≡ true → (numberOf (bytes a b c d e) ≡ Value (pos n)) × (n < 100000)
+  unfolding isBlanks
+  sure-4 s t =
+      let x = both ((eqb a 32 && eqb b 32) && eqb c 32) (eqb d 32) t in
+      let y = both (eqb a 32 && eqb b 32) (eqb c 32) (x .0) in
+      let z = both (eqb a 32) (eqb b 32) (y .0) in
+      glanced refl s (lit< tt) (λ q. refl) (λ q. eqb-true _ _ (x .1)) (rw (z .0, z .1, y .1, x .1))
+
+  pub sure-3 : DigitsFrom (bytes a b c d e) 3 n → ((eqb a 32 && eqb b 32) && eqb c 32) && not (eqb d 48) ≡ true → (numberOf (bytes a b c d e) ≡ Value (pos n)) × (n < 100000)
+  unfolding isBlanks
+  sure-3 s t =
+      let x = both ((eqb a 32 && eqb b 32) && eqb c 32) (not (eqb d 48)) t in
+      let y = both (eqb a 32 && eqb b 32) (eqb c 32) (x .0) in
+      let z = both (eqb a 32) (eqb b 32) (y .0) in
+      glanced refl s (lit< tt) (λ q. absurd (eqb-false _ _ (not-true _ (x .1)) q)) (λ q. eqb-true _ _ (y .1)) (rw (z .0, z .1, y .1))
+
+  pub sure-2 : DigitsFrom (bytes a b c d e) 2 n → (eqb a 32 && eqb b 32) && not (eqb c 48) ≡ true → (numberOf (bytes a b c d e) ≡ Value (pos n)) × (n < 100000)
+  unfolding isBlanks
+  sure-2 s t =
+      let x = both (eqb a 32 && eqb b 32) (not (eqb c 48)) t in
+      let z = both (eqb a 32) (eqb b 32) (x .0) in
+      glanced refl s (lit< tt) (λ q. absurd (eqb-false _ _ (not-true _ (x .1)) q)) (λ q. eqb-true _ _ (z .1)) (rw (z .0, z .1))
+
+  pub sure-1 : DigitsFrom (bytes a b c d e) 1 n → a ≡ 32 → (b ≡ 48 → ⊥) → (numberOf (bytes a b c d e) ≡ Value (pos n)) × (n < 100000)
+  unfolding isBlanks
+  sure-1 s t z = glanced refl s (lit< tt) (λ q. absurd (z q)) (λ q. t) (rw (eq-eqb _ _ t))
+
+  pub sure-0 : DigitsFrom (bytes a b c d e) 0 n → (a ≡ 48 → ⊥) → (numberOf (bytes a b c d e) ≡ Value (pos n)) × (n < 100000)
+  unfolding isBlanks
+  sure-0 s z = glanced refl s (lit< tt) (λ q. absurd (z q)) (λ q. absurd (omega arith)) refl
+
+-- a list of five
+pub five-bytes : (f : List ℕ) → length f ≡ 5 → bytes (getD f 0 0) (getD f 1 0) (getD f 2 0) (getD f 3 0) (getD f 4 0) ≡ f
+five-bytes f w =
+    let a : 0 < length f = rw w (lit< tt) in
+    let b : 1 < length f = rw w (lit< tt) in
+    let c : 2 < length f = rw w (lit< tt) in
+    let d : 3 < length f = rw w (lit< tt) in
+    let e : 4 < length f = rw w (lit< tt) in
+    let l : length f ≤ 5 = rw w (lit≤ tt) in
+    sym (drop-cons f 0 0 a ∙ rw (drop-cons f 1 0 b, drop-cons f 2 0 c, drop-cons f 3 0 d, drop-cons f 4 0 e, drop-of-length-le f {i = 5} l))
