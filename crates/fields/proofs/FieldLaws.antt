@@ -151,7 +151,7 @@ blanks-only (b ∷ f) h = only-by b f (λ k. blanks-only f k) (eqb b 32) refl h
         let z : _≡_ {A = ℕ} 0 1 = cc in
         absurd (omega arith)
 
-spaces-blank : (w : ℕ) → isBlanks (replicate w 32) ≡ true
+pub spaces-blank : (w : ℕ) → isBlanks (replicate w 32) ≡ true
 unfolding isBlanks
 spaces-blank zero = refl
 spaces-blank (suc w) = spaces-blank w
@@ -183,3 +183,26 @@ writing-number-by false = refl
 
 pub writing-number : {fits : Bool} {before t after : List ℕ} {c : ℕ} {r : Writing} → Wrote fits before c t r after → writingRefusal r ≡ cond fits 0 20
 writing-number {fits} h = rw (h .answer) (writing-number-by fits)
+
+-- what a caller learns from a writer's answer: it is written, or nothing fitted
+done-by : (t : Bool) → cond t writing.Done writing.Refused ≡ writing.Done → t ≡ true
+done-by true e = refl
+done-by false e =
+    let z : _≡_ {A = ℕ} 0 1 = cc in
+    absurd (omega arith)
+
+pub wrote-done : {fits : Bool} {before t after : List ℕ} {c : ℕ} {r : Writing} → Wrote fits before c t r after → r ≡ writing.Done → (fits ≡ true) × (after ≡ put before c t)
+wrote-done {fits} h e =
+    let y = done-by fits (sym (h .answer) ∙ e) in
+    (y, h .buffer ∙ rw y)
+
+refused-by : (t : Bool) → cond t writing.Done writing.Refused ≡ writing.Refused → t ≡ false
+refused-by true e =
+    let z : _≡_ {A = ℕ} 0 1 = cc in
+    absurd (omega arith)
+refused-by false e = refl
+
+pub wrote-refused : {fits : Bool} {before t after : List ℕ} {c : ℕ} {r : Writing} → Wrote fits before c t r after → r ≡ writing.Refused → (fits ≡ false) × (after ≡ before)
+wrote-refused {fits} h e =
+    let y = refused-by fits (sym (h .answer) ∙ e) in
+    (y, h .buffer ∙ rw y)

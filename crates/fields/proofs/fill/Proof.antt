@@ -53,7 +53,8 @@ same-length : tie.Need-same-length Inv-loop μ-loop
 same-length c = c .before .loop .inv .0
 
 returns : tie.Need-returns Inv-loop μ-loop
-returns c = sym (c .before .loop .inv .2 ∙ fill-done (c .before .loop .buf) (c .before .before .before .args .at) (c .before .loop .k) (c .before .loop .l) (c .loop-test .left))
+returns c =
+    sym (c .before .loop .inv .2 ∙ fill-done (c .before .loop .buf) (c .before .before .before .args .at) (c .before .loop .k) (c .before .loop .l) (c .loop-test .left))
 
 pub fill-spec : {M : Type 1} → statement M
 fill-spec =

@@ -21,17 +21,21 @@ said-4 : (c : tie.After-wide) → DigitsFrom (seen (c .before .before .before)) 
 said-4 c = rw (c .wide .ensures) (one-digit _ _ _ _ _ (passed-digit _ _ (c .before .before .digit .ensures) (c .before .if1 .left)))
 
 said-3 : (c : tie.After-wide2) → DigitsFrom (seen (c .before .before .before .before .before .before)) 3 (c .before .before .before .wide .result + c .wide2 .result * 10)
-said-3 c = rw (c .wide2 .ensures) (next-digit (seen (c .before .before .before .before .before .before)) 4 _ 10 (lit< tt) refl (said-4 (c .before .before .before)) (passed-digit _ _ (c .before .before .digit2 .ensures) (c .before .if2 .left)))
+said-3 c =
+    rw (c .wide2 .ensures) (next-digit (seen (c .before .before .before .before .before .before)) 4 _ 10 (lit< tt) refl (said-4 (c .before .before .before)) (passed-digit _ _ (c .before .before .digit2 .ensures) (c .before .if2 .left)))
 
 said-2 : (c : tie.After-wide3) → DigitsFrom (seen (c .before .before .before .before .before .before .before .before .before)) 2 (c .before .before .before .before .before .before .wide .result + c .before .before .before .wide2 .result * 10 + c .wide3 .result * 100)
-said-2 c = rw (c .wide3 .ensures) (next-digit (seen (c .before .before .before .before .before .before .before .before .before)) 3 _ 100 (lit< tt) refl (said-3 (c .before .before .before)) (passed-digit _ _ (c .before .before .digit3 .ensures) (c .before .if4 .left)))
+said-2 c =
+    rw (c .wide3 .ensures) (next-digit (seen (c .before .before .before .before .before .before .before .before .before)) 3 _ 100 (lit< tt) refl (said-3 (c .before .before .before)) (passed-digit _ _ (c .before .before .digit3 .ensures) (c .before .if4 .left)))
 
 said-1 : (c : tie.After-wide4) → DigitsFrom (seen (c .before .before .before .before .before .before .before .before .before .before .before .before)) 1 (c .before .before .before .before .before .before .before .before .before .wide .result + c .before .before .before .before .before .before .wide2 .result * 10 + c .before .before .before .wide3 .result * 100 + c .wide4 .result * 1000)
-said-1 c = rw (c .wide4 .ensures) (next-digit (seen (c .before .before .before .before .before .before .before .before .before .before .before .before)) 2 _ 1000 (lit< tt) refl (said-2 (c .before .before .before)) (passed-digit _ _ (c .before .before .digit4 .ensures) (c .before .if6 .left)))
+said-1 c =
+    rw (c .wide4 .ensures) (next-digit (seen (c .before .before .before .before .before .before .before .before .before .before .before .before)) 2 _ 1000 (lit< tt) refl (said-2 (c .before .before .before)) (passed-digit _ _ (c .before .before .digit4 .ensures) (c .before .if6 .left)))
 
 -- the first of five digits
 last : (c : tie.Then10) → Digit (c .before .before .before .before .before .before .before .before .before .before .before .before .before .before .before .args .a)
-last c = is-digit _ (sym (c .before .digit5 .ensures) ∙ both (c .before .digit5 .result) (not (eqb (c .before .before .before .before .before .before .before .before .before .before .before .before .before .before .before .args .a) 48)) (c .if10 .taken) .0)
+last c =
+    is-digit _ (sym (c .before .digit5 .ensures) ∙ both (c .before .digit5 .result) (not (eqb (c .before .before .before .before .before .before .before .before .before .before .before .before .before .before .before .args .a) 48)) (c .if10 .taken) .0)
 
 digit-requires : tie.Need-digit-requires
 digit-requires c κs = search needs

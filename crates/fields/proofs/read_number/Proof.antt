@@ -40,7 +40,9 @@ five-requires : tie.Need-five-requires
 five-requires c κs = search needs
 
 returns-2 : tie.Need-returns-2
-returns-2 c = c .five .ensures ∙ number-five _ _ _ (c .before .before .before .before .inside .ensures) (not-false _ (c .before .before .before .if1 .left)) (c .before .before .if2 .taken)
+returns-2 c =
+    c .five .ensures
+    ∙ number-five _ _ _ (c .before .before .before .before .inside .ensures) (not-false _ (c .before .before .before .if1 .left)) (c .before .before .if2 .taken)
 
 add-number-of : tie.Need-add-number-of
 add-number-of c = let p = bounds (c .before) in omega arith

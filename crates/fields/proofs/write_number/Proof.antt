@@ -54,7 +54,8 @@ same-length-2 : tie.Need-same-length-2
 same-length-2 c = search needs
 
 returns-2 : tie.Need-returns-2
-returns-2 c = wrote-nothing _ _ _ _ (number-fit _ _ _ (c .before .before .before .inside .ensures) _ (not-false _ (c .before .before .if1 .left)) (ranged (c .before)) ∙ not-true _ (c .if2 .taken))
+returns-2 c =
+    wrote-nothing _ _ _ _ (number-fit _ _ _ (c .before .before .before .inside .ensures) _ (not-false _ (c .before .before .if1 .left)) (ranged (c .before)) ∙ not-true _ (c .if2 .taken))
 
 sub-fill : tie.Need-sub-fill
 sub-fill c = let p = bounds (c .before .before .before) in omega arith

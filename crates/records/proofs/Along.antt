@@ -1,0 +1,179 @@
+-- Reading along a layout, one field at a time: what the loop of `read_fields` keeps, over any layout. Assumes nothing.
+use mathlib.Core.Bool.{true}
+use mathlib.Core.List.{List, [], _∷_, _++_}
+use mathlib.Core.Path.{_≡_, refl, sym, _∙_}
+use Prim.Native.Nat.{ℕ, zero, suc, _+_, _-_, _≤_, _<_}
+use native.Mathlib.Nat.{add-suc, add-zero, suc-add, le-of-lt}
+use native.Mathlib.Numerals.{add-one}
+use native.Mathlib.Omega.{arith}
+use lib.IntN.{ℤ}
+use lib.ListN.{length, getD, take, drop, set, drop-of-length-le, length-drop}
+use lib.Seq.{sets, drop-cons, take-suc, length-take-le}
+use Rattle.fields.specs.Number.{numberAt}
+use Rattle.fields.specs.Place.{isInside}
+use Rattle.fields.specs.Text.{isBlanks, isName, textAt}
+use Rattle.fields.specs.declared.Number as numbers
+use Rattle.fields.specs.declared.Number.the-variants as number
+use Rattle.fields.specs.declared.Text as texts
+use Rattle.fields.specs.declared.Text.the-variants as text
+use Rattle.records.specs.Layout.{layoutOf, startOf, numbersOf, bytesOf, total}
+use Rattle.records.specs.Reading.{lettersFault, faultOf, numbersIn, nameIn, over, Fault, noFault, faultAt, firstFault, zeros, noName, accepted, refusedAt, fieldsOf}
+use Rattle.records.specs.declared.Field.the-variants.{End, Letters, Number, Name, Blank}
+use Rattle.records.specs.declared.Field.{Field}
+use Rattle.records.specs.declared.Kind.{Kind}
+use Rattle.fields.proofs.FieldLaws.{text-formed}
+use Rattle.fields.proofs.Places.{part-is, bytes-length}
+use Rattle.records.proofs.Layouts.{isField, Fitting, fitting, on-layout, off-layout}
+
+-- ---- runs of stores
+
+pub sets-append : {A : Type 0} (l : List A) (i : ℕ) (us vs : List A) → sets l i (us ++ vs) ≡ sets (sets l i us) (i + length us) vs
+sets-append l i [] vs = rw add-zero
+sets-append l i (u ∷ us) vs = sets-append (set l i u) (suc i) us vs ∙ rw (add-suc, suc-add)
+
+pub sets-next : (l : List ℕ) (m : ℕ) (p : List ℕ) (i : ℕ) → i < length p → sets l m (take (i + 1) p) ≡ set (sets l m (take i p)) (m + i) (getD p i 0)
+sets-next l m p i h = rw (add-one, take-suc p i 0 h) (sets-append l m (take i p) (getD p i 0 ∷ []) ∙ rw (length-take-le i p (le-of-lt h)))
+
+-- ---- one field
+
+numbers-many : (f : Field) (s : List ℕ) → length (numbersIn f s) ≡ numbersOf f
+unfolding numbersIn
+numbers-many End s = refl
+numbers-many (Letters a b) s = refl
+numbers-many (Number c w) s = refl
+numbers-many (Name c w) s = refl
+numbers-many (Blank c w) s = refl
+
+-- there is room for the field f at j and what it gives
+pub record Room (L : List Field) (f : Field) (n m j : ℕ) : Type 0 where
+  pub inside : j < length L
+  pub step : j < 18
+  pub numbers : n + numbersOf f ≤ 16
+  pub names : m + bytesOf f ≤ 40
+
+-- ---- what the loop keeps: what is left gives the answer of the whole
+
+pub record Going (L : List Field) (s : List ℕ) (ns : List ℤ) (nm : List ℕ) (n m j : ℕ) : Type 0 where
+  pub fits : Fitting L
+  pub numbers : n + total numbersOf (drop j L) ≤ 16
+  pub names : m + total bytesOf (drop j L) ≤ 40
+  pub fault : firstFault L s ≡ firstFault (drop j L) s
+  pub values : sets ns n (over numbersIn (drop j L) s) ≡ sets zeros 0 (over numbersIn L s)
+  pub text : sets nm m (over nameIn (drop j L) s) ≡ sets noName 0 (over nameIn L s)
+
+pub start : (k : Kind) (s : List ℕ) → Going (layoutOf k) s zeros noName 0 0 0
+start k s = record {
+  fits = fitting k;
+  numbers = omega (arith, fitting k .numbers);
+  names = omega (arith, fitting k .names);
+  fault = refl;
+  values = refl;
+  text = refl;
+}
+
+module _ {L : List Field} {s : List ℕ} {ns : List ℤ} {nm : List ℕ} {n m j : ℕ} (g : Going L s ns nm n m j) where
+  module _ (f : Field) (e : f ≡ getD L j End) (i : isField f ≡ true) where
+    split : drop j L ≡ f ∷ drop (j + 1) L
+    split = rw (add-one, drop-cons L j End (on-layout L j f e i), e)
+
+    sum : (h : Field → ℕ) → total h (drop j L) ≡ h f + total h (drop (j + 1) L)
+    unfolding total
+    sum h = rw split
+
+    pub room : Room L f n m j
+    room = record {
+      inside = on-layout L j f e i;
+      step = omega (arith, on-layout L j f e i, g .fits .few);
+      numbers = omega (arith, sum numbersOf, g .numbers);
+      names = omega (arith, sum bytesOf, g .names);
+    }
+
+    over-step : {A : Type 0} (h : Field → List ℕ → List A) → over h (drop j L) s ≡ h f s ++ over h (drop (j + 1) L) s
+    unfolding over
+    over-step h = rw split
+
+    -- a well-formed field: the loop goes on behind it
+    pub next : (n′ m′ : ℕ) → n′ ≡ n + numbersOf f → m′ ≡ m + bytesOf f → length (nameIn f s) ≡ bytesOf f → faultOf f s ≡ 0
+        → Going L s (sets ns n (numbersIn f s)) (sets nm m (nameIn f s)) n′ m′ (j + 1)
+    unfolding firstFault
+    next n′ m′ p q l w = record {
+      fits = g .fits;
+      numbers = omega (arith, sum numbersOf, g .numbers);
+      names = omega (arith, sum bytesOf, g .names);
+      fault = g .fault ∙ rw (split, w);
+      values = rw (p, ← numbers-many f s, ← sets-append ns n (numbersIn f s) (over numbersIn (drop (j + 1) L) s), ← over-step numbersIn) (g .values);
+      text = rw (q, ← l, ← sets-append nm m (nameIn f s) (over nameIn (drop (j + 1) L) s), ← over-step nameIn) (g .text);
+    }
+
+  -- no field is left
+  all-read : End ≡ getD L j End → (firstFault L s ≡ noFault) × (ns ≡ sets zeros 0 (over numbersIn L s)) × (nm ≡ sets noName 0 (over nameIn L s))
+  unfolding firstFault over
+  all-read e =
+      let d : drop j L ≡ [] = drop-of-length-le L (off-layout L j (g .fits .tiled) e) in
+      (g .fault ∙ rw d, rw d at (g .values), rw d at (g .text))
+
+-- ---- the answers, by the sort of the field
+
+bad : (k : Kind) (s : List ℕ) (x c : ℕ) (p : Fault) → firstFault (layoutOf k) s ≡ faultAt x c p → (x ≡ 0 → ⊥) → refusedAt k x c ≡ fieldsOf k s
+unfolding fieldsOf
+bad k s zero c p e h = absurd (h refl)
+bad k s (suc x) c p e h = rw e
+
+module _ (k : Kind) {s : List ℕ} {ns : List ℤ} {nm : List ℕ} {n m j : ℕ} (g : Going (layoutOf k) s ns nm n m j) where
+  refuse : (f : Field) → f ≡ getD (layoutOf k) j End → isField f ≡ true → (x : ℕ) → faultOf f s ≡ x → (x ≡ 0 → ⊥) → refusedAt k x (startOf f) ≡ fieldsOf k s
+  unfolding firstFault
+  refuse f e i x q h = bad k s x (startOf f) (firstFault (drop (j + 1) (layoutOf k)) s) (g .fault ∙ rw (split g f e i, q)) h
+
+  -- the layout's end
+  pub accept : End ≡ getD (layoutOf k) j End → accepted (record { kind = k; numbers = ns; name = nm }) ≡ fieldsOf k s
+  unfolding fieldsOf
+  accept e =
+      let d = all-read g e in
+      rw (d .0, d .1, d .2)
+
+  module _ (a b : ℕ) (e : Letters a b ≡ getD (layoutOf k) j End) {r : ℕ} (q : r ≡ lettersFault a b (getD s 0 0) (getD s 1 0)) where
+    pub letters-refused : (r ≡ 0 → ⊥) → refusedAt k r 1 ≡ fieldsOf k s
+    unfolding faultOf
+    letters-refused h = refuse (Letters a b) e refl r (sym q) h
+
+    pub letters-next : r ≡ 0 → Going (layoutOf k) s ns nm n m (j + 1)
+    unfolding faultOf numbersIn nameIn
+    letters-next z = next g (Letters a b) e refl n m (omega arith) (omega arith) refl (sym q ∙ z)
+
+  module _ (c w : ℕ) (e : Number c w ≡ getD (layoutOf k) j End) {r : numbers.Number} (q : r ≡ numberAt s c w) where
+    pub number-refused : r ≡ number.Refused → refusedAt k 5 c ≡ fieldsOf k s
+    unfolding faultOf
+    number-refused z = refuse (Number c w) e refl 5 (rw (← q, z)) (λ x. omega arith)
+
+    pub number-next : (v : ℤ) → r ≡ number.Value v → Going (layoutOf k) s (set ns n v) nm (n + 1) m (j + 1)
+    unfolding faultOf numbersIn nameIn
+    number-next v z = rw (← q, z) at (next g (Number c w) e refl (n + 1) m refl (omega arith) refl (rw (← q, z)))
+
+  module _ (c w : ℕ) (e : Name c w ≡ getD (layoutOf k) j End) {r : texts.Text} (q : r ≡ textAt isName s c w) where
+    pub name-refused : r ≡ text.Refused → refusedAt k 5 c ≡ fieldsOf k s
+    unfolding faultOf
+    name-refused z = refuse (Name c w) e refl 5 (rw (← q, z)) (λ x. omega arith)
+
+    pub name-inside : r ≡ text.WellFormed → isInside s c w ≡ true
+    name-inside z = text-formed isName s c w (sym q ∙ z) .0
+
+    pub name-next : r ≡ text.WellFormed → Going (layoutOf k) s ns (sets nm m (take (c - 1 + w - (c - 1)) (drop (c - 1) s))) n (m + w) (j + 1)
+    unfolding faultOf numbersIn nameIn
+    name-next z =
+        rw (part-is s c w)
+        (next g (Name c w) e refl n (m + w) (omega arith) refl (bytes-length s c w (name-inside z)) (rw (← q, z)))
+
+  module _ (c w : ℕ) (e : Blank c w ≡ getD (layoutOf k) j End) {r : texts.Text} (q : r ≡ textAt isBlanks s c w) where
+    pub blank-refused : r ≡ text.Refused → refusedAt k 5 c ≡ fieldsOf k s
+    unfolding faultOf
+    blank-refused z = refuse (Blank c w) e refl 5 (rw (← q, z)) (λ x. omega arith)
+
+    pub blank-next : r ≡ text.WellFormed → Going (layoutOf k) s ns nm n m (j + 1)
+    unfolding faultOf numbersIn nameIn
+    blank-next z = next g (Blank c w) e refl n m (omega arith) (omega arith) refl (rw (← q, z))
+
+-- the part that the code cuts out for a name
+pub part-length : (s : List ℕ) (c w : ℕ) → c - 1 + w ≤ length s → length (take (c - 1 + w - (c - 1)) (drop (c - 1) s)) ≡ w
+part-length s c w h =
+    let e : c - 1 + w - (c - 1) ≡ w = omega arith in
+    rw e (length-take-le w (drop (c - 1) s) (rw length-drop (omega arith)))

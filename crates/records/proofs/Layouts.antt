@@ -1,0 +1,128 @@
+-- Layouts as lists: the code's way to a field, and what every kind's layout keeps. A kind's fields stand one after another in the
+-- columns 1 to 72; antt computes it. Assumes nothing.
+use mathlib.Core.Bool.{Bool, true, false, _&&_}
+use mathlib.Core.List.{List, [], _∷_}
+use mathlib.Core.Path.{_≡_, refl, sym}
+use Prim.Native.Nat.{ℕ, zero, suc, _+_, _-_, _≤_, _<_}
+use native.Mathlib.Omega.{arith}
+use lib.Dec.{ltb, eqb}
+use lib.ListN.{length, getD, List·getD-eq-default}
+use borrow.Author.Tests.{ltb-true, ltb-false, eqb-true}
+use types.Run.{OneOf}
+use Rattle.records.specs.Layout.{layoutOf, startOf, widthOf, numbersOf, bytesOf, total}
+use Rattle.records.specs.declared.Field.the-variants.{End, Letters, Number, Name, Blank}
+use Rattle.records.specs.declared.Field.{Field}
+use Rattle.records.specs.declared.Kind.the-variants.{Mesh, Layer, Node, Line, Coordinates, Area, Loop}
+use Rattle.records.specs.declared.Kind.{Kind}
+use Rattle.fields.proofs.Places.{both}
+
+-- a `match` on 0, 1, .. n - 1 that took none of them
+abbrev pub Passed : ℕ → ℕ → Type 0
+Passed zero j = Unit {0}
+Passed (suc n) j = Passed n j × (OneOf (n ∷ []) j → ⊥)
+
+above : (n j : ℕ) → Passed n j → n ≤ j
+above zero j r = omega arith
+above (suc n) j r = omega (arith, above n j (r .0), r .1)
+
+-- past the last field there is none
+pub past-end : (L : List Field) (j : ℕ) → Passed (length L) j → End ≡ getD L j End
+past-end L j r = sym (List·getD-eq-default L End (above (length L) j r))
+
+-- not the end
+abbrev pub isField : Field → Bool
+isField End = false
+isField (Letters a b) = true
+isField (Number c w) = true
+isField (Name c w) = true
+isField (Blank c w) = true
+
+-- the fields stand one after another from column c to column 72, and each is a field
+unfoldable pub tiles : ℕ → List Field → Bool
+tiles c [] = eqb c 73
+tiles c (f ∷ fs) = isField f && (eqb (startOf f) c && tiles (c + widthOf f) fs)
+
+-- every kind's fields take the columns 1 to 72
+pub tiled : (k : Kind) → tiles 1 (layoutOf k) ≡ true
+unfolding layoutOf tiles
+tiled Mesh = refl
+tiled Layer = refl
+tiled Node = refl
+tiled Line = refl
+tiled Coordinates = refl
+tiled Area = refl
+tiled Loop = refl
+
+-- what tiling says of a first field
+pub record Tile (c : ℕ) (f : Field) (fs : List Field) : Type 0 where
+  pub field : isField f ≡ true
+  pub start : startOf f ≡ c
+  pub rest : tiles (c + widthOf f) fs ≡ true
+
+pub tile : (c : ℕ) (f : Field) (fs : List Field) → tiles c (f ∷ fs) ≡ true → Tile c f fs
+unfolding tiles
+tile c f fs h =
+    let p = both (isField f) (eqb (startOf f) c && tiles (c + widthOf f) fs) h in
+    let q = both (eqb (startOf f) c) (tiles (c + widthOf f) fs) (p .1) in
+    record { field = p .0; start = eqb-true _ _ (q .0); rest = q .1 }
+
+-- a layout that tiles from column c ends with column 72
+pub tiles-end : (L : List Field) (c : ℕ) → tiles c L ≡ true → c + total widthOf L ≡ 73
+unfolding tiles total
+tiles-end [] c h = let e = eqb-true c 73 h in omega arith
+tiles-end (f ∷ fs) c h =
+    let e = tiles-end fs (c + widthOf f) (tile c f fs h .rest) in
+    omega arith
+
+-- a layout that tiles from column c takes the columns up to 72
+pub tiles-width : (L : List Field) (c : ℕ) → tiles c L ≡ true → total widthOf L ≡ 73 - c
+tiles-width L c h =
+    let e : c + total widthOf L ≡ 73 = tiles-end L c h in
+    omega arith
+
+-- what a record's value and the loops have room for
+pub record Fitting (L : List Field) : Type 0 where
+  pub tiled : tiles 1 L ≡ true
+  pub few : length L ≤ 18
+  pub numbers : total numbersOf L ≤ 16
+  pub names : total bytesOf L ≤ 40
+
+pub fitting : (k : Kind) → Fitting (layoutOf k)
+unfolding layoutOf total
+fitting Mesh = record { tiled = tiled Mesh; few = omega arith; numbers = omega arith; names = omega arith }
+fitting Layer = record { tiled = tiled Layer; few = omega arith; numbers = omega arith; names = omega arith }
+fitting Node = record { tiled = tiled Node; few = omega arith; numbers = omega arith; names = omega arith }
+fitting Line = record { tiled = tiled Line; few = omega arith; numbers = omega arith; names = omega arith }
+fitting Coordinates = record { tiled = tiled Coordinates; few = omega arith; numbers = omega arith; names = omega arith }
+fitting Area = record { tiled = tiled Area; few = omega arith; numbers = omega arith; names = omega arith }
+fitting Loop = record { tiled = tiled Loop; few = omega arith; numbers = omega arith; names = omega arith }
+
+-- ---- a field at an index
+
+on : (L : List Field) (j : ℕ) (b : Bool) → ltb j (length L) ≡ b → isField (getD L j End) ≡ true → j < length L
+on L j true t i = ltb-true _ _ t
+on L j false t i =
+    let d : getD L j End ≡ End = List·getD-eq-default L End (ltb-false _ _ t) in
+    let f : isField End ≡ true = rw d at i in
+    let z : _≡_ {A = ℕ} 0 1 = cc in
+    absurd (omega arith)
+
+-- a field is within the layout
+pub on-layout : (L : List Field) (j : ℕ) (f : Field) → f ≡ getD L j End → isField f ≡ true → j < length L
+on-layout L j f e i = on L j (ltb j (length L)) refl (rw e at i)
+
+field-at : (L : List Field) (c j : ℕ) → tiles c L ≡ true → j < length L → isField (getD L j End) ≡ true
+field-at [] c j a h = absurd (omega arith)
+field-at (f ∷ L) c zero a h = tile c f L a .field
+field-at (f ∷ L) c (suc j) a h = field-at L (c + widthOf f) j (tile c f L a .rest) (omega arith)
+
+off : (L : List Field) (j : ℕ) (b : Bool) → ltb j (length L) ≡ b → tiles 1 L ≡ true → End ≡ getD L j End → length L ≤ j
+off L j true t a e =
+    let i : isField End ≡ true = rw (← e) at (field-at L 1 j a (ltb-true _ _ t)) in
+    let z : _≡_ {A = ℕ} 0 1 = cc in
+    absurd (omega arith)
+off L j false t a e = ltb-false _ _ t
+
+-- no field is past it
+pub off-layout : (L : List Field) (j : ℕ) → tiles 1 L ≡ true → End ≡ getD L j End → length L ≤ j
+off-layout L j a e = off L j (ltb j (length L)) refl a e

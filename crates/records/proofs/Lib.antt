@@ -1,0 +1,8 @@
+-- Laws of the crate's definitions. `RecordLaws` has those that other crates and readers go by; the other files serve it and the proofs.
+pub mod RecordLaws
+pub mod RoundTrips
+pub mod Layouts
+pub mod Along
+pub mod Numbers
+pub mod Unused
+pub mod Lines

@@ -1,0 +1,226 @@
+-- Writing along a layout, one field at a time: what the loop of `spell_record` keeps, over any layout. Assumes nothing.
+use mathlib.Core.Bool.{true, false, _&&_}
+use mathlib.Core.List.{List, [], _∷_, _++_, append-assoc, append-nil}
+use mathlib.Core.Path.{_≡_, refl, sym, ap, _∙_}
+use Prim.Native.Nat.{ℕ, _+_, _-_, _≤_, _<_}
+use native.Mathlib.Nat.{add-zero}
+use native.Mathlib.Numerals.{add-one}
+use native.Mathlib.Omega.{arith}
+use lib.IntN.{ℤ, pos}
+use lib.ListN.{length, getD, take, drop, set, replicate, length-set, length-append, length-drop, drop-of-length-le}
+use lib.Seq.{drop-cons, drop-drop, take-at, length-take-le, getD-drop, set-split, take-suc-set}
+use borrow.Author.Tests.{le-leb, lt-leb, eq-eqb, eqb-true}
+use Rattle.fields.specs.Answer.{numberFits, nameFits, Wrote}
+use Rattle.fields.specs.Place.{isInside, put}
+use Rattle.fields.specs.Spelling.{spell}
+use Rattle.fields.specs.declared.Writing as writings
+use Rattle.fields.specs.declared.Writing.the-variants as writing
+use Rattle.records.specs.Layout.{layoutOf, startOf, widthOf, numbersOf, bytesOf, total}
+use Rattle.records.specs.Writing.{fieldText, fieldFits, textOf, noNumbers, noBytes, fits, fitsAll, lineOf, SpelledAs, Written}
+use Rattle.records.specs.declared.Field.the-variants.{End, Letters, Number, Name, Blank}
+use Rattle.records.specs.declared.Field.{Field}
+use Rattle.records.specs.declared.Kind.{Kind}
+use Rattle.records.specs.declared.Record.{Record}
+use Rattle.fields.proofs.FieldLaws.{wrote-done, wrote-refused}
+use Rattle.fields.proofs.Places.{inside-fits, put-length}
+use Rattle.records.proofs.Along.{Room}
+use Rattle.records.proofs.Layouts.{isField, tiles, Tile, tile, tiles-end, Fitting, fitting, on-layout, off-layout}
+use Rattle.records.proofs.RoundTrips.{field-length}
+
+-- the columns up to `at` are written, and what is left decides and gives the rest
+pub record Lines (L : List Field) (ns : List ℤ) (nm out : List ℕ) (n m j : ℕ) : Type 0 where
+  pub fitted : Fitting L
+  pub long : length out ≡ 74
+  pub many : length ns ≡ 16
+  pub wide : length nm ≡ 40
+  pub at : ℕ
+  pub tiled : tiles (at + 1) (drop j L) ≡ true
+  pub numbers : n + total numbersOf (drop j L) ≤ 16
+  pub names : m + total bytesOf (drop j L) ≤ 40
+  pub whole : fits L ns nm ≡ fits (drop j L) (drop n ns) (drop m nm)
+  pub text : take at out ++ textOf (drop j L) (drop n ns) (drop m nm) ≡ textOf L ns nm
+
+pub start : (k : Kind) (ns : List ℤ) (nm out : List ℕ) → length ns ≡ 16 → length nm ≡ 40 → length out ≡ 74 → Lines (layoutOf k) ns nm out 0 0 0
+start k ns nm out l w o = record {
+  fitted = fitting k;
+  long = o;
+  many = l;
+  wide = w;
+  at = 0;
+  tiled = fitting k .tiled;
+  numbers = omega (arith, fitting k .numbers);
+  names = omega (arith, fitting k .names);
+  whole = refl;
+  text = refl;
+}
+
+-- the bytes t behind the first a of a list
+put-front : (s t : List ℕ) (c a w : ℕ) → c ≡ a + 1 → length t ≡ w → a + w ≤ length s → take (a + w) (put s c t) ≡ take a s ++ t
+unfolding put
+put-front s t c a w e l h =
+    let d : c - 1 ≡ a = omega arith in
+    let k : length (take a s) ≡ a = length-take-le a s (omega arith) in
+    let q : length (take a s ++ t) ≡ a + w = length-append (take a s) t ∙ rw (k, l) in
+    rw (d, ← append-assoc (take a s) t (drop (a + length t) s)) (take-at (take a s ++ t) (drop (a + length t) s) (a + w) q)
+
+end-column : (a : ℕ) → tiles (a + 1) [] ≡ true → a ≡ 72
+unfolding tiles
+end-column a h =
+    let e : a + 1 ≡ 73 = eqb-true _ _ h in
+    omega arith
+
+-- the type letters
+two-put : (s : List ℕ) (a b : ℕ) → length s ≡ 74 → set (set s 0 a) 1 b ≡ put s 1 (a ∷ b ∷ [])
+unfolding put
+two-put [] a b l = absurd (omega arith)
+two-put (x ∷ []) a b l = absurd (omega arith)
+two-put (x ∷ y ∷ s) a b l = refl
+
+-- the line end
+ended : (s : List ℕ) → length s ≡ 74 → set (set s 72 13) 73 10 ≡ take 72 s ++ (13 ∷ 10 ∷ [])
+ended s l =
+    let a : 72 < length s = omega arith in
+    let b : 73 < length (set s 72 13) = rw length-set (omega arith) in
+    let r : 72 < 73 = omega arith in
+    let e : take 72 s ++ (13 ∷ []) ≡ take 73 (set s 72 13) = sym (take-suc-set s 72 13 a) in
+    set-split (set s 72 13) 73 10 b
+    ∙ rw (← e, append-assoc)
+    (ap (λ x. take 72 s ++ (13 ∷ 10 ∷ x)) (drop-of-length-le (set s 72 13) {i = 74} (rw length-set (omega arith))))
+
+module _ {L : List Field} {ns : List ℤ} {nm out : List ℕ} {n m j : ℕ} (g : Lines L ns nm out n m j) where
+  module _ (f : Field) (e : f ≡ getD L j End) (i : isField f ≡ true) where
+    split : drop j L ≡ f ∷ drop (j + 1) L
+    split = rw (add-one, drop-cons L j End (on-layout L j f e i), e)
+
+    sum : (h : Field → ℕ) → total h (drop j L) ≡ h f + total h (drop (j + 1) L)
+    unfolding total
+    sum h = rw split
+
+    pub room : Room L f n m j
+    room = record {
+      inside = on-layout L j f e i;
+      step = omega (arith, on-layout L j f e i, g .fitted .few);
+      numbers = omega (arith, sum numbersOf, g .numbers);
+      names = omega (arith, sum bytesOf, g .names);
+    }
+
+    here : Tile (g .at + 1) f (drop (j + 1) L)
+    here = tile (g .at + 1) f (drop (j + 1) L) (rw split at (g .tiled))
+
+    width : g .at + widthOf f ≤ 72
+    width = omega (arith, sum widthOf, tiles-end (drop j L) (g .at + 1) (g .tiled))
+
+    pub inside : isInside out (startOf f) (widthOf f) ≡ true
+    inside = inside-fits out (startOf f) (widthOf f) (omega (arith, here .start)) (omega (arith, here .start, width, g .long))
+
+    -- a field that fits is written: the loop goes on behind it
+    pub next : (n′ m′ : ℕ) → n′ ≡ n + numbersOf f → m′ ≡ m + bytesOf f → (out′ : List ℕ) → fieldFits f (drop n ns) (drop m nm) ≡ true
+        → out′ ≡ put out (startOf f) (fieldText f (drop n ns) (drop m nm)) → Lines L ns nm out′ n′ m′ (j + 1)
+    unfolding fits textOf
+    next n′ m′ p q out′ y o =
+        let t = fieldText f (drop n ns) (drop m nm) in
+        let l = field-length f (drop n ns) (drop m nm) y in
+        let c : g .at + 1 + widthOf f ≡ g .at + widthOf f + 1 = omega arith in
+        record {
+          fitted = g .fitted;
+          long = rw o (put-length out (startOf f) (widthOf f) t inside l ∙ g .long);
+          many = g .many;
+          wide = g .wide;
+          at = g .at + widthOf f;
+          tiled = rw (← c) (here .rest);
+          numbers = omega (arith, sum numbersOf, g .numbers);
+          names = omega (arith, sum bytesOf, g .names);
+          whole = g .whole ∙ rw (split, y, drop-drop, drop-drop, p, q);
+          text =
+              rw (o, put-front out t (startOf f) (g .at) (widthOf f) (here .start) l (omega (arith, width, g .long)), append-assoc, p, q, ← drop-drop (numbersOf f) n ns, ← drop-drop (bytesOf f) m nm)
+              (rw split at (g .text));
+        }
+
+    -- one that does not fit makes the whole not fit
+    pub unfit : fieldFits f (drop n ns) (drop m nm) ≡ false → fits L ns nm ≡ false
+    unfolding fits
+    unfit y = g .whole ∙ rw (split, y)
+
+  -- no field is left: the unused entries decide, and the line ends
+  pub ends : End ≡ getD L j End → (fits L ns nm ≡ noNumbers (drop n ns) && noBytes (drop m nm)) × (set (set out 72 13) 73 10 ≡ textOf L ns nm ++ (13 ∷ 10 ∷ []))
+  unfolding fits textOf tiles
+  ends e =
+      let d : drop j L ≡ [] = drop-of-length-le L (off-layout L j (g .fitted .tiled) e) in
+      let a : g .at ≡ 72 = end-column (g .at) (rw d at (g .tiled)) in
+      let t : take (g .at) out ++ [] ≡ textOf L ns nm = rw d at (g .text) in
+      (g .whole ∙ rw d, ended out (g .long) ∙ rw (← t, a, append-nil))
+
+  -- ---- by the sort of the field
+
+  module _ (a b : ℕ) (e : Letters a b ≡ getD L j End) where
+    pub letters-next : Lines L ns nm (set (set out 0 a) 1 b) n m (j + 1)
+    unfolding fieldFits fieldText
+    letters-next = next (Letters a b) e refl n m (omega arith) (omega arith) (set (set out 0 a) 1 b) refl (two-put out a b (g .long))
+
+  module _ (c w : ℕ) (e : Number c w ≡ getD L j End) {v : ℤ} (q : v ≡ getD ns n (pos 0)) {r : writings.Writing} {out′ : List ℕ} (h : Wrote (numberFits out c w v) out c (spell w v) r out′) where
+    number-first : getD (drop n ns) 0 (pos 0) ≡ v
+    number-first = getD-drop n ns 0 (pos 0) ∙ rw (add-zero, q)
+
+    number-fit : fieldFits (Number c w) (drop n ns) (drop m nm) ≡ numberFits out c w v
+    unfolding fieldFits numberFits
+    number-fit =
+        let l : 1 ≤ length (drop n ns) = rw length-drop (omega (arith, room (Number c w) e refl .numbers, g .many)) in
+        rw (le-leb 1 (length (drop n ns)) l, number-first, inside (Number c w) e refl)
+
+    pub number-next : r ≡ writing.Done → Lines L ns nm out′ (n + 1) m (j + 1)
+    unfolding fieldText
+    number-next z =
+        let d = wrote-done h z in
+        next (Number c w) e refl (n + 1) m refl (omega arith) out′ (number-fit ∙ d .0) (d .1 ∙ rw number-first)
+
+    pub number-unfit : r ≡ writing.Refused → fits L ns nm ≡ false
+    number-unfit z = unfit (Number c w) e refl (number-fit ∙ wrote-refused h z .0)
+
+  module _ (c w : ℕ) (e : Name c w ≡ getD L j End) {r : writings.Writing} {out′ : List ℕ}
+      (h : Wrote (nameFits out c w (take (m + w - m) (drop m nm))) out c (take (m + w - m) (drop m nm)) r out′) where
+    name-part : take (m + w - m) (drop m nm) ≡ take w (drop m nm)
+    name-part =
+        let z : m + w - m ≡ w = omega arith in
+        rw z
+
+    name-fit : fieldFits (Name c w) (drop n ns) (drop m nm) ≡ nameFits out c w (take w (drop m nm))
+    unfolding fieldFits nameFits
+    name-fit =
+        let l : w ≤ length (drop m nm) = rw length-drop (omega (arith, room (Name c w) e refl .names, g .wide)) in
+        rw (le-leb w (length (drop m nm)) l, inside (Name c w) e refl, eq-eqb _ w (length-take-le w (drop m nm) l))
+
+    pub name-next : r ≡ writing.Done → Lines L ns nm out′ n (m + w) (j + 1)
+    unfolding fieldText
+    name-next z =
+        let d = wrote-done (rw name-part at h) z in
+        next (Name c w) e refl n (m + w) (omega arith) refl out′ (name-fit ∙ d .0) (d .1)
+
+    pub name-unfit : r ≡ writing.Refused → fits L ns nm ≡ false
+    name-unfit z = unfit (Name c w) e refl (name-fit ∙ wrote-refused (rw name-part at h) z .0)
+
+  module _ (c w : ℕ) (e : Blank c w ≡ getD L j End) {r : writings.Writing} {out′ : List ℕ} (h : Wrote (isInside out c w) out c (replicate w 32) r out′) where
+    pub blank-next : Lines L ns nm out′ n m (j + 1)
+    unfolding fieldFits fieldText
+    blank-next = next (Blank c w) e refl n m (omega arith) (omega arith) out′ refl (h .buffer ∙ rw (inside (Blank c w) e refl))
+
+-- a value that does not fit has no line
+pub refused-line : (r : Record) (line : List ℕ) → fitsAll r ≡ false → SpelledAs r false line
+refused-line r line h = record {
+  answer = sym h;
+  text = λ y.
+      let z : _≡_ {A = ℕ} 0 1 = cc in
+      absurd (omega arith);
+}
+
+-- ---- the whole record into a buffer
+
+module _ (before : List ℕ) (r : Record) where
+  pub written-short : length before < 74 → Written before r 21 before
+  written-short h = record { answer = rw (lt-leb _ _ h); buffer = rw (lt-leb _ _ h) }
+
+  module _ (h : 74 ≤ length before) where
+    pub written-unfit : fitsAll r ≡ false → Written before r 20 before
+    written-unfit n = record { answer = rw (le-leb _ _ h, n); buffer = rw (le-leb _ _ h, n) }
+
+    pub written-all : fitsAll r ≡ true → (after : List ℕ) → after ≡ lineOf r ++ drop 74 before → Written before r 0 after
+    written-all y after e = record { answer = rw (le-leb _ _ h, y); buffer = rw (le-leb _ _ h, y) e }

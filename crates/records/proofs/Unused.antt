@@ -1,0 +1,36 @@
+-- One step of `every` at an index of a list, and what the machine makes of a number that is 0. Assumes nothing.
+use mathlib.Core.Bool.{Bool, true, false}
+use mathlib.Core.List.{List}
+use mathlib.Core.Path.{_≡_, refl}
+use Prim.Native.Nat.{ℕ, _+_, _≤_, _<_, _-_}
+use native.Mathlib.Numerals.{add-one}
+use native.Mathlib.Omega.{arith}
+use lib.IntN.{ℤ, pos, negsuc}
+use lib.ListN.{length, getD, drop, drop-of-length-le}
+use lib.Seq.{drop-cons}
+use mir.Syntax.{w32}
+use mir.Val.{SFits, ofZ}
+use borrow.Author.Tests.{eq-eqb, ne-eqb}
+use Rattle.records.specs.Writing.{every, isZero}
+
+module _ {A : Type 0} (p : A → Bool) (l : List A) (i : ℕ) (d : A) where
+  pub every-end : length l ≤ i → every p (drop i l) ≡ true
+  unfolding every
+  every-end h = rw (drop-of-length-le l h)
+
+  pub every-more : i < length l → p (getD l i d) ≡ true → every p (drop i l) ≡ every p (drop (i + 1) l)
+  unfolding every
+  every-more h e = rw (add-one, drop-cons l i d h, e)
+
+  pub every-stop : i < length l → p (getD l i d) ≡ false → every p (drop i l) ≡ false
+  unfolding every
+  every-stop h e = rw (drop-cons l i d h, e)
+
+-- a number whose bits are 0 is 0, and no other is
+pub zero-bits : (z : ℤ) → SFits w32 z → ofZ w32 z ≡ 0 → isZero z ≡ true
+zero-bits (pos n) f e = eq-eqb n 0 e
+zero-bits (negsuc n) f e = absurd (omega (arith, f .sfits, e))
+
+pub some-bits : (z : ℤ) → (ofZ w32 z ≡ 0 → ⊥) → isZero z ≡ false
+some-bits (pos n) e = ne-eqb n 0 e
+some-bits (negsuc n) e = refl

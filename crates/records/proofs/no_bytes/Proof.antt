@@ -1,0 +1,56 @@
+-- `records::no_bytes` meets its contract. The loop's invariant: what is left is 0 exactly if the whole is. Assumes nothing.
+use denote.Ref.{now}
+use mathlib.Core.Path.{_≡_, refl, sym, _∙_}
+use Prim.Native.Nat.{_-_}
+use lib.Dec.{eqb}
+use lib.ListN.{length, drop}
+use borrow.Author.Needs.{needs}
+use borrow.Author.Tests.{eq-eqb, ne-eqb}
+use Rattle.records.specs.Writing.{noBytes}
+use Rattle.records.proofs.Unused.{every-end, every-more, every-stop}
+use Rattle.records.proofs.no_bytes.Statement.{statement}
+use Rattle.records.proofs.no_bytes.Tie as tie
+
+abbrev Inv-loop : tie.InvT-loop
+Inv-loop name from i₀ i = noBytes (drop from name) ≡ noBytes (drop i name)
+
+abbrev μ-loop : tie.MeasureT-loop
+μ-loop name from i₀ i = length name - i
+
+loop-holds : tie.Need-loop-holds Inv-loop μ-loop
+loop-holds c = refl
+
+shared-slice-read-if1 : tie.Need-shared-slice-read-if1 Inv-loop μ-loop
+shared-slice-read-if1 c = search needs
+
+returns : tie.Need-returns Inv-loop μ-loop
+returns c =
+    sym (c .before .before .before .loop .inv ∙ every-stop (λ b. eqb b 0) (now (c .before .before .before .before .args .name)) (c .before .before .before .loop .i) 0 (c .before .before .loop-test .taken) (ne-eqb _ _ (c .if1 .taken)))
+
+add-i : tie.Need-add-i Inv-loop μ-loop
+add-i c = search needs
+
+loop-less : tie.Need-loop-less Inv-loop μ-loop
+loop-less c = search needs
+
+loop-again : tie.Need-loop-again Inv-loop μ-loop
+loop-again c =
+    c .before .before .before .loop .inv
+    ∙ every-more (λ b. eqb b 0) (now (c .before .before .before .before .args .name)) (c .before .before .before .loop .i) 0 (c .before .before .loop-test .taken) (eq-eqb _ _ (c .if1 .left))
+
+returns-2 : tie.Need-returns-2 Inv-loop μ-loop
+returns-2 c = sym (c .before .loop .inv ∙ every-end (λ b. eqb b 0) (now (c .before .before .args .name)) (c .before .loop .i) 0 (c .loop-test .left))
+
+pub no-bytes-spec : {M : Type 1} → statement M
+no-bytes-spec =
+    tie.close
+    (tie.spec
+    Inv-loop
+    μ-loop
+    loop-holds
+    shared-slice-read-if1
+    returns
+    add-i
+    loop-less
+    loop-again
+    returns-2)

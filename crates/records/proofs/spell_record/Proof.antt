@@ -1,0 +1,260 @@
+-- `records::spell_record` meets its contract. The loop's invariant, `Lines`: the columns so far are written, and what is left decides.
+-- Assumes nothing.
+use mathlib.Core.Path.{_≡_, refl, sym, _∙_}
+use Prim.Native.Nat.{_-_}
+use native.Mathlib.Omega.{arith}
+use lib.ListN.{length, getD}
+use mir.Facts.{toZ-ofZ}
+use mir.Syntax.{w32}
+use borrow.Author.Needs.{needs}
+use Rattle.records.specs.Layout.{layoutOf}
+use Rattle.records.specs.Writing.{fitsAll, lineOf}
+use Rattle.records.specs.declared.Field.the-variants.{End, Letters, Number, Name, Blank}
+use Rattle.records.proofs.Along.{Room}
+use Rattle.records.proofs.Lines.{refused-line, Lines, start, room, ends, letters-next, number-next, number-unfit, name-next, name-unfit, blank-next}
+use Rattle.records.proofs.spell_record.Statement.{statement}
+use Rattle.records.proofs.spell_record.Tie as tie
+
+abbrev Inv-loop : tie.InvT-loop
+Inv-loop kind numbers name line₀ n₀ m₀ j₀ line n m j = Lines (layoutOf kind) numbers name line n m j
+
+abbrev μ-loop : tie.MeasureT-loop
+μ-loop kind numbers name line₀ n₀ m₀ j₀ line n m j = length (layoutOf kind) - j
+
+-- the field is type letters
+letters-is : (c : tie.After-f Inv-loop μ-loop) → Letters (c .f .given .0 .0) (c .f .given .0 .1 .0) ≡ getD (layoutOf (c .before .before .before .before .before .before .args .r .kind)) (c .before .before .before .loop .j) End
+letters-is c = sym (c .f .given .1) ∙ c .before .before .field-of .ensures
+
+letters-room : (c : tie.After-f Inv-loop μ-loop) → Room (layoutOf (c .before .before .before .before .before .before .args .r .kind)) (Letters (c .f .given .0 .0) (c .f .given .0 .1 .0)) (c .before .before .before .loop .n) (c .before .before .before .loop .m) (c .before .before .before .loop .j)
+letters-room c = room (c .before .before .before .loop .inv) _ (letters-is c) refl
+
+-- the field is a number
+number-is : (c : tie.After-f2 Inv-loop μ-loop) → Number (c .f2 .given .0 .0) (c .f2 .given .0 .1 .0) ≡ getD (layoutOf (c .before .before .before .before .before .before .args .r .kind)) (c .before .before .before .loop .j) End
+number-is c = sym (c .f2 .given .1) ∙ c .before .before .field-of .ensures
+
+number-room : (c : tie.After-f2 Inv-loop μ-loop) → Room (layoutOf (c .before .before .before .before .before .before .args .r .kind)) (Number (c .f2 .given .0 .0) (c .f2 .given .0 .1 .0)) (c .before .before .before .loop .n) (c .before .before .before .loop .m) (c .before .before .before .loop .j)
+number-room c = room (c .before .before .before .loop .inv) _ (number-is c) refl
+
+-- the field is a name
+name-is : (c : tie.After-f3 Inv-loop μ-loop) → Name (c .f3 .given .0 .0) (c .f3 .given .0 .1 .0) ≡ getD (layoutOf (c .before .before .before .before .before .before .args .r .kind)) (c .before .before .before .loop .j) End
+name-is c = sym (c .f3 .given .1) ∙ c .before .before .field-of .ensures
+
+name-room : (c : tie.After-f3 Inv-loop μ-loop) → Room (layoutOf (c .before .before .before .before .before .before .args .r .kind)) (Name (c .f3 .given .0 .0) (c .f3 .given .0 .1 .0)) (c .before .before .before .loop .n) (c .before .before .before .loop .m) (c .before .before .before .loop .j)
+name-room c = room (c .before .before .before .loop .inv) _ (name-is c) refl
+
+-- the field is blanks
+blank-is : (c : tie.After-f4 Inv-loop μ-loop) → Blank (c .f4 .given .0 .0) (c .f4 .given .0 .1 .0) ≡ getD (layoutOf (c .before .before .before .before .before .before .args .r .kind)) (c .before .before .before .loop .j) End
+blank-is c = sym (c .f4 .given .1) ∙ c .before .before .field-of .ensures
+
+blank-room : (c : tie.After-f4 Inv-loop μ-loop) → Room (layoutOf (c .before .before .before .before .before .before .args .r .kind)) (Blank (c .f4 .given .0 .0) (c .f4 .given .0 .1 .0)) (c .before .before .before .loop .n) (c .before .before .before .loop .m) (c .before .before .before .loop .j)
+blank-room c = room (c .before .before .before .loop .inv) _ (blank-is c) refl
+
+loop-holds : tie.Need-loop-holds Inv-loop μ-loop
+loop-holds c = start _ _ _ _ (search needs) (search needs) (search needs)
+
+field-of-requires : tie.Need-field-of-requires Inv-loop μ-loop
+field-of-requires c κs = search needs
+
+enum-told : tie.Need-enum-told Inv-loop μ-loop
+enum-told c = search needs
+
+array-write-line : tie.Need-array-write-line Inv-loop μ-loop
+array-write-line c = omega (arith, c .before .before .before .loop .inv .long)
+
+array-write-line-2 : tie.Need-array-write-line-2 Inv-loop μ-loop
+array-write-line-2 c = search needs
+
+slice-aggregate-no-numbers : tie.Need-slice-aggregate-no-numbers Inv-loop μ-loop
+slice-aggregate-no-numbers c = sym (c .before .before .before .before .loop .inv .many)
+
+no-numbers-requires : tie.Need-no-numbers-requires Inv-loop μ-loop
+no-numbers-requires c κs = search needs
+
+slice-aggregate-no-bytes : tie.Need-slice-aggregate-no-bytes Inv-loop μ-loop
+slice-aggregate-no-bytes c = sym (c .before .before .before .before .before .before .loop .inv .wide)
+
+no-bytes-requires : tie.Need-no-bytes-requires Inv-loop μ-loop
+no-bytes-requires c κs = search needs
+
+returns : tie.Need-returns Inv-loop μ-loop
+unfolding fitsAll lineOf
+returns c =
+    let d = ends (c .before .before .before .before .before .before .before .loop .inv) (sym (c .before .before .before .before .enum-told .given .1) ∙ c .before .before .before .before .before .before .field-of .ensures) in
+    record { answer = rw (c .before .before .no-numbers .ensures, c .no-bytes .ensures) (sym (d .0)); text = λ y. d .1 }
+
+enum-known-f : tie.Need-enum-known-f Inv-loop μ-loop
+enum-known-f c = search needs
+
+array-write-line-3 : tie.Need-array-write-line-3 Inv-loop μ-loop
+array-write-line-3 c = omega (arith, c .before .before .before .before .loop .inv .long)
+
+array-write-line-4 : tie.Need-array-write-line-4 Inv-loop μ-loop
+array-write-line-4 c = search needs
+
+add-j : tie.Need-add-j Inv-loop μ-loop
+add-j c = omega (arith, letters-room (c .before))
+
+loop-less : tie.Need-loop-less Inv-loop μ-loop
+loop-less c = omega (arith, letters-room (c .before))
+
+loop-again : tie.Need-loop-again Inv-loop μ-loop
+loop-again c = letters-next (c .before .before .before .before .loop .inv) _ _ (letters-is (c .before))
+
+enum-known-f-2 : tie.Need-enum-known-f-2 Inv-loop μ-loop
+enum-known-f-2 c = search needs
+
+slice-aggregate-write-number : tie.Need-slice-aggregate-write-number Inv-loop μ-loop
+slice-aggregate-write-number c = sym (c .before .before .before .before .before .loop .inv .long)
+
+mul-write-number : tie.Need-mul-write-number Inv-loop μ-loop
+mul-write-number c = omega (arith, number-room (c .before .before))
+
+array-copy-out-write-number : tie.Need-array-copy-out-write-number Inv-loop μ-loop
+array-copy-out-write-number c = omega (arith, number-room (c .before .before), c .before .before .before .before .before .loop .inv .many)
+
+write-number-requires : tie.Need-write-number-requires Inv-loop μ-loop
+write-number-requires c κs = search needs
+
+enum-told-2 : tie.Need-enum-told-2 Inv-loop μ-loop
+enum-told-2 c = search needs
+
+enum-told-3 : tie.Need-enum-told-3 Inv-loop μ-loop
+enum-told-3 c = search needs
+
+returns-2 : tie.Need-returns-2 Inv-loop μ-loop
+unfolding fitsAll
+returns-2 c =
+    let p = c .before .before .before .before in
+    refused-line _ _ (number-unfit (p .before .before .before .before .before .before .loop .inv) _ _ (number-is (p .before .before .before)) (toZ-ofZ {w = w32} (record { sfits = p .write-number-arg .given })) (c .before .before .before .write-number .ensures) (c .enum-told3 .given .1))
+
+add-n : tie.Need-add-n Inv-loop μ-loop
+add-n c = omega (arith, number-room (c .before .before .before .before .before .before .before))
+
+add-j-2 : tie.Need-add-j-2 Inv-loop μ-loop
+add-j-2 c = omega (arith, number-room (c .before .before .before .before .before .before .before))
+
+loop-less-2 : tie.Need-loop-less-2 Inv-loop μ-loop
+loop-less-2 c = omega (arith, number-room (c .before .before .before .before .before .before .before))
+
+loop-again-2 : tie.Need-loop-again-2 Inv-loop μ-loop
+loop-again-2 c =
+    let p = c .before .before .before .before in
+    number-next (p .before .before .before .before .before .before .loop .inv) _ _ (number-is (p .before .before .before)) (toZ-ofZ {w = w32} (record { sfits = p .write-number-arg .given })) (c .before .before .before .write-number .ensures) (c .enum-told2 .given .1)
+
+enum-known-f-3 : tie.Need-enum-known-f-3 Inv-loop μ-loop
+enum-known-f-3 c = search needs
+
+add-e : tie.Need-add-e Inv-loop μ-loop
+add-e c = omega (arith, name-room (c .before))
+
+slice-aggregate-write-name : tie.Need-slice-aggregate-write-name Inv-loop μ-loop
+slice-aggregate-write-name c = sym (c .before .before .before .before .before .loop .inv .long)
+
+sub-write-name : tie.Need-sub-write-name Inv-loop μ-loop
+sub-write-name c = search needs
+
+part-write-name-start : tie.Need-part-write-name-start Inv-loop μ-loop
+part-write-name-start c = search needs
+
+part-write-name-end : tie.Need-part-write-name-end Inv-loop μ-loop
+part-write-name-end c = omega (arith, name-room (c .before .before .before), c .before .before .before .before .before .before .loop .inv .wide)
+
+write-name-requires : tie.Need-write-name-requires Inv-loop μ-loop
+write-name-requires c κs = search needs
+
+enum-told-4 : tie.Need-enum-told-4 Inv-loop μ-loop
+enum-told-4 c = search needs
+
+enum-told-5 : tie.Need-enum-told-5 Inv-loop μ-loop
+enum-told-5 c = search needs
+
+returns-3 : tie.Need-returns-3 Inv-loop μ-loop
+unfolding fitsAll
+returns-3 c =
+    let p = c .before .before .before .before .before .before .before .before in
+    refused-line _ _ (name-unfit (p .before .before .before .loop .inv) _ _ (name-is p) (c .before .before .before .write-name .ensures) (c .enum-told5 .given .1))
+
+add-j-3 : tie.Need-add-j-3 Inv-loop μ-loop
+add-j-3 c = omega (arith, name-room (c .before .before .before .before .before .before .before .before))
+
+loop-less-3 : tie.Need-loop-less-3 Inv-loop μ-loop
+loop-less-3 c = omega (arith, name-room (c .before .before .before .before .before .before .before .before))
+
+loop-again-3 : tie.Need-loop-again-3 Inv-loop μ-loop
+loop-again-3 c =
+    let p = c .before .before .before .before .before .before .before .before in
+    name-next (p .before .before .before .loop .inv) _ _ (name-is p) (c .before .before .before .write-name .ensures) (c .enum-told4 .given .1)
+
+enum-known-f-4 : tie.Need-enum-known-f-4 Inv-loop μ-loop
+enum-known-f-4 c = search needs
+
+slice-aggregate-write-blank : tie.Need-slice-aggregate-write-blank Inv-loop μ-loop
+slice-aggregate-write-blank c = sym (c .before .before .before .before .before .loop .inv .long)
+
+write-blank-requires : tie.Need-write-blank-requires Inv-loop μ-loop
+write-blank-requires c κs = search needs
+
+add-j-4 : tie.Need-add-j-4 Inv-loop μ-loop
+add-j-4 c = omega (arith, blank-room (c .before .before .before .before))
+
+loop-less-4 : tie.Need-loop-less-4 Inv-loop μ-loop
+loop-less-4 c = omega (arith, blank-room (c .before .before .before .before))
+
+loop-again-4 : tie.Need-loop-again-4 Inv-loop μ-loop
+loop-again-4 c =
+    let p = c .before .before .before .before in
+    blank-next (p .before .before .before .loop .inv) _ _ (blank-is p) (c .before .write-blank .ensures)
+
+pub spell-record-spec : {M : Type 1} → statement M
+spell-record-spec =
+    tie.close
+    (tie.spec
+    Inv-loop
+    μ-loop
+    loop-holds
+    field-of-requires
+    enum-told
+    array-write-line
+    array-write-line-2
+    slice-aggregate-no-numbers
+    no-numbers-requires
+    slice-aggregate-no-bytes
+    no-bytes-requires
+    returns
+    enum-known-f
+    array-write-line-3
+    array-write-line-4
+    add-j
+    loop-less
+    loop-again
+    enum-known-f-2
+    slice-aggregate-write-number
+    mul-write-number
+    array-copy-out-write-number
+    write-number-requires
+    enum-told-2
+    enum-told-3
+    returns-2
+    add-n
+    add-j-2
+    loop-less-2
+    loop-again-2
+    enum-known-f-3
+    add-e
+    slice-aggregate-write-name
+    sub-write-name
+    part-write-name-start
+    part-write-name-end
+    write-name-requires
+    enum-told-4
+    enum-told-5
+    returns-3
+    add-j-3
+    loop-less-3
+    loop-again-3
+    enum-known-f-4
+    slice-aggregate-write-blank
+    write-blank-requires
+    add-j-4
+    loop-less-4
+    loop-again-4)

@@ -1,0 +1,107 @@
+-- What a record's bytes say (document 01, "A single record, of the kind the caller names"), over any layout. Assumes nothing.
+--   faultOf f s      the refusal that field f of the record s gives: 0, 3, 5 or 7
+--   numbersIn, nameIn   what the field adds to the record's numbers and to its name
+--   firstFault L s   the first refusal along the layout L, with its column
+--   readingOf k s    the answer to a record of kind k
+use mathlib.Core.Bool.{cond, _&&_}
+use mathlib.Core.List.{List, [], _∷_, _++_}
+use Prim.Native.Nat.{ℕ, zero, suc}
+use lib.Dec.{eqb}
+use lib.IntN.{ℤ, pos}
+use lib.ListN.{length, getD, replicate}
+use lib.Seq.{sets}
+use Rattle.fields.specs.Place.{bytesAt}
+use Rattle.fields.specs.Number.{numberAt}
+use Rattle.fields.specs.Text.{isName, isBlanks, textAt}
+use Rattle.fields.specs.Answer.{numberRefusal, valueOf, textRefusal}
+use Rattle.records.specs.declared.Kind.{Kind}
+use Rattle.records.specs.declared.Field.{Field}
+use Rattle.records.specs.declared.Field.the-variants.{End, Letters, Number, Name, Blank}
+use Rattle.records.specs.declared.Record.{Record}
+use Rattle.records.specs.declared.Reading.{Reading}
+use Rattle.records.specs.Layout.{layoutOf, startOf}
+
+-- ---- one field
+
+-- "3: type letters wrong"; "7: letters are H1 where an H is due (then not 3)". a, b are due and x, y stand there
+abbrev pub lettersFault : ℕ → ℕ → ℕ → ℕ → ℕ
+lettersFault a b x y = cond (eqb x a && eqb y b) 0 (cond (eqb a 72 && (eqb x 72 && eqb y 49)) 7 3)
+
+unfoldable pub faultOf : Field → List ℕ → ℕ
+faultOf End s = 0
+faultOf (Letters a b) s = lettersFault a b (getD s 0 0) (getD s 1 0)
+faultOf (Number c w) s = numberRefusal (numberAt s c w)
+faultOf (Name c w) s = textRefusal (textAt isName s c w)
+faultOf (Blank c w) s = textRefusal (textAt isBlanks s c w)
+
+-- "its numbers in column order and its name bytes"
+unfoldable pub numbersIn : Field → List ℕ → List ℤ
+numbersIn End s = []
+numbersIn (Letters a b) s = []
+numbersIn (Number c w) s = valueOf (numberAt s c w) ∷ []
+numbersIn (Name c w) s = []
+numbersIn (Blank c w) s = []
+
+unfoldable pub nameIn : Field → List ℕ → List ℕ
+nameIn End s = []
+nameIn (Letters a b) s = []
+nameIn (Number c w) s = []
+nameIn (Name c w) s = bytesAt s c w
+nameIn (Blank c w) s = []
+
+-- ---- all fields of a layout, in column order
+
+unfoldable pub over : {A : Type 0} → (Field → List ℕ → List A) → List Field → List ℕ → List A
+over g [] s = []
+over g (f ∷ fs) s = g f s ++ over g fs s
+
+-- a refusal's number and column; 0 and 0 where there is none
+pub record Fault : Type 0 where
+  pub number : ℕ
+  pub column : ℕ
+
+abbrev pub noFault : Fault
+noFault = record { number = 0; column = 0 }
+
+-- the fault n at column c, or p where n is 0
+abbrev pub faultAt : ℕ → ℕ → Fault → Fault
+faultAt zero c p = p
+faultAt (suc n) c p = record { number = suc n; column = c }
+
+unfoldable pub firstFault : List Field → List ℕ → Fault
+firstFault [] s = noFault
+firstFault (f ∷ fs) s = faultAt (faultOf f s) (startOf f) (firstFault fs s)
+
+-- ---- the record
+
+-- "entries that the kind lacks are 0"
+abbrev pub zeros : List ℤ
+zeros = replicate 16 (pos 0)
+
+abbrev pub noName : List ℕ
+noName = replicate 40 0
+
+-- "Acceptance is number 0 at 0, 0"
+abbrev pub accepted : Record → Reading
+accepted r = record { number = 0; place = 0; column = 0; value = r }
+
+-- "record number 1"; "Refused, its value is the named kind with all else 0"
+abbrev pub refusedAt : Kind → ℕ → ℕ → Reading
+refusedAt k n c = record { number = n; place = 1; column = c; value = record { kind = k; numbers = zeros; name = noName } }
+
+abbrev pub valueIn : Kind → List ℕ → Record
+valueIn k s = record { kind = k; numbers = sets zeros 0 (over numbersIn (layoutOf k) s); name = sets noName 0 (over nameIn (layoutOf k) s) }
+
+abbrev pub fieldsBy : Kind → List ℕ → ℕ → ℕ → Reading
+fieldsBy k s zero c = accepted (valueIn k s)
+fieldsBy k s (suc n) c = refusedAt k (suc n) c
+
+unfoldable pub fieldsOf : Kind → List ℕ → Reading
+fieldsOf k s = fieldsBy k s (firstFault (layoutOf k) s .number) (firstFault (layoutOf k) s .column)
+
+-- "not 74 bytes is 1 at column 1; then 2, 3, 5"; "2: byte 73 or 74 wrong, the first wrong"
+unfoldable pub readingOf : Kind → List ℕ → Reading
+readingOf k s =
+    cond (eqb (length s) 74)
+    (cond (eqb (getD s 72 0) 13) (cond (eqb (getD s 73 0) 10) (fieldsOf k s) (refusedAt k 2 74)) (refusedAt k 2 73))
+    (refusedAt k 1 1)

@@ -1,0 +1,501 @@
+// The records of a file (document 01, "The file", "A single record", "A record view"): read, written
+// and viewed. The layout of each kind stands once, in the functions named after the kinds, and is
+// read by one reader and one writer. Every public function takes every input.
+//
+// The contracts cite `specs/`: `Layout` has the layouts, `Reading` and `Writing` say what a record's
+// bytes and a record's value are to each other, `View` is a record of a file.
+use fields::Number;
+use fields::Text;
+use fields::Writing;
+ghost use mathlib.Core.Path.{_≡_};
+ghost use mathlib.Core.Bool.{true};
+ghost use Prim.Native.Nat.{ℕ, _+_, _-_, _≤_, _<_};
+ghost use lib.ListN.{length, getD, take, drop};
+ghost use lib.Seq.{sets};
+ghost use Rattle.records.specs.Layout.{meshLayout, layerLayout, nodeLayout, lineLayout, coordinatesLayout, areaLayout, loopLayout, layoutOf};
+ghost use Rattle.records.specs.Reading.{lettersFault, accepted, refusedAt, fieldsOf, readingOf};
+ghost use Rattle.records.specs.Writing.{noNumbers, noBytes, SpelledAs, Written};
+ghost use Rattle.records.specs.View.{recordOf, numberIn};
+
+// The seven kinds: M, H, N, L, coordinates, A and loop.
+pub enum Kind {
+    Mesh,
+    Layer,
+    Node,
+    Line,
+    Coordinates,
+    Area,
+    Loop,
+}
+
+// A field of a layout, with its first column and its width: type letters, a number, a name, or
+// blanks; or no field.
+pub enum Field {
+    End,
+    Letters(u8, u8),
+    Number(usize, usize),
+    Name(usize, usize),
+    Blank(usize, usize),
+}
+
+// A record's value: its kind, its numbers in column order and its name bytes. Entries that the kind
+// lacks are 0.
+pub struct Record {
+    pub kind: Kind,
+    pub numbers: [i32; 16],
+    pub name: [u8; 40],
+}
+
+// What reading finds: a refusal's number with its place, record and column, or 0 at 0, 0; and the
+// value.
+pub struct Reading {
+    pub number: u32,
+    pub place: u32,
+    pub column: usize,
+    pub value: Record,
+}
+
+// ---- the layouts, in column order
+
+// Field `j` of an M record.
+fn mesh_field(j: usize) -> Field
+    ensures { λ r. ⌜ r ≡ getD meshLayout j Field.End ⌝ }
+{
+    match j {
+        0 => Field::Letters(b'M', b' '),
+        1 => Field::Number(3, 6), // mesh code
+        2 => Field::Name(9, 20),
+        3 => Field::Number(29, 3), // layers
+        4 => Field::Number(32, 5), // nodes
+        5 => Field::Number(37, 5), // lines
+        6 => Field::Number(42, 5), // areas
+        7 => Field::Number(47, 5), // points
+        8 => Field::Number(52, 5), // records
+        9 => Field::Blank(57, 16),
+        _ => Field::End,
+    }
+}
+
+// Field `j` of an H record.
+fn layer_field(j: usize) -> Field
+    ensures { λ r. ⌜ r ≡ getD layerLayout j Field.End ⌝ }
+{
+    match j {
+        0 => Field::Letters(b'H', b'2'),
+        1 => Field::Number(3, 2), // layer
+        2 => Field::Number(5, 5), // nodes
+        3 => Field::Number(10, 5), // lines
+        4 => Field::Number(15, 5), // areas
+        5 => Field::Number(20, 5), // points
+        6 => Field::Number(25, 5), // records
+        7 => Field::Blank(30, 1),
+        8 => Field::Number(31, 4), // first made
+        9 => Field::Blank(35, 1),
+        10 => Field::Number(36, 4), // last changed
+        11 => Field::Blank(40, 33),
+        _ => Field::End,
+    }
+}
+
+// Field `j` of an N record.
+fn node_field(j: usize) -> Field
+    ensures { λ r. ⌜ r ≡ getD nodeLayout j Field.End ⌝ }
+{
+    match j {
+        0 => Field::Letters(b'N', b' '),
+        1 => Field::Number(3, 2), // layer
+        2 => Field::Number(5, 2), // item
+        3 => Field::Number(7, 5), // serial
+        4 => Field::Number(12, 5), // X
+        5 => Field::Number(17, 5), // Y
+        6 => Field::Number(22, 2), // frame
+        7 => Field::Number(24, 2), // count
+        8 => Field::Number(26, 5), // line number 1
+        9 => Field::Number(31, 5), // line number 2
+        10 => Field::Number(36, 5), // line number 3
+        11 => Field::Number(41, 5), // line number 4
+        12 => Field::Number(46, 5), // line number 5
+        13 => Field::Number(51, 5), // line number 6
+        14 => Field::Number(56, 5), // line number 7
+        15 => Field::Number(61, 5), // line number 8
+        16 => Field::Number(66, 5), // line number 9
+        17 => Field::Blank(71, 2),
+        _ => Field::End,
+    }
+}
+
+// Field `j` of an L record.
+fn line_field(j: usize) -> Field
+    ensures { λ r. ⌜ r ≡ getD lineLayout j Field.End ⌝ }
+{
+    match j {
+        0 => Field::Letters(b'L', b' '),
+        1 => Field::Number(3, 2), // layer
+        2 => Field::Number(5, 2), // item
+        3 => Field::Number(7, 5), // serial
+        4 => Field::Number(12, 6), // kind
+        5 => Field::Number(18, 5), // start node
+        6 => Field::Number(23, 1), // its link
+        7 => Field::Number(24, 5), // end node
+        8 => Field::Number(29, 1), // its link
+        9 => Field::Number(30, 5), // left code
+        10 => Field::Number(35, 5), // left area
+        11 => Field::Number(40, 5), // right code
+        12 => Field::Number(45, 5), // right area
+        13 => Field::Number(50, 6), // points
+        14 => Field::Number(56, 2),
+        15 => Field::Number(58, 3),
+        16 => Field::Blank(61, 12),
+        _ => Field::End,
+    }
+}
+
+// Field `j` of a coordinate record.
+fn coordinates_field(j: usize) -> Field
+    ensures { λ r. ⌜ r ≡ getD coordinatesLayout j Field.End ⌝ }
+{
+    match j {
+        0 => Field::Number(1, 5), // X 1
+        1 => Field::Number(6, 5), // Y 1
+        2 => Field::Number(11, 5), // X 2
+        3 => Field::Number(16, 5), // Y 2
+        4 => Field::Number(21, 5), // X 3
+        5 => Field::Number(26, 5), // Y 3
+        6 => Field::Number(31, 5), // X 4
+        7 => Field::Number(36, 5), // Y 4
+        8 => Field::Number(41, 5), // X 5
+        9 => Field::Number(46, 5), // Y 5
+        10 => Field::Number(51, 5), // X 6
+        11 => Field::Number(56, 5), // Y 6
+        12 => Field::Number(61, 5), // X 7
+        13 => Field::Number(66, 5), // Y 7
+        14 => Field::Blank(71, 2),
+        _ => Field::End,
+    }
+}
+
+// Field `j` of an A record.
+fn area_field(j: usize) -> Field
+    ensures { λ r. ⌜ r ≡ getD areaLayout j Field.End ⌝ }
+{
+    match j {
+        0 => Field::Letters(b'A', b' '),
+        1 => Field::Number(3, 2), // layer
+        2 => Field::Number(5, 5), // code
+        3 => Field::Number(10, 5), // serial
+        4 => Field::Number(15, 5), // X
+        5 => Field::Number(20, 5), // Y
+        6 => Field::Number(25, 4), // loops
+        7 => Field::Number(29, 4), // lines
+        8 => Field::Name(33, 40),
+        _ => Field::End,
+    }
+}
+
+// Field `j` of a loop record.
+fn loop_field(j: usize) -> Field
+    ensures { λ r. ⌜ r ≡ getD loopLayout j Field.End ⌝ }
+{
+    match j {
+        0 => Field::Number(1, 5), // serial
+        1 => Field::Number(6, 4), // line count
+        2 => Field::Number(10, 5), // line number 1
+        3 => Field::Number(15, 5), // line number 2
+        4 => Field::Number(20, 5), // line number 3
+        5 => Field::Number(25, 5), // line number 4
+        6 => Field::Number(30, 5), // line number 5
+        7 => Field::Number(35, 5), // line number 6
+        8 => Field::Number(40, 5), // line number 7
+        9 => Field::Number(45, 5), // line number 8
+        10 => Field::Number(50, 5), // line number 9
+        11 => Field::Number(55, 5), // line number 10
+        12 => Field::Number(60, 5), // line number 11
+        13 => Field::Number(65, 5), // line number 12
+        14 => Field::Blank(70, 3),
+        _ => Field::End,
+    }
+}
+
+// Field `j` of a record of the kind, counted from 0; `End` past the last.
+pub fn field_of(kind: Kind, j: usize) -> Field
+    ensures { λ r. ⌜ r ≡ getD (layoutOf kind) j Field.End ⌝ }
+{
+    match kind {
+        Kind::Mesh => mesh_field(j),
+        Kind::Layer => layer_field(j),
+        Kind::Node => node_field(j),
+        Kind::Line => line_field(j),
+        Kind::Coordinates => coordinates_field(j),
+        Kind::Area => area_field(j),
+        Kind::Loop => loop_field(j),
+    }
+}
+
+// ---- reading
+
+// A refusal at a column: record 1, and the named kind with all else 0.
+fn refused(kind: Kind, number: u32, column: usize) -> Reading
+    ensures { λ r. ⌜ r ≡ refusedAt kind number column ⌝ }
+{
+    let numbers = [0i32; 16];
+    let name = [0u8; 40];
+    Reading {
+        number,
+        place: 1,
+        column,
+        value: Record {
+            kind,
+            numbers,
+            name,
+        },
+    }
+}
+
+// Acceptance with a value.
+fn taken(kind: Kind, numbers: [i32; 16], name: [u8; 40]) -> Reading
+    ensures { λ r. ⌜ r ≡ accepted (record { kind = kind; numbers = numbers; name = name }) ⌝ }
+{
+    Reading {
+        number: 0,
+        place: 0,
+        column: 0,
+        value: Record {
+            kind,
+            numbers,
+            name,
+        },
+    }
+}
+
+// Letters `a`, `b` are due and `x`, `y` stand there: 0 where they are the same, 7 for H1 where an H
+// is due, else 3.
+fn letters_fault(a: u8, b: u8, x: u8, y: u8) -> u32
+    ensures { λ r. ⌜ r ≡ lettersFault a b x y ⌝ }
+{
+    if (x == a) & (y == b) {
+        return 0;
+    }
+    if (a == 72) & ((x == 72) & (y == 49)) {
+        return 7;
+    }
+    3
+}
+
+// `name` with the bytes `p` from index `m` on.
+fn put_name(name: [u8; 40], m: usize, p: &[u8]) -> [u8; 40]
+    requires { ⌜ m + length (now p) ≤ 40 ⌝ }
+    ensures { λ r. ⌜ r ≡ sets name m (now (p .entry)) ⌝ }
+{
+    let mut longer = name;
+    let mut i = 0;
+    while i < p.len() {
+        longer[m + i] = p[i];
+        i += 1;
+    }
+    longer
+}
+
+// The fields of 74 bytes along the layout of the kind: the first ill-formed one, or the value.
+fn read_fields(kind: Kind, s: &[u8]) -> Reading
+    requires { ⌜ length (now s) ≡ 74 ⌝ }
+    ensures { λ r. ⌜ r ≡ fieldsOf kind (now (s .entry)) ⌝ }
+{
+    let mut numbers = [0i32; 16];
+    let mut name = [0u8; 40];
+    let mut n: usize = 0;
+    let mut m: usize = 0;
+    let mut j: usize = 0;
+    loop {
+        let f = field_of(kind, j);
+        match f {
+            Field::End => {
+                return taken(kind, numbers, name);
+            }
+            Field::Letters(a, b) => {
+                let fault = letters_fault(a, b, s[0], s[1]);
+                if fault != 0 {
+                    return refused(kind, fault, 1);
+                }
+                j += 1;
+            }
+            Field::Number(c, w) => {
+                let answer = fields::read_number(s, c, w);
+                let Number::Value(v) = answer else {
+                    return refused(kind, 5, c);
+                };
+                numbers[n] = v;
+                n += 1;
+                j += 1;
+            }
+            Field::Name(c, w) => {
+                let answer = fields::read_name(s, c, w);
+                let Text::WellFormed = answer else {
+                    return refused(kind, 5, c);
+                };
+                let at = c - 1;
+                let longer = put_name(name, m, &s[at..at + w]);
+                name = longer;
+                m += w;
+                j += 1;
+            }
+            Field::Blank(c, w) => {
+                let answer = fields::read_blank(s, c, w);
+                let Text::WellFormed = answer else {
+                    return refused(kind, 5, c);
+                };
+                j += 1;
+            }
+        }
+    }
+}
+
+// Reads one record of the kind that the caller names. Refused: not 74 bytes (1 at column 1), then a
+// wrong line end (2 at 73 or 74), then wrong letters (3 at 1; 7 for H1 where an H is due), then the
+// first ill-formed field (5 at its start).
+pub fn read_record(kind: Kind, s: &[u8]) -> Reading
+    ensures { λ r. ⌜ r ≡ readingOf kind (now (s .entry)) ⌝ }
+{
+    if s.len() != 74 {
+        return refused(kind, 1, 1);
+    }
+    if s[72] != 13 {
+        return refused(kind, 2, 73);
+    }
+    if s[73] != 10 {
+        return refused(kind, 2, 74);
+    }
+    read_fields(kind, s)
+}
+
+// ---- writing
+
+// A record's 74 bytes, where its value fits.
+struct Spelled {
+    ok: bool,
+    line: [u8; 74],
+}
+
+// Whether the numbers from index `from` on are 0.
+fn no_numbers(numbers: &[i32], from: usize) -> bool
+    ensures { λ r. ⌜ r ≡ noNumbers (drop from (now (numbers .entry))) ⌝ }
+{
+    let mut i = from;
+    while i < numbers.len() {
+        if numbers[i] != 0 {
+            return false;
+        }
+        i += 1;
+    }
+    true
+}
+
+// Whether the name bytes from index `from` on are 0.
+fn no_bytes(name: &[u8], from: usize) -> bool
+    ensures { λ r. ⌜ r ≡ noBytes (drop from (now (name .entry))) ⌝ }
+{
+    let mut i = from;
+    while i < name.len() {
+        if name[i] != 0 {
+            return false;
+        }
+        i += 1;
+    }
+    true
+}
+
+// The record's bytes along the layout of its kind.
+fn spell_record(r: Record) -> Spelled
+    ensures { λ x. ⌜ SpelledAs r (x .ok) (x .line) ⌝ }
+{
+    let kind = r.kind;
+    let numbers = r.numbers;
+    let name = r.name;
+    let mut line = [32u8; 74];
+    let mut n: usize = 0;
+    let mut m: usize = 0;
+    let mut j: usize = 0;
+    loop {
+        let f = field_of(kind, j);
+        match f {
+            Field::End => {
+                line[72] = 13;
+                line[73] = 10;
+                let ok = no_numbers(&numbers, n) & no_bytes(&name, m);
+                return Spelled { ok, line };
+            }
+            Field::Letters(a, b) => {
+                line[0] = a;
+                line[1] = b;
+                j += 1;
+            }
+            Field::Number(c, w) => {
+                let answer = fields::write_number(&mut line, c, w, numbers[n]);
+                let Writing::Done = answer else {
+                    return Spelled { ok: false, line };
+                };
+                n += 1;
+                j += 1;
+            }
+            Field::Name(c, w) => {
+                let e = m + w;
+                let answer = fields::write_name(&mut line, c, w, &name[m..e]);
+                let Writing::Done = answer else {
+                    return Spelled { ok: false, line };
+                };
+                m = e;
+                j += 1;
+            }
+            Field::Blank(c, w) => {
+                fields::write_blank(&mut line, c, w);
+                j += 1;
+            }
+        }
+    }
+}
+
+// Writes a record into the first 74 bytes of `buf` and answers 0. Refused, with `buf` as it was: 21
+// where `buf` is under 74 bytes, then 20 for a value or an unused entry that doesn't fit.
+pub fn write_record(buf: &mut [u8], r: Record) -> u32
+    ensures { λ x. ⌜ Written (now (buf .entry)) r x (now (buf .exit)) ⌝ }
+{
+    if buf.len() < 74 {
+        return 21;
+    }
+    let spelled = spell_record(r);
+    let line = spelled.line;
+    if !spelled.ok {
+        return 20;
+    }
+    bytes::copy(&line, buf);
+    0
+}
+
+// ---- a record of a file
+
+// Record `k` of a file, counted from 1: the caller's own 74 bytes, or an empty part if there is
+// none.
+pub fn record_view(file: &[u8], k: usize) -> &[u8]
+    ensures { λ r. ⌜ now r ≡ recordOf (now (file .entry)) k ⌝ }
+{
+    if k == 0 {
+        return &file[0..0];
+    }
+    if file.len() / 74 < k {
+        return &file[0..0];
+    }
+    let e = k * 74;
+    let a = e - 74;
+    &file[a..e]
+}
+
+// The number in the `width` columns from `column` on of record `k` of a file, and 0 where there is
+// none.
+pub fn number_at(file: &[u8], k: usize, column: usize, width: usize) -> i32
+    ensures { λ r. ⌜ r ≡ numberIn (now (file .entry)) k column width ⌝ }
+{
+    let answer = fields::read_number(record_view(file, k), column, width);
+    let Number::Value(v) = answer else {
+        return 0;
+    };
+    v
+}
