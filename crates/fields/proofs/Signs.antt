@@ -3,12 +3,12 @@ use mathlib.Core.Bool.{Bool, true, false}
 use mathlib.Core.Path.{_≡_, refl, ap, _∙_}
 use Prim.Native.Nat.{ℕ, zero, suc, _+_, _<_}
 use native.Mathlib.Omega.{arith}
-use lib.Dec.{lit<}
-use lib.IntN.{ℤ, pos, negsuc, negℤ, _-ℤ_, +ℤ-idl}
-use lib.Signed.{ltZ}
-use mir.Facts.{toZ-ofZ, toZ-pos}
+use lib.Dec.{T, lit<}
+use lib.IntN.{natAbs, ℤ, pos, negsuc, negℤ, _-ℤ_, +ℤ-idl}
+use lib.Signed.{ltZ, nonNeg}
+use mir.Facts.{toZ-ofZ, toZ-pos, fits-natAbs}
 use mir.Syntax.{w32}
-use mir.Val.{SFits, toZ, ofZ}
+use mir.Val.{Fits, SFits, toZ, ofZ}
 use borrow.Author.Tests.{ltb-true}
 use Rattle.fields.specs.Number.{minus}
 use Rattle.fields.specs.declared.Number.the-variants.{Value}
@@ -31,6 +31,12 @@ module _ (v : ℤ) (f : SFits w32 v) where
           let z : _≡_ {A = Bool} true false = t in
           let z′ : _≡_ {A = ℕ} 0 1 = cc in
           absurd (omega arith)
+
+  -- `v as u32`
+  pub natural-fits : ltZ (toZ w32 (ofZ w32 v)) (pos 0) ≡ false → T (nonNeg (toZ w32 (ofZ w32 v))) × Fits w32 (natAbs (toZ w32 (ofZ w32 v)))
+  natural-fits t =
+      let n = is-natural t in
+      rw (toZ-ofZ f) (rw (n .1) tt, fits-natAbs tt f)
 
 -- `-v` of a small negative v, and of a small size
 module _ (m : ℕ) (small : suc m < 1000000) (v : ℤ) (f : SFits w32 v) (e : v ≡ negsuc m) where

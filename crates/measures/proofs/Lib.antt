@@ -1,0 +1,9 @@
+-- Laws of the crate's definitions. `SumLaws`, `MeasureLaws`, `LineLaws` and `Ground` have those that other crates and readers go by; the
+-- other files serve the proofs.
+pub mod SumLaws
+pub mod MeasureLaws
+pub mod LineLaws
+pub mod Ground
+pub mod Bounds
+pub mod Stepping
+pub mod Walking

@@ -1,0 +1,97 @@
+-- `measures::walk_record` meets its contract. The loop's invariant: the walk has gone along the first `i` points. Assumes nothing.
+use denote.Ref.{now}
+use mathlib.Core.Path.{_≡_, refl, _∙_}
+use Prim.Native.Nat.{_+_, _*_, _≤_, _-_}
+use native.Mathlib.Omega.{arith}
+use mir.Facts.{toZ-ofZ}
+use mir.Syntax.{w64}
+use borrow.Author.Needs.{needs}
+use Rattle.measures.specs.Points.{coordinateIn, pointIn}
+use Rattle.measures.specs.Walks.{along}
+use Rattle.measures.proofs.Stepping.{back}
+use Rattle.measures.proofs.Walking.{near-le, record-near, coordinate-small, along-next}
+use Rattle.measures.proofs.walk_record.Statement.{statement}
+use Rattle.measures.proofs.walk_record.Tie as tie
+
+abbrev Inv-loop : tie.InvT-loop
+Inv-loop s count at₀ i₀ at i = (i ≤ count) × (at ≡ along at₀ (pointIn s) i)
+
+abbrev μ-loop : tie.MeasureT-loop
+μ-loop s count at₀ i₀ at i = count - i
+
+-- X and Y, as the machine hands them on
+x-is : (c : tie.After-coordinate Inv-loop μ-loop) → back (c .coordinate .result) ≡ coordinateIn (now (c .before .before .before .before .args .s)) (1 + 10 * c .before .before .loop .i)
+x-is c = toZ-ofZ {w = w64} (record { sfits = c .coordinate .ok }) ∙ c .coordinate .ensures
+
+y-is : (c : tie.After-coordinate2 Inv-loop μ-loop) → back (c .coordinate2 .result) ≡ coordinateIn (now (c .before .before .before .before .before .args .s)) (6 + 10 * c .before .before .before .loop .i)
+y-is c = toZ-ofZ {w = w64} (record { sfits = c .coordinate2 .ok }) ∙ c .coordinate2 .ensures
+
+loop-holds : tie.Need-loop-holds Inv-loop μ-loop
+unfolding along
+loop-holds c = (search needs, refl)
+
+mul-coordinate : tie.Need-mul-coordinate Inv-loop μ-loop
+mul-coordinate c = search needs
+
+add-coordinate : tie.Need-add-coordinate Inv-loop μ-loop
+add-coordinate c = search needs
+
+coordinate-requires : tie.Need-coordinate-requires Inv-loop μ-loop
+coordinate-requires c κs = search needs
+
+mul-coordinate-2 : tie.Need-mul-coordinate-2 Inv-loop μ-loop
+mul-coordinate-2 c = search needs
+
+add-coordinate-2 : tie.Need-add-coordinate-2 Inv-loop μ-loop
+add-coordinate-2 c = search needs
+
+coordinate-requires-2 : tie.Need-coordinate-requires-2 Inv-loop μ-loop
+coordinate-requires-2 c κs = search needs
+
+step-requires : tie.Need-step-requires Inv-loop μ-loop
+step-requires c κs =
+    let l = c .before .before .before in
+    let s = l .before .before in (
+      rw (l .loop .inv .1) (near-le 1000000000000000 (record-near (now (s .args .s)) (s .pre .1) (l .loop .i)) (omega arith)),
+      rw (x-is (c .before)) (coordinate-small _ _),
+      rw (y-is c) (coordinate-small _ _),
+    )
+
+add-i : tie.Need-add-i Inv-loop μ-loop
+add-i c = search needs
+
+loop-less : tie.Need-loop-less Inv-loop μ-loop
+loop-less c = search needs
+
+loop-again : tie.Need-loop-again Inv-loop μ-loop
+unfolding pointIn
+loop-again c =
+    let l = c .before .before .before .before in
+    let s = l .before .before in (
+      omega arith,
+      c .step .ensures ∙ rw (x-is (c .before .before), y-is (c .before), l .loop .inv .1) (along-next (s .args .w) (pointIn (now (s .args .s))) (l .loop .i)),
+    )
+
+returns : tie.Need-returns Inv-loop μ-loop
+returns c =
+    let z : c .before .loop .i ≡ c .before .before .before .args .count = omega arith in
+    c .before .loop .inv .1 ∙ rw z
+
+pub walk-record-spec : {M : Type 1} → statement M
+walk-record-spec =
+    tie.close
+    (tie.spec
+    Inv-loop
+    μ-loop
+    loop-holds
+    mul-coordinate
+    add-coordinate
+    coordinate-requires
+    mul-coordinate-2
+    add-coordinate-2
+    coordinate-requires-2
+    step-requires
+    add-i
+    loop-less
+    loop-again
+    returns)

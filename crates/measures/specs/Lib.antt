@@ -1,0 +1,6 @@
+-- What the contracts of `measures` cite: document 01, "Measures".
+pub mod Sum
+pub mod Measures
+pub mod Points
+pub mod Walks
+pub mod Ground

@@ -1,0 +1,52 @@
+-- The points of a line in a file (document 01, "L": points 50-55; "Coordinates": seven X, Y pairs of width 5 in 1-70). Assumes nothing.
+--   linePoints file r   the points of the line whose L is record r: as many as it counts, from the records behind it
+--   measureIn file r    the line's measure
+--   walkedIn file r b   the same, of the line walked backwards if b
+use mathlib.Core.Bool.{Bool, cond}
+use mathlib.Core.List.{List, [], _∷_, _++_}
+use Prim.Native.Nat.{ℕ, zero, suc, _+_, _*_, _/_, _%_}
+use lib.Dec.{leb}
+use lib.IntN.{ℤ, pos, negsuc, negℤ}
+use Rattle.fields.specs.Number.{numberAt}
+use Rattle.fields.specs.Answer.{valueOf}
+use Rattle.records.specs.View.{recordOf, numberIn}
+use Rattle.measures.specs.Measures.{Point, lineMeasure}
+
+-- a coordinate counts where it is permitted, "X and Y 0 to 10000", and as 0 elsewhere, so that no sum can grow too large
+abbrev pub coordinateOf : ℤ → ℤ
+coordinateOf (pos n) = cond (leb n 10000) (pos n) (pos 0)
+coordinateOf (negsuc n) = pos 0
+
+unfoldable pub coordinateIn : List ℕ → ℕ → ℤ
+coordinateIn s c = coordinateOf (valueOf (numberAt s c 5))
+
+-- pair i of a coordinate record, counted from 0
+unfoldable pub pointIn : List ℕ → ℕ → Point
+pointIn s i = record { x = coordinateIn s (1 + 10 * i); y = coordinateIn s (6 + 10 * i) }
+
+-- point i of the line at record r, counted from 0: "Points take ceil(n/7) records"
+unfoldable pub pointAt : List ℕ → ℕ → ℕ → Point
+pointAt file r i = pointIn (recordOf file (r + 1 + i / 7)) (i % 7)
+
+-- "In coordinates the count alone decides, since (0,0) is a point."
+abbrev pub countOf : ℤ → ℕ
+countOf (pos n) = n
+countOf (negsuc n) = 0
+
+unfoldable pub pointCount : List ℕ → ℕ → ℕ
+pointCount file r = countOf (numberIn file r 50 6)
+
+-- f 0, f 1, .. f (n - 1)
+unfoldable pub firstOf : {A : Type 0} → (ℕ → A) → ℕ → List A
+firstOf f zero = []
+firstOf f (suc n) = firstOf f n ++ (f n ∷ [])
+
+unfoldable pub linePoints : List ℕ → ℕ → List Point
+linePoints file r = firstOf (pointAt file r) (pointCount file r)
+
+unfoldable pub measureIn : List ℕ → ℕ → ℤ
+measureIn file r = lineMeasure (linePoints file r)
+
+-- "negated for a line walked backwards"
+unfoldable pub walkedIn : List ℕ → ℕ → Bool → ℤ
+walkedIn file r back = cond back (negℤ (measureIn file r)) (measureIn file r)

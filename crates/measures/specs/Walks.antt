@@ -1,0 +1,39 @@
+-- How the code walks: a sum and the point where it stands. It serves the code and is no part of a promise. Assumes nothing.
+use mathlib.Core.Path.{_≡_}
+use Prim.Native.Nat.{ℕ, zero, suc, _≤_, _<_}
+use lib.IntN.{ℤ, pos, natAbs, _+ℤ_}
+use Rattle.measures.specs.Measures.{Point, cross}
+use Rattle.measures.specs.declared.Walk.{Walk}
+
+-- a whole number no larger than m, either way
+pub record Small (m : ℕ) (z : ℤ) : Type 0 where
+  pub small : natAbs z ≤ m
+
+-- where the walk stands
+abbrev pub standing : Walk → Point
+standing w = record { x = w .x; y = w .y }
+
+-- the walk, gone on to a point
+abbrev pub stepTo : Walk → Point → Walk
+stepTo w q = record { sum = w .sum +ℤ cross (standing w) q; x = q .x; y = q .y }
+
+-- the walk along f 0, f 1, .. f (n - 1)
+unfoldable pub along : Walk → (ℕ → Point) → ℕ → Walk
+along w f zero = w
+along w f (suc n) = stepTo (along w f n) (f n)
+
+-- nowhere yet: the corner (0,0), from where a first step adds 0
+abbrev pub begin : Walk
+begin = record { sum = pos 0; x = pos 0; y = pos 0 }
+
+-- a walk whose next step fits
+pub record Near (m : ℕ) (w : Walk) : Type 0 where
+  pub sum : Small m (w .sum)
+  pub x : Small 10000 (w .x)
+  pub y : Small 10000 (w .y)
+
+-- what one record takes of the points that are left: seven, or all
+pub record Seven (left part : ℕ) : Type 0 where
+  pub few : part ≤ 7
+  pub within : part ≤ left
+  pub all : part < 7 → part ≡ left

@@ -1,0 +1,12 @@
+-- `positions::refused` meets its contract: the pattern of 0.0 is the float 0. Assumes nothing.
+use mathlib.Core.Path.{refl}
+use lib.Ieee.{ofBits}
+use Rattle.positions.proofs.refused.Statement.{statement}
+use Rattle.positions.proofs.refused.Tie as tie
+
+returns : tie.Need-returns
+unfolding ofBits
+returns c = refl
+
+pub refused-spec : {M : Type 1} → statement M
+refused-spec = tie.close (tie.spec returns)

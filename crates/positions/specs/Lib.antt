@@ -1,0 +1,2 @@
+-- What the contracts of `positions` cite: document 01, "Latitude and longitude".
+pub mod Degrees
