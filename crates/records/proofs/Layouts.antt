@@ -1,15 +1,17 @@
 -- Layouts as lists: the code's way to a field, and what every kind's layout keeps. A kind's fields stand one after another in the
 -- columns 1 to 72; antt computes it. Assumes nothing.
 use mathlib.Core.Bool.{Bool, true, false, _&&_}
-use mathlib.Core.List.{List, [], _∷_}
-use mathlib.Core.Path.{_≡_, refl, sym}
-use Prim.Native.Nat.{ℕ, zero, suc, _+_, _-_, _≤_, _<_}
+use mathlib.Core.List.{List, [], _∷_, _++_}
+use mathlib.Core.Path.{_≡_, refl, sym, _∙_}
+use Prim.Native.Nat.{ℕ, zero, suc, _+_, _-_, _*_, _≤_, _<_}
+use native.Mathlib.Nat.{mul-zero, mul-suc, add-zero}
 use native.Mathlib.Omega.{arith}
 use lib.Dec.{ltb, eqb}
-use lib.ListN.{length, getD, List·getD-eq-default}
+use lib.ListN.{length, getD, drop, List·getD-eq-default}
+use lib.Seq.{getD-drop}
 use borrow.Author.Tests.{ltb-true, ltb-false, eqb-true}
 use types.Run.{OneOf}
-use Rattle.records.specs.Layout.{layoutOf, startOf, widthOf, numbersOf, bytesOf, total}
+use Rattle.records.specs.Layout.{row, layoutOf, startOf, widthOf, numbersOf, bytesOf, total}
 use Rattle.records.specs.declared.Field.the-variants.{End, Letters, Number, Name, Blank}
 use Rattle.records.specs.declared.Field.{Field}
 use Rattle.records.specs.declared.Kind.the-variants.{Mesh, Layer, Node, Line, Coordinates, Area, Loop}
@@ -21,13 +23,27 @@ abbrev pub Passed : ℕ → ℕ → Type 0
 Passed zero j = Unit {0}
 Passed (suc n) j = Passed n j × (OneOf (n ∷ []) j → ⊥)
 
-above : (n j : ℕ) → Passed n j → n ≤ j
+pub above : (n j : ℕ) → Passed n j → n ≤ j
 above zero j r = omega arith
 above (suc n) j r = omega (arith, above n j (r .0), r .1)
 
 -- past the last field there is none
-pub past-end : (L : List Field) (j : ℕ) → Passed (length L) j → End ≡ getD L j End
-past-end L j r = sym (List·getD-eq-default L End (above (length L) j r))
+pub past-end : (L : List Field) (j : ℕ) → length L ≤ j → End ≡ getD L j End
+past-end L j h = sym (List·getD-eq-default L End h)
+
+row-at : (c w n : ℕ) (fs : List Field) (i : ℕ) → i < n → getD (row c w n ++ fs) i End ≡ Number (c + w * i) w
+row-at c w zero fs i h = absurd (omega arith)
+row-at c w (suc n) fs zero h = rw (mul-zero, add-zero)
+row-at c w (suc n) fs (suc i) h =
+    let e : c + w + w * i ≡ c + (w * i + w) = omega arith in
+    row-at (c + w) w n fs i (omega arith) ∙ rw (mul-suc, e)
+
+-- a number of a row that starts behind the first d fields
+pub in-row : (L : List Field) (d c w n : ℕ) (fs : List Field) (j : ℕ) → drop d L ≡ row c w n ++ fs → d ≤ j → j - d < n → Number (c + w * (j - d)) w ≡ getD L j End
+in-row L d c w n fs j e l h =
+    let z : d + (j - d) ≡ j = omega arith in
+    let g : getD (drop d L) (j - d) End ≡ getD L j End = rw z at (getD-drop d L (j - d) End) in
+    sym (sym g ∙ rw e (row-at c w n fs (j - d) h))
 
 -- not the end
 abbrev pub isField : Field → Bool

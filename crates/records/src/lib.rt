@@ -110,15 +110,7 @@ fn node_field(j: usize) -> Field
         5 => Field::Number(17, 5), // Y
         6 => Field::Number(22, 2), // frame
         7 => Field::Number(24, 2), // count
-        8 => Field::Number(26, 5), // line number 1
-        9 => Field::Number(31, 5), // line number 2
-        10 => Field::Number(36, 5), // line number 3
-        11 => Field::Number(41, 5), // line number 4
-        12 => Field::Number(46, 5), // line number 5
-        13 => Field::Number(51, 5), // line number 6
-        14 => Field::Number(56, 5), // line number 7
-        15 => Field::Number(61, 5), // line number 8
-        16 => Field::Number(66, 5), // line number 9
+        8..=16 => Field::Number(26 + 5 * (j - 8), 5), // nine line numbers
         17 => Field::Blank(71, 2),
         _ => Field::End,
     }
@@ -155,20 +147,7 @@ fn coordinates_field(j: usize) -> Field
     ensures { λ r. ⌜ r ≡ getD coordinatesLayout j Field.End ⌝ }
 {
     match j {
-        0 => Field::Number(1, 5), // X 1
-        1 => Field::Number(6, 5), // Y 1
-        2 => Field::Number(11, 5), // X 2
-        3 => Field::Number(16, 5), // Y 2
-        4 => Field::Number(21, 5), // X 3
-        5 => Field::Number(26, 5), // Y 3
-        6 => Field::Number(31, 5), // X 4
-        7 => Field::Number(36, 5), // Y 4
-        8 => Field::Number(41, 5), // X 5
-        9 => Field::Number(46, 5), // Y 5
-        10 => Field::Number(51, 5), // X 6
-        11 => Field::Number(56, 5), // Y 6
-        12 => Field::Number(61, 5), // X 7
-        13 => Field::Number(66, 5), // Y 7
+        0..=13 => Field::Number(1 + 5 * j, 5), // seven X, Y pairs
         14 => Field::Blank(71, 2),
         _ => Field::End,
     }
@@ -199,18 +178,7 @@ fn loop_field(j: usize) -> Field
     match j {
         0 => Field::Number(1, 5), // serial
         1 => Field::Number(6, 4), // line count
-        2 => Field::Number(10, 5), // line number 1
-        3 => Field::Number(15, 5), // line number 2
-        4 => Field::Number(20, 5), // line number 3
-        5 => Field::Number(25, 5), // line number 4
-        6 => Field::Number(30, 5), // line number 5
-        7 => Field::Number(35, 5), // line number 6
-        8 => Field::Number(40, 5), // line number 7
-        9 => Field::Number(45, 5), // line number 8
-        10 => Field::Number(50, 5), // line number 9
-        11 => Field::Number(55, 5), // line number 10
-        12 => Field::Number(60, 5), // line number 11
-        13 => Field::Number(65, 5), // line number 12
+        2..=13 => Field::Number(10 + 5 * (j - 2), 5), // twelve line numbers
         14 => Field::Blank(70, 3),
         _ => Field::End,
     }

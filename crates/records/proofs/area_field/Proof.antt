@@ -1,6 +1,6 @@
 -- `records::area_field` meets its contract: each arm is the layout's field, and past the last there is none. Assumes nothing.
 use Rattle.records.specs.Layout.{areaLayout}
-use Rattle.records.proofs.Layouts.{past-end}
+use Rattle.records.proofs.Layouts.{above, past-end}
 use Rattle.records.proofs.area_field.Statement.{statement}
 use Rattle.records.proofs.area_field.Tie as tie
 
@@ -32,7 +32,7 @@ returns-9 : tie.Need-returns-9
 returns-9 c = rw (c .match .keys9)
 
 returns-10 : tie.Need-returns-10
-returns-10 c = past-end areaLayout (c .before .args .j) (c .match .rest)
+returns-10 c = past-end areaLayout (c .before .args .j) (above 9 _ (c .match .rest))
 
 pub area-field-spec : {M : Type 1} → statement M
 area-field-spec =

@@ -1,6 +1,6 @@
 -- `records::layer_field` meets its contract: each arm is the layout's field, and past the last there is none. Assumes nothing.
 use Rattle.records.specs.Layout.{layerLayout}
-use Rattle.records.proofs.Layouts.{past-end}
+use Rattle.records.proofs.Layouts.{above, past-end}
 use Rattle.records.proofs.layer_field.Statement.{statement}
 use Rattle.records.proofs.layer_field.Tie as tie
 
@@ -41,7 +41,7 @@ returns-12 : tie.Need-returns-12
 returns-12 c = rw (c .match .keys12)
 
 returns-13 : tie.Need-returns-13
-returns-13 c = past-end layerLayout (c .before .args .j) (c .match .rest)
+returns-13 c = past-end layerLayout (c .before .args .j) (above 12 _ (c .match .rest))
 
 pub layer-field-spec : {M : Type 1} → statement M
 layer-field-spec =

@@ -1,6 +1,6 @@
 -- `records::line_field` meets its contract: each arm is the layout's field, and past the last there is none. Assumes nothing.
 use Rattle.records.specs.Layout.{lineLayout}
-use Rattle.records.proofs.Layouts.{past-end}
+use Rattle.records.proofs.Layouts.{above, past-end}
 use Rattle.records.proofs.line_field.Statement.{statement}
 use Rattle.records.proofs.line_field.Tie as tie
 
@@ -56,7 +56,7 @@ returns-17 : tie.Need-returns-17
 returns-17 c = rw (c .match .keys17)
 
 returns-18 : tie.Need-returns-18
-returns-18 c = past-end lineLayout (c .before .args .j) (c .match .rest)
+returns-18 c = past-end lineLayout (c .before .args .j) (above 17 _ (c .match .rest))
 
 pub line-field-spec : {M : Type 1} → statement M
 line-field-spec =

@@ -1,74 +1,36 @@
 -- `records::loop_field` meets its contract: each arm is the layout's field, and past the last there is none. Assumes nothing.
+use mathlib.Core.Path.{refl}
+use native.Mathlib.Omega.{arith}
+use borrow.Author.Needs.{needs}
 use Rattle.records.specs.Layout.{loopLayout}
-use Rattle.records.proofs.Layouts.{past-end}
+use Rattle.records.proofs.Layouts.{past-end, in-row}
 use Rattle.records.proofs.loop_field.Statement.{statement}
 use Rattle.records.proofs.loop_field.Tie as tie
 
+sub-t4 : tie.Need-sub-t4
+sub-t4 c = search needs
+
+mul-t5 : tie.Need-mul-t5
+mul-t5 c = search needs
+
+add-t6 : tie.Need-add-t6
+add-t6 c = search needs
+
 returns : tie.Need-returns
-returns c = rw (c .match .keys1)
+returns c = search needs
 
 returns-2 : tie.Need-returns-2
-returns-2 c = rw (c .match .keys2)
+returns-2 c = search needs
 
 returns-3 : tie.Need-returns-3
-returns-3 c = rw (c .match .keys3)
+returns-3 c = search needs
 
 returns-4 : tie.Need-returns-4
-returns-4 c = rw (c .match .keys4)
+returns-4 c = in-row loopLayout 2 10 5 12 _ (c .before .before .args .j) refl (omega arith) (omega arith)
 
 returns-5 : tie.Need-returns-5
-returns-5 c = rw (c .match .keys5)
-
-returns-6 : tie.Need-returns-6
-returns-6 c = rw (c .match .keys6)
-
-returns-7 : tie.Need-returns-7
-returns-7 c = rw (c .match .keys7)
-
-returns-8 : tie.Need-returns-8
-returns-8 c = rw (c .match .keys8)
-
-returns-9 : tie.Need-returns-9
-returns-9 c = rw (c .match .keys9)
-
-returns-10 : tie.Need-returns-10
-returns-10 c = rw (c .match .keys10)
-
-returns-11 : tie.Need-returns-11
-returns-11 c = rw (c .match .keys11)
-
-returns-12 : tie.Need-returns-12
-returns-12 c = rw (c .match .keys12)
-
-returns-13 : tie.Need-returns-13
-returns-13 c = rw (c .match .keys13)
-
-returns-14 : tie.Need-returns-14
-returns-14 c = rw (c .match .keys14)
-
-returns-15 : tie.Need-returns-15
-returns-15 c = rw (c .match .keys15)
-
-returns-16 : tie.Need-returns-16
-returns-16 c = past-end loopLayout (c .before .args .j) (c .match .rest)
+returns-5 c = past-end loopLayout (c .before .before .args .j) (omega arith)
 
 pub loop-field-spec : {M : Type 1} → statement M
 loop-field-spec =
-    tie.close
-    (tie.spec
-    returns
-    returns-2
-    returns-3
-    returns-4
-    returns-5
-    returns-6
-    returns-7
-    returns-8
-    returns-9
-    returns-10
-    returns-11
-    returns-12
-    returns-13
-    returns-14
-    returns-15
-    returns-16)
+    tie.close (tie.spec sub-t4 mul-t5 add-t6 returns returns-2 returns-3 returns-4 returns-5)

@@ -1,6 +1,6 @@
 -- `records::mesh_field` meets its contract: each arm is the layout's field, and past the last there is none. Assumes nothing.
 use Rattle.records.specs.Layout.{meshLayout}
-use Rattle.records.proofs.Layouts.{past-end}
+use Rattle.records.proofs.Layouts.{above, past-end}
 use Rattle.records.proofs.mesh_field.Statement.{statement}
 use Rattle.records.proofs.mesh_field.Tie as tie
 
@@ -35,7 +35,7 @@ returns-10 : tie.Need-returns-10
 returns-10 c = rw (c .match .keys10)
 
 returns-11 : tie.Need-returns-11
-returns-11 c = past-end meshLayout (c .before .args .j) (c .match .rest)
+returns-11 c = past-end meshLayout (c .before .args .j) (above 10 _ (c .match .rest))
 
 pub mesh-field-spec : {M : Type 1} → statement M
 mesh-field-spec =
