@@ -23,9 +23,12 @@ abbrev pub Passed : ℕ → ℕ → Type 0
 Passed zero j = Unit {0}
 Passed (suc n) j = Passed n j × (OneOf (n ∷ []) j → ⊥)
 
+pub beyond : (n j : ℕ) → n ≤ j → (OneOf (n ∷ []) j → ⊥) → suc n ≤ j
+beyond n j l r = omega (arith, r)
+
 pub above : (n j : ℕ) → Passed n j → n ≤ j
 above zero j r = omega arith
-above (suc n) j r = omega (arith, above n j (r .0), r .1)
+above (suc n) j r = beyond n j (above n j (r .0)) (r .1)
 
 -- past the last field there is none
 pub past-end : (L : List Field) (j : ℕ) → length L ≤ j → End ≡ getD L j End

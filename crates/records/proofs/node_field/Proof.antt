@@ -3,7 +3,7 @@ use mathlib.Core.Path.{refl}
 use native.Mathlib.Omega.{arith}
 use borrow.Author.Needs.{needs}
 use Rattle.records.specs.Layout.{nodeLayout}
-use Rattle.records.proofs.Layouts.{above, past-end, in-row}
+use Rattle.records.proofs.Layouts.{above, beyond, past-end, in-row}
 use Rattle.records.proofs.node_field.Statement.{statement}
 use Rattle.records.proofs.node_field.Tie as tie
 
@@ -49,7 +49,7 @@ returns-10 c =
     in-row nodeLayout 8 26 5 9 _ (c .before .before .args .j) refl l (omega (arith, c .if1 .taken))
 
 returns-11 : tie.Need-returns-11
-returns-11 c = past-end nodeLayout (c .before .before .args .j) (omega (arith, c .if1 .left, c .before .match .rest .1))
+returns-11 c = past-end nodeLayout (c .before .before .args .j) (beyond 17 _ (c .if1 .left) (c .before .match .rest .1))
 
 pub node-field-spec : {M : Type 1} → statement M
 node-field-spec =
