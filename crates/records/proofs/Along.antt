@@ -8,7 +8,7 @@ use native.Mathlib.Numerals.{add-one}
 use native.Mathlib.Omega.{arith}
 use lib.IntN.{ℤ}
 use lib.ListN.{length, getD, take, drop, set, drop-of-length-le, length-drop}
-use lib.Seq.{sets, drop-cons, take-suc, length-take-le}
+use lib.Seq.{sets, take-suc, length-take-le}
 use Rattle.fields.specs.Number.{numberAt}
 use Rattle.fields.specs.Place.{isInside}
 use Rattle.fields.specs.Text.{isBlanks, isName, textAt}
@@ -16,14 +16,14 @@ use Rattle.fields.specs.declared.Number as numbers
 use Rattle.fields.specs.declared.Number.the-variants as number
 use Rattle.fields.specs.declared.Text as texts
 use Rattle.fields.specs.declared.Text.the-variants as text
-use Rattle.records.specs.Layout.{layoutOf, startOf, numbersOf, bytesOf, total}
+use Rattle.records.specs.Layout.{layoutOf, startOf, numbersOf, bytesOf}
 use Rattle.records.specs.Reading.{lettersFault, faultOf, numbersIn, nameIn, over, Fault, noFault, faultAt, firstFault, zeros, noName, accepted, refusedAt, fieldsOf}
 use Rattle.records.specs.declared.Field.the-variants.{End, Letters, Number, Name, Blank}
 use Rattle.records.specs.declared.Field.{Field}
 use Rattle.records.specs.declared.Kind.{Kind}
 use Rattle.fields.proofs.FieldLaws.{text-formed}
 use Rattle.fields.proofs.Places.{part-is, bytes-length}
-use Rattle.records.proofs.Layouts.{isField, Fitting, fitting, on-layout, off-layout}
+use Rattle.records.proofs.Layouts.{Ahead, ahead, Room, split, room-ahead, next-ahead, isField, off-layout}
 
 -- ---- runs of stores
 
@@ -44,28 +44,17 @@ numbers-many (Number c w) s = refl
 numbers-many (Name c w) s = refl
 numbers-many (Blank c w) s = refl
 
--- there is room for the field f at j and what it gives
-pub record Room (L : List Field) (f : Field) (n m j : ℕ) : Type 0 where
-  pub inside : j < length L
-  pub step : j < 18
-  pub numbers : n + numbersOf f ≤ 16
-  pub names : m + bytesOf f ≤ 40
-
 -- ---- what the loop keeps: what is left gives the answer of the whole
 
 pub record Going (L : List Field) (s : List ℕ) (ns : List ℤ) (nm : List ℕ) (n m j : ℕ) : Type 0 where
-  pub fits : Fitting L
-  pub numbers : n + total numbersOf (drop j L) ≤ 16
-  pub names : m + total bytesOf (drop j L) ≤ 40
+  pub left : Ahead L n m j
   pub fault : firstFault L s ≡ firstFault (drop j L) s
   pub values : sets ns n (over numbersIn (drop j L) s) ≡ sets zeros 0 (over numbersIn L s)
   pub text : sets nm m (over nameIn (drop j L) s) ≡ sets noName 0 (over nameIn L s)
 
 pub start : (k : Kind) (s : List ℕ) → Going (layoutOf k) s zeros noName 0 0 0
 start k s = record {
-  fits = fitting k;
-  numbers = omega (arith, fitting k .numbers);
-  names = omega (arith, fitting k .names);
+  left = ahead k;
   fault = refl;
   values = refl;
   text = refl;
@@ -73,34 +62,20 @@ start k s = record {
 
 module _ {L : List Field} {s : List ℕ} {ns : List ℤ} {nm : List ℕ} {n m j : ℕ} (g : Going L s ns nm n m j) where
   module _ (f : Field) (e : f ≡ getD L j End) (i : isField f ≡ true) where
-    split : drop j L ≡ f ∷ drop (j + 1) L
-    split = rw (add-one, drop-cons L j End (on-layout L j f e i), e)
-
-    sum : (h : Field → ℕ) → total h (drop j L) ≡ h f + total h (drop (j + 1) L)
-    unfolding total
-    sum h = rw split
-
     pub room : Room L f n m j
-    room = record {
-      inside = on-layout L j f e i;
-      step = omega (arith, on-layout L j f e i, g .fits .few);
-      numbers = omega (arith, sum numbersOf, g .numbers);
-      names = omega (arith, sum bytesOf, g .names);
-    }
+    room = room-ahead L j f e i (g .left)
 
     over-step : {A : Type 0} (h : Field → List ℕ → List A) → over h (drop j L) s ≡ h f s ++ over h (drop (j + 1) L) s
     unfolding over
-    over-step h = rw split
+    over-step h = rw (split L j f e i)
 
     -- a well-formed field: the loop goes on behind it
     pub next : (n′ m′ : ℕ) → n′ ≡ n + numbersOf f → m′ ≡ m + bytesOf f → length (nameIn f s) ≡ bytesOf f → faultOf f s ≡ 0
         → Going L s (sets ns n (numbersIn f s)) (sets nm m (nameIn f s)) n′ m′ (j + 1)
     unfolding firstFault
     next n′ m′ p q l w = record {
-      fits = g .fits;
-      numbers = omega (arith, sum numbersOf, g .numbers);
-      names = omega (arith, sum bytesOf, g .names);
-      fault = g .fault ∙ rw (split, w);
+      left = next-ahead L j f e i (g .left) n′ m′ p q;
+      fault = g .fault ∙ rw (split L j f e i, w);
       values = rw (p, ← numbers-many f s, ← sets-append ns n (numbersIn f s) (over numbersIn (drop (j + 1) L) s), ← over-step numbersIn) (g .values);
       text = rw (q, ← l, ← sets-append nm m (nameIn f s) (over nameIn (drop (j + 1) L) s), ← over-step nameIn) (g .text);
     }
@@ -109,7 +84,7 @@ module _ {L : List Field} {s : List ℕ} {ns : List ℤ} {nm : List ℕ} {n m j 
   all-read : End ≡ getD L j End → (firstFault L s ≡ noFault) × (ns ≡ sets zeros 0 (over numbersIn L s)) × (nm ≡ sets noName 0 (over nameIn L s))
   unfolding firstFault over
   all-read e =
-      let d : drop j L ≡ [] = drop-of-length-le L (off-layout L j (g .fits .tiled) e) in
+      let d : drop j L ≡ [] = drop-of-length-le L (off-layout L j (g .left .fits .tiled) e) in
       (g .fault ∙ rw d, rw d at (g .values), rw d at (g .text))
 
 -- ---- the answers, by the sort of the field
@@ -122,7 +97,7 @@ bad k s (suc x) c p e h = rw e
 module _ (k : Kind) {s : List ℕ} {ns : List ℤ} {nm : List ℕ} {n m j : ℕ} (g : Going (layoutOf k) s ns nm n m j) where
   refuse : (f : Field) → f ≡ getD (layoutOf k) j End → isField f ≡ true → (x : ℕ) → faultOf f s ≡ x → (x ≡ 0 → ⊥) → refusedAt k x (startOf f) ≡ fieldsOf k s
   unfolding firstFault
-  refuse f e i x q h = bad k s x (startOf f) (firstFault (drop (j + 1) (layoutOf k)) s) (g .fault ∙ rw (split g f e i, q)) h
+  refuse f e i x q h = bad k s x (startOf f) (firstFault (drop (j + 1) (layoutOf k)) s) (g .fault ∙ rw (split (layoutOf k) j f e i, q)) h
 
   -- the layout's end
   pub accept : End ≡ getD (layoutOf k) j End → accepted (record { kind = k; numbers = ns; name = nm }) ≡ fieldsOf k s

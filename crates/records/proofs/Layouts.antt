@@ -5,10 +5,11 @@ use mathlib.Core.List.{List, [], _∷_, _++_}
 use mathlib.Core.Path.{_≡_, refl, sym, _∙_}
 use Prim.Native.Nat.{ℕ, zero, suc, _+_, _-_, _*_, _≤_, _<_}
 use native.Mathlib.Nat.{mul-zero, mul-suc, add-zero}
+use native.Mathlib.Numerals.{add-one}
 use native.Mathlib.Omega.{arith}
 use lib.Dec.{ltb, eqb}
 use lib.ListN.{length, getD, drop, List·getD-eq-default}
-use lib.Seq.{getD-drop}
+use lib.Seq.{drop-cons, getD-drop}
 use borrow.Author.Tests.{ltb-true, ltb-false, eqb-true}
 use types.Run.{OneOf}
 use Rattle.records.specs.Layout.{row, layoutOf, startOf, widthOf, numbersOf, bytesOf, total}
@@ -145,3 +146,45 @@ off L j false t a e = ltb-false _ _ t
 -- no field is past it
 pub off-layout : (L : List Field) (j : ℕ) → tiles 1 L ≡ true → End ≡ getD L j End → length L ≤ j
 off-layout L j a e = off L j (ltb j (length L)) refl a e
+
+-- ---- along a layout, field by field
+
+-- at field j, with n numbers and m name bytes taken, there is room for the rest
+pub record Ahead (L : List Field) (n m j : ℕ) : Type 0 where
+  pub fits : Fitting L
+  pub numbers : n + total numbersOf (drop j L) ≤ 16
+  pub names : m + total bytesOf (drop j L) ≤ 40
+
+pub ahead : (k : Kind) → Ahead (layoutOf k) 0 0 0
+ahead k = record { fits = fitting k; numbers = omega (arith, fitting k .numbers); names = omega (arith, fitting k .names) }
+
+-- there is room for the field f at j and what it gives
+pub record Room (L : List Field) (f : Field) (n m j : ℕ) : Type 0 where
+  pub inside : j < length L
+  pub step : j < 18
+  pub numbers : n + numbersOf f ≤ 16
+  pub names : m + bytesOf f ≤ 40
+
+module _ (L : List Field) (j : ℕ) (f : Field) (e : f ≡ getD L j End) (i : isField f ≡ true) where
+  pub split : drop j L ≡ f ∷ drop (j + 1) L
+  split = rw (add-one, drop-cons L j End (on-layout L j f e i), e)
+
+  pub total-split : (h : Field → ℕ) → total h (drop j L) ≡ h f + total h (drop (j + 1) L)
+  unfolding total
+  total-split h = rw split
+
+  module _ {n m : ℕ} (a : Ahead L n m j) where
+    pub room-ahead : Room L f n m j
+    room-ahead = record {
+      inside = on-layout L j f e i;
+      step = omega (arith, on-layout L j f e i, a .fits .few);
+      numbers = omega (arith, total-split numbersOf, a .numbers);
+      names = omega (arith, total-split bytesOf, a .names);
+    }
+
+    pub next-ahead : (n′ m′ : ℕ) → n′ ≡ n + numbersOf f → m′ ≡ m + bytesOf f → Ahead L n′ m′ (j + 1)
+    next-ahead n′ m′ p q = record {
+      fits = a .fits;
+      numbers = omega (arith, total-split numbersOf, a .numbers);
+      names = omega (arith, total-split bytesOf, a .names);
+    }

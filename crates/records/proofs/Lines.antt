@@ -4,18 +4,17 @@ use mathlib.Core.List.{List, [], _∷_, _++_, append-assoc, append-nil}
 use mathlib.Core.Path.{_≡_, refl, sym, ap, _∙_}
 use Prim.Native.Nat.{ℕ, _+_, _-_, _≤_, _<_}
 use native.Mathlib.Nat.{add-zero}
-use native.Mathlib.Numerals.{add-one}
 use native.Mathlib.Omega.{arith}
 use lib.IntN.{ℤ, pos}
 use lib.ListN.{length, getD, take, drop, set, replicate, length-set, length-append, length-drop, drop-of-length-le}
-use lib.Seq.{drop-cons, drop-drop, take-at, length-take-le, getD-drop, set-split, take-suc-set}
+use lib.Seq.{drop-drop, take-at, length-take-le, getD-drop, set-split, take-suc-set}
 use borrow.Author.Tests.{le-leb, lt-leb, eq-eqb, eqb-true}
 use Rattle.fields.specs.Answer.{numberFits, nameFits, Wrote}
 use Rattle.fields.specs.Place.{isInside, put}
 use Rattle.fields.specs.Spelling.{spell}
 use Rattle.fields.specs.declared.Writing as writings
 use Rattle.fields.specs.declared.Writing.the-variants as writing
-use Rattle.records.specs.Layout.{layoutOf, startOf, widthOf, numbersOf, bytesOf, total}
+use Rattle.records.specs.Layout.{layoutOf, startOf, widthOf, numbersOf, bytesOf}
 use Rattle.records.specs.Writing.{fieldText, fieldFits, textOf, noNumbers, noBytes, fits, fitsAll, lineOf, SpelledAs, Written}
 use Rattle.records.specs.declared.Field.the-variants.{End, Letters, Number, Name, Blank}
 use Rattle.records.specs.declared.Field.{Field}
@@ -23,33 +22,28 @@ use Rattle.records.specs.declared.Kind.{Kind}
 use Rattle.records.specs.declared.Record.{Record}
 use Rattle.fields.proofs.FieldLaws.{wrote-done, wrote-refused}
 use Rattle.fields.proofs.Places.{inside-fits, put-length}
-use Rattle.records.proofs.Along.{Room}
-use Rattle.records.proofs.Layouts.{isField, tiles, Tile, tile, tiles-end, Fitting, fitting, on-layout, off-layout}
+use Rattle.records.proofs.Layouts.{Ahead, ahead, Room, split, total-split, room-ahead, next-ahead, isField, tiles, Tile, tile, tiles-end, fitting, off-layout}
 use Rattle.records.proofs.RoundTrips.{field-length}
 
 -- the columns up to `at` are written, and what is left decides and gives the rest
 pub record Lines (L : List Field) (ns : List ℤ) (nm out : List ℕ) (n m j : ℕ) : Type 0 where
-  pub fitted : Fitting L
+  pub left : Ahead L n m j
   pub long : length out ≡ 74
   pub many : length ns ≡ 16
   pub wide : length nm ≡ 40
   pub at : ℕ
   pub tiled : tiles (at + 1) (drop j L) ≡ true
-  pub numbers : n + total numbersOf (drop j L) ≤ 16
-  pub names : m + total bytesOf (drop j L) ≤ 40
   pub whole : fits L ns nm ≡ fits (drop j L) (drop n ns) (drop m nm)
   pub text : take at out ++ textOf (drop j L) (drop n ns) (drop m nm) ≡ textOf L ns nm
 
 pub start : (k : Kind) (ns : List ℤ) (nm out : List ℕ) → length ns ≡ 16 → length nm ≡ 40 → length out ≡ 74 → Lines (layoutOf k) ns nm out 0 0 0
 start k ns nm out l w o = record {
-  fitted = fitting k;
+  left = ahead k;
   long = o;
   many = l;
   wide = w;
   at = 0;
   tiled = fitting k .tiled;
-  numbers = omega (arith, fitting k .numbers);
-  names = omega (arith, fitting k .names);
   whole = refl;
   text = refl;
 }
@@ -89,26 +83,14 @@ ended s l =
 
 module _ {L : List Field} {ns : List ℤ} {nm out : List ℕ} {n m j : ℕ} (g : Lines L ns nm out n m j) where
   module _ (f : Field) (e : f ≡ getD L j End) (i : isField f ≡ true) where
-    split : drop j L ≡ f ∷ drop (j + 1) L
-    split = rw (add-one, drop-cons L j End (on-layout L j f e i), e)
-
-    sum : (h : Field → ℕ) → total h (drop j L) ≡ h f + total h (drop (j + 1) L)
-    unfolding total
-    sum h = rw split
-
     pub room : Room L f n m j
-    room = record {
-      inside = on-layout L j f e i;
-      step = omega (arith, on-layout L j f e i, g .fitted .few);
-      numbers = omega (arith, sum numbersOf, g .numbers);
-      names = omega (arith, sum bytesOf, g .names);
-    }
+    room = room-ahead L j f e i (g .left)
 
     here : Tile (g .at + 1) f (drop (j + 1) L)
-    here = tile (g .at + 1) f (drop (j + 1) L) (rw split at (g .tiled))
+    here = tile (g .at + 1) f (drop (j + 1) L) (rw (split L j f e i) at (g .tiled))
 
     width : g .at + widthOf f ≤ 72
-    width = omega (arith, sum widthOf, tiles-end (drop j L) (g .at + 1) (g .tiled))
+    width = omega (arith, total-split L j f e i widthOf, tiles-end (drop j L) (g .at + 1) (g .tiled))
 
     pub inside : isInside out (startOf f) (widthOf f) ≡ true
     inside = inside-fits out (startOf f) (widthOf f) (omega (arith, here .start)) (omega (arith, here .start, width, g .long))
@@ -122,30 +104,28 @@ module _ {L : List Field} {ns : List ℤ} {nm out : List ℕ} {n m j : ℕ} (g :
         let l = field-length f (drop n ns) (drop m nm) y in
         let c : g .at + 1 + widthOf f ≡ g .at + widthOf f + 1 = omega arith in
         record {
-          fitted = g .fitted;
+          left = next-ahead L j f e i (g .left) n′ m′ p q;
           long = rw o (put-length out (startOf f) (widthOf f) t inside l ∙ g .long);
           many = g .many;
           wide = g .wide;
           at = g .at + widthOf f;
           tiled = rw (← c) (here .rest);
-          numbers = omega (arith, sum numbersOf, g .numbers);
-          names = omega (arith, sum bytesOf, g .names);
-          whole = g .whole ∙ rw (split, y, drop-drop, drop-drop, p, q);
+          whole = g .whole ∙ rw (split L j f e i, y, drop-drop, drop-drop, p, q);
           text =
               rw (o, put-front out t (startOf f) (g .at) (widthOf f) (here .start) l (omega (arith, width, g .long)), append-assoc, p, q, ← drop-drop (numbersOf f) n ns, ← drop-drop (bytesOf f) m nm)
-              (rw split at (g .text));
+              (rw (split L j f e i) at (g .text));
         }
 
     -- one that does not fit makes the whole not fit
     pub unfit : fieldFits f (drop n ns) (drop m nm) ≡ false → fits L ns nm ≡ false
     unfolding fits
-    unfit y = g .whole ∙ rw (split, y)
+    unfit y = g .whole ∙ rw (split L j f e i, y)
 
   -- no field is left: the unused entries decide, and the line ends
   pub ends : End ≡ getD L j End → (fits L ns nm ≡ noNumbers (drop n ns) && noBytes (drop m nm)) × (set (set out 72 13) 73 10 ≡ textOf L ns nm ++ (13 ∷ 10 ∷ []))
   unfolding fits textOf tiles
   ends e =
-      let d : drop j L ≡ [] = drop-of-length-le L (off-layout L j (g .fitted .tiled) e) in
+      let d : drop j L ≡ [] = drop-of-length-le L (off-layout L j (g .left .fits .tiled) e) in
       let a : g .at ≡ 72 = end-column (g .at) (rw d at (g .tiled)) in
       let t : take (g .at) out ++ [] ≡ textOf L ns nm = rw d at (g .text) in
       (g .whole ∙ rw d, ended out (g .long) ∙ rw (← t, a, append-nil))

@@ -11,7 +11,8 @@ use borrow.Author.Needs.{needs}
 use Rattle.records.specs.Layout.{layoutOf}
 use Rattle.records.specs.declared.Field.the-variants.{End, Letters, Number, Name, Blank}
 use Rattle.fields.proofs.Places.{inside-bounds}
-use Rattle.records.proofs.Along.{Room, Going, start, room, accept, letters-refused, letters-next, number-refused, number-next, name-refused, name-inside, name-next, part-length, blank-refused, blank-next}
+use Rattle.records.proofs.Layouts.{Room}
+use Rattle.records.proofs.Along.{Going, start, room, accept, letters-refused, letters-next, number-refused, number-next, name-refused, name-inside, name-next, part-length, blank-refused, blank-next}
 use Rattle.records.proofs.read_fields.Statement.{statement}
 use Rattle.records.proofs.read_fields.Tie as tie
 

@@ -10,7 +10,7 @@ use borrow.Author.Needs.{needs}
 use Rattle.records.specs.Layout.{layoutOf}
 use Rattle.records.specs.Writing.{fitsAll, lineOf}
 use Rattle.records.specs.declared.Field.the-variants.{End, Letters, Number, Name, Blank}
-use Rattle.records.proofs.Along.{Room}
+use Rattle.records.proofs.Layouts.{Room}
 use Rattle.records.proofs.Lines.{refused-line, Lines, start, room, ends, letters-next, number-next, number-unfit, name-next, name-unfit, blank-next}
 use Rattle.records.proofs.spell_record.Statement.{statement}
 use Rattle.records.proofs.spell_record.Tie as tie
