@@ -5,9 +5,8 @@
 // The contracts cite `specs/`: `Number` and `Spelling` say what a number field is, `Text` what the
 // other two are, `Answer` which refusal of document 01 an answer stands for.
 ghost use mathlib.Core.Path.{_≡_};
-ghost use mathlib.Core.Bool.{true};
 ghost use mathlib.Core.List.{[], _∷_, _++_};
-ghost use Prim.Native.Nat.{ℕ, _+_, _-_, _<_, _≤_};
+ghost use Prim.Native.Nat.{_+_, _<_, _≤_};
 ghost use lib.ListN.{length, take, drop, replicate};
 ghost use lib.IntN.{natAbs};
 ghost use Rattle.fields.specs.Place.{isInside};

@@ -6,7 +6,7 @@
 // `Points` which points a line of a file has.
 use fields::Number;
 ghost use mathlib.Core.Path.{_≡_};
-ghost use Prim.Native.Nat.{ℕ, _≤_};
+ghost use Prim.Native.Nat.{_≤_};
 ghost use Rattle.measures.specs.Points.{coordinateIn, pointIn, pointCount, measureIn, walkedIn};
 ghost use Rattle.measures.specs.Walks.{Small, Near, Seven, stepTo, along};
 
