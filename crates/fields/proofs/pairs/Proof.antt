@@ -22,7 +22,7 @@ sub-if1 : tie.Need-sub-if1 Inv-loop μ-loop
 sub-if1 c = search needs
 
 returns : tie.Need-returns Inv-loop μ-loop
-returns c = sym (c .before .before .loop .inv .1 ∙ name-odd _ _ (c .before .loop-test .taken) (c .if1 .taken))
+returns c = sym (c .before .before .loop .inv .1 ∙ name-odd _ _ (c .before .loop-test .taken) (search needs))
 
 shared-slice-read-pair : tie.Need-shared-slice-read-pair Inv-loop μ-loop
 shared-slice-read-pair c = search needs

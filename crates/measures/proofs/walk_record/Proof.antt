@@ -7,7 +7,7 @@ use mir.Facts.{toZ-ofZ}
 use mir.Syntax.{w64}
 use borrow.Author.Needs.{needs}
 use Rattle.measures.specs.Points.{coordinateIn, pointIn}
-use Rattle.measures.specs.Walks.{along}
+use Rattle.measures.specs.Walks.{Small, along}
 use Rattle.measures.proofs.Stepping.{back}
 use Rattle.measures.proofs.Walking.{near-le, record-near, coordinate-small, along-next}
 use Rattle.measures.proofs.walk_record.Statement.{statement}
@@ -51,10 +51,12 @@ coordinate-requires-2 c κs = search needs
 step-requires : tie.Need-step-requires Inv-loop μ-loop
 step-requires c κs =
     let l = c .before .before .before in
-    let s = l .before .before in (
+    let s = l .before .before in
+    let x : Small 10000 (back (c .before .coordinate .result)) = rw (x-is (c .before)) (coordinate-small _ _) in
+    let y : Small 10000 (back (c .coordinate2 .result)) = rw (y-is c) (coordinate-small _ _) in (
       rw (l .loop .inv .1) (near-le 1000000000000000 (record-near (now (s .args .s)) (s .pre .1) (l .loop .i)) (omega arith)),
-      rw (x-is (c .before)) (coordinate-small _ _),
-      rw (y-is c) (coordinate-small _ _),
+      search needs,
+      search needs,
     )
 
 add-i : tie.Need-add-i Inv-loop μ-loop
