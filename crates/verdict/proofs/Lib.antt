@@ -1,0 +1,4 @@
+-- Laws of verdicts, for every stage.
+pub mod Parts
+pub mod Orders
+pub mod Numbers

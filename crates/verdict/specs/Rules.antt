@@ -1,0 +1,52 @@
+-- Rules and the first broken one (document 01, "Order of judgement and refusal numbers"). Assumes nothing.
+--   Check, Rule         one rule of a record; the same with its stage and record
+--   firstBroken rs      the first broken rule of the list rs, or Fine
+--   block s r cs        the checks cs as rules of stage s at record r
+--   rows n g            the lists g 0, g 1, .., g (n - 1), one after the other
+--   toldOf v            the verdict v by 01's numbers
+use mathlib.Core.Bool.{Bool, cond}
+use mathlib.Core.List.{List, [], _∷_, _++_}
+use Prim.Native.Nat.{ℕ, zero, suc}
+use Rattle.verdict.specs.declared.Verdict.{Verdict}
+use Rattle.verdict.specs.declared.Verdict.the-variants.{Fine, Broken}
+use Rattle.verdict.specs.declared.Told.{Told}
+
+-- a rule at one place: its stage, record, column and number, and whether the file keeps it
+pub record Rule : Type 0 where
+  pub stage : ℕ
+  pub row : ℕ
+  pub column : ℕ
+  pub number : ℕ
+  pub holds : Bool
+
+abbrev pub brokenAt : Rule → Verdict
+brokenAt r = Broken (r .number) (r .row) (r .column)
+
+unfoldable pub firstBroken : List Rule → Verdict
+firstBroken [] = Fine
+firstBroken (r ∷ rs) = cond (r .holds) (firstBroken rs) (brokenAt r)
+
+-- a rule of one record: its column and number, and whether the record keeps it
+pub record Check : Type 0 where
+  pub column : ℕ
+  pub number : ℕ
+  pub holds : Bool
+
+abbrev pub check : ℕ → ℕ → Bool → Check
+check c n b = record { column = c; number = n; holds = b }
+
+abbrev pub ruleOf : ℕ → ℕ → Check → Rule
+ruleOf s r c = record { stage = s; row = r; column = c .column; number = c .number; holds = c .holds }
+
+unfoldable pub block : ℕ → ℕ → List Check → List Rule
+block s r [] = []
+block s r (c ∷ cs) = ruleOf s r c ∷ block s r cs
+
+unfoldable pub rows : ℕ → (ℕ → List Rule) → List Rule
+rows zero g = []
+rows (suc n) g = rows n g ++ g n
+
+-- "Acceptance is number 0 at 0, 0"
+abbrev pub toldOf : Verdict → Told
+toldOf Fine = record { number = 0; place = 0; column = 0 }
+toldOf (Broken n r c) = record { number = n; place = r; column = c }
