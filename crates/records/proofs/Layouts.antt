@@ -100,6 +100,12 @@ tiles-width L c h =
     let e : c + total widthOf L ≡ 73 = tiles-end L c h in
     omega arith
 
+-- no field starts behind column 73
+pub start-small : (L : List Field) (c j : ℕ) → tiles c L ≡ true → j < length L → startOf (getD L j End) ≤ 73
+start-small [] c j h l = absurd (omega arith)
+start-small (f ∷ L) c zero h l = omega (arith, tile c f L h .start, tiles-end (f ∷ L) c h)
+start-small (f ∷ L) c (suc j) h l = start-small L (c + widthOf f) j (tile c f L h .rest) (omega arith)
+
 -- what a record's value and the loops have room for
 pub record Fitting (L : List Field) : Type 0 where
   pub tiled : tiles 1 L ≡ true

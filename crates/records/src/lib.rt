@@ -236,7 +236,7 @@ fn taken(kind: Kind, numbers: [i32; 16], name: [u8; 40]) -> Reading
 
 // Letters `a`, `b` are due and `x`, `y` stand there: 0 where they are the same, 7 for H1 where an H
 // is due, else 3.
-fn letters_fault(a: u8, b: u8, x: u8, y: u8) -> u32
+pub fn letters_fault(a: u8, b: u8, x: u8, y: u8) -> u32
     ensures { λ r. ⌜ r ≡ lettersFault a b x y ⌝ }
 {
     if (x == a) & (y == b) {

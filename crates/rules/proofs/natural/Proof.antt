@@ -1,0 +1,10 @@
+-- `rules::natural` meets its contract: `0 <= v` goes by v's sign. Assumes nothing.
+use Rattle.rules.proofs.Signs.{natural-is}
+use Rattle.rules.proofs.natural.Statement.{statement}
+use Rattle.rules.proofs.natural.Tie as tie
+
+returns : tie.Need-returns
+returns c = natural-is (c .fits .v)
+
+pub natural-spec : {M : Type 1} → statement M
+natural-spec = tie.close (tie.spec returns)

@@ -1,0 +1,68 @@
+-- The checks of stage 2 on one record, in the order of columns (document 01, refusals 3, 5, 6, 7 and 8): along its layout, each field's
+-- form and then what is asked of its value. Assumes nothing.
+--   kindOf d         the kind of record that is due
+--   formChecks f t   the checks of field f's form in the record t
+--   along a L i ns t the checks along the layout L, behind i numbers, which are ns; a says what is asked of a number
+--   checksOf d t     the checks of the record t, due as d
+use mathlib.Core.Bool.{Bool, not}
+use mathlib.Core.List.{List, [], _∷_, _++_}
+use Prim.Native.Nat.{ℕ, suc}
+use lib.Dec.{eqb}
+use lib.IntN.{ℤ}
+use lib.ListN.{set}
+use Rattle.fields.specs.Number.{numberAt}
+use Rattle.fields.specs.Answer.{valueOf}
+use Rattle.records.specs.declared.Kind.{Kind}
+use Rattle.records.specs.declared.Kind.the-variants as kind
+use Rattle.records.specs.declared.Field.{Field}
+use Rattle.records.specs.declared.Field.the-variants.{End, Letters, Number, Name, Blank}
+use Rattle.records.specs.Layout.{layoutOf}
+use Rattle.records.specs.Reading.{faultOf, zeros}
+use Rattle.verdict.specs.Rules.{Check, check}
+use Rattle.rules.specs.declared.Due.{Due}
+use Rattle.rules.specs.declared.Due.the-variants.{Mesh, Layer, Node, Line, Coordinates, Area, Loop}
+use Rattle.rules.specs.Asks.{Ask, permitted, inStep, askedOf}
+
+abbrev pub kindOf : Due → Kind
+kindOf (Mesh last) = kind.Mesh
+kindOf (Layer last) = kind.Layer
+kindOf (Node layer last) = kind.Node
+kindOf (Line layer last) = kind.Line
+kindOf (Coordinates left) = kind.Coordinates
+kindOf (Area layer last) = kind.Area
+kindOf (Loop last count left) = kind.Loop
+
+-- the field gives no refusal n
+abbrev pub free : ℕ → Field → List ℕ → Bool
+free n f t = not (eqb (faultOf f t) n)
+
+-- "3: type letters wrong", "7: letters are H1 where an H is due (then not 3)", both at column 1; "5: field ill formed", at its start
+unfoldable pub formChecks : Field → List ℕ → List Check
+formChecks End t = []
+formChecks (Letters a b) t = check 1 3 (free 3 (Letters a b) t) ∷ check 1 7 (free 7 (Letters a b) t) ∷ []
+formChecks (Number c w) t = check c 5 (free 5 (Number c w) t) ∷ []
+formChecks (Name c w) t = check c 5 (free 5 (Name c w) t) ∷ []
+formChecks (Blank c w) t = check c 5 (free 5 (Blank c w) t) ∷ []
+
+-- "6: value not permitted"; "8: out of step"; both at the field's start
+unfoldable pub valueChecks : ℕ → List Ask → List Check
+valueChecks c [] = []
+valueChecks c (permitted b ∷ l) = check c 6 b ∷ valueChecks c l
+valueChecks c (inStep b ∷ l) = check c 8 b ∷ valueChecks c l
+
+-- the numbers, with number i as the field says
+abbrev pub withNumber : List ℤ → ℕ → List ℕ → ℕ → ℕ → List ℤ
+withNumber ns i t c w = set ns i (valueOf (numberAt t c w))
+
+unfoldable pub along : (ℕ → List ℤ → List Ask) → List Field → ℕ → List ℤ → List ℕ → List Check
+along a [] i ns t = []
+along a (End ∷ L) i ns t = along a L i ns t
+along a (Letters x y ∷ L) i ns t = formChecks (Letters x y) t ++ along a L i ns t
+along a (Number c w ∷ L) i ns t =
+    formChecks (Number c w) t
+    ++ (valueChecks c (a i (withNumber ns i t c w)) ++ along a L (suc i) (withNumber ns i t c w) t)
+along a (Name c w ∷ L) i ns t = formChecks (Name c w) t ++ along a L i ns t
+along a (Blank c w ∷ L) i ns t = formChecks (Blank c w) t ++ along a L i ns t
+
+unfoldable pub checksOf : Due → List ℕ → List Check
+checksOf d t = along (askedOf d) (layoutOf (kindOf d)) 0 zeros t
