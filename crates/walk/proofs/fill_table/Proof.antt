@@ -1,0 +1,48 @@
+-- `walk::fill_table` meets its contract: a refusal returns before the table is touched, and behind it the table has room. Assumes nothing.
+use denote.Ref.{now}
+use lib.ListN.{length}
+use Rattle.walk.proofs.Tabling.{early-broken, all-counted, short, long-enough, room-enough, tabled-is, untouched, standing}
+use borrow.Author.Needs.{needs}
+use Rattle.walk.proofs.fill_table.Statement.{statement}
+use Rattle.walk.proofs.fill_table.Tie as tie
+
+walk-file-requires : tie.Need-walk-file-requires
+walk-file-requires c κs = search needs
+
+enum-told : tie.Need-enum-told
+enum-told c = search needs
+
+returns : tie.Need-returns
+returns c = let v = early-broken _ (c .before .before .before .walk-file .ensures) _ (c .enum-told .given .1) in (tabled-is _ _ (c .before .before .before .walk-file .ensures) v, untouched _ _ v (c .enum-told .given .1))
+
+enum-told-2 : tie.Need-enum-told-2
+enum-told-2 c = search needs
+
+too-short-requires : tie.Need-too-short-requires
+too-short-requires c κs = search needs
+
+returns-2 : tie.Need-returns-2
+returns-2 c = let v = short _ (c .before .before .before .before .before .before .walk-file .ensures) (c .before .before .before .enum-told2 .given .1) (length (now (c .before .before .before .before .before .before .before .before .before .args .table))) (search needs) (c .too-short .ensures) in (tabled-is _ _ (c .before .before .before .before .before .before .walk-file .ensures) v, untouched _ _ v (c .too-short .ensures))
+
+fill-requires : tie.Need-fill-requires
+fill-requires c κs = (all-counted _ (c .before .before .before .before .before .before .walk-file .ensures) (c .before .before .before .enum-told2 .given .1), room-enough _ (c .before .before .before .before .before .before .walk-file .ensures) (c .before .before .before .enum-told2 .given .1) _ (search needs))
+
+same-length : tie.Need-same-length
+same-length c = search needs
+
+returns-3 : tie.Need-returns-3
+returns-3 c = let v = long-enough _ (c .before .before .before .before .before .before .before .before .before .walk-file .ensures) (c .before .before .before .before .before .before .enum-told2 .given .1) (length (now (c .before .before .before .before .before .before .before .before .before .before .before .before .args .table))) (search needs) in (tabled-is _ _ (c .before .before .before .before .before .before .before .before .before .walk-file .ensures) v, standing _ _ v (c .before .before .before .before .before .before .enum-told2 .given .1) (c .before .before .fill .ensures))
+
+pub fill-table-spec : {M : Type 1} → statement M
+fill-table-spec =
+    tie.close
+    (tie.spec
+    walk-file-requires
+    enum-told
+    returns
+    enum-told-2
+    too-short-requires
+    returns-2
+    fill-requires
+    same-length
+    returns-3)

@@ -1,0 +1,175 @@
+-- `walk::stage_two` meets its contract: the loop carries the state and the counts and leaves at the first broken record;
+-- behind it all are kept, and the end decides. Assumes nothing.
+use mathlib.Core.Path.{_≡_, refl, ap, _∙_}
+use Prim.Native.Nat.{_-_, _≤_}
+use borrow.Author.Needs.{needs}
+use Rattle.verdict.specs.declared.Verdict.the-variants.{Fine}
+use Rattle.verdict.specs.Rules.{firstBroken, rows}
+use Rattle.verdict.proofs.Parts.{rows-none, rows-pass}
+use Rattle.walk.specs.States.{dueOf, stateAt, countsAt}
+use Rattle.walk.proofs.Walking.{at-none, next-state, counts-none, next-counts, countable}
+use Rattle.walk.proofs.Judging.{rulesOf, rule-is, two-stops, two-done, counts-done, walked-broken, walked-kept}
+use Rattle.walk.proofs.stage_two.Statement.{statement}
+use Rattle.walk.proofs.stage_two.Tie as tie
+
+abbrev Inv-loop : tie.InvT-loop
+Inv-loop file n s₀ c₀ k₀ s c k = (k ≤ n) × (s ≡ stateAt file k) × (c ≡ countsAt file k) × (firstBroken (rows k (rulesOf file)) ≡ Fine)
+
+abbrev μ-loop : tie.MeasureT-loop
+μ-loop file n s₀ c₀ k₀ s c k = n - k
+
+records-of-requires : tie.Need-records-of-requires Inv-loop μ-loop
+records-of-requires c κs = search needs
+
+at-start-requires : tie.Need-at-start-requires Inv-loop μ-loop
+at-start-requires c κs = search needs
+
+no-counts-requires : tie.Need-no-counts-requires Inv-loop μ-loop
+no-counts-requires c κs = search needs
+
+loop-holds : tie.Need-loop-holds Inv-loop μ-loop
+loop-holds c = (search needs, c .before .at-start .ensures ∙ at-none _, c .no-counts .ensures ∙ counts-none _, rows-none _)
+
+add-record-view : tie.Need-add-record-view Inv-loop μ-loop
+add-record-view c = search needs
+
+record-view-requires : tie.Need-record-view-requires Inv-loop μ-loop
+record-view-requires c κs = search needs
+
+due-requires : tie.Need-due-requires Inv-loop μ-loop
+due-requires c κs = search needs
+
+add-judge-record : tie.Need-add-judge-record Inv-loop μ-loop
+add-judge-record c = search needs
+
+cast-judge-record : tie.Need-cast-judge-record Inv-loop μ-loop
+cast-judge-record c = search needs
+
+judge-record-requires : tie.Need-judge-record-requires Inv-loop μ-loop
+judge-record-requires c κs = search needs
+
+enum-told : tie.Need-enum-told Inv-loop μ-loop
+enum-told c = search needs
+
+refused-requires : tie.Need-refused-requires Inv-loop μ-loop
+refused-requires c κs = search needs
+
+returns : tie.Need-returns Inv-loop μ-loop
+returns c =
+    let e = c .before in
+    let a = e .before .before in
+    let d = a .before in
+    let t = d .before in
+    let l = t .before .before in
+    let n = l .before .before .before in
+    walked-broken _ (e .enum-told .given .1)
+    (two-stops _ (n .records-of .ensures .0) _ (e .enum-told .given .1) (rule-is _ _ (l .loop .inv .1) (d .due .ensures) (t .record-view .ensures) (a .judge-record .ensures)) (l .loop .inv .3) (search needs))
+    (c .refused .ensures)
+
+enum-told-2 : tie.Need-enum-told-2 Inv-loop μ-loop
+enum-told-2 c = search needs
+
+counted-requires : tie.Need-counted-requires Inv-loop μ-loop
+counted-requires c κs = rw (c .before .before .before .before .before .before .loop .inv .2) (countable _ _ (search needs))
+
+next-requires : tie.Need-next-requires Inv-loop μ-loop
+next-requires c κs = search needs
+
+add-k : tie.Need-add-k Inv-loop μ-loop
+add-k c = search needs
+
+loop-less : tie.Need-loop-less Inv-loop μ-loop
+loop-less c = search needs
+
+loop-again : tie.Need-loop-again Inv-loop μ-loop
+loop-again c =
+    let q = c .before in
+    let e = q .before in
+    let a = e .before .before in
+    let d = a .before in
+    let t = d .before in
+    let l = t .before .before in
+    let r = t .record-view .ensures in (
+      search needs,
+      next-state _ _ (l .loop .inv .1) (rw r at (c .next .ensures)),
+      next-counts _ _ (l .loop .inv .2) (d .due .ensures ∙ ap dueOf (l .loop .inv .1)) (rw r at (q .counted .ensures)),
+      rows-pass _ _ (l .loop .inv .3) (rule-is _ _ (l .loop .inv .1) (d .due .ensures) r (a .judge-record .ensures)) (e .enum-told2 .given .1),
+    )
+
+due-requires-2 : tie.Need-due-requires-2 Inv-loop μ-loop
+due-requires-2 c κs = search needs
+
+add-judge-last : tie.Need-add-judge-last Inv-loop μ-loop
+add-judge-last c = search needs
+
+cast-judge-last : tie.Need-cast-judge-last Inv-loop μ-loop
+cast-judge-last c = search needs
+
+judge-last-requires : tie.Need-judge-last-requires Inv-loop μ-loop
+judge-last-requires c κs = search needs
+
+enum-told-3 : tie.Need-enum-told-3 Inv-loop μ-loop
+enum-told-3 c = search needs
+
+refused-requires-2 : tie.Need-refused-requires-2 Inv-loop μ-loop
+refused-requires-2 c κs = search needs
+
+returns-2 : tie.Need-returns-2 Inv-loop μ-loop
+returns-2 c =
+    let e = c .before in
+    let a = e .before .before in
+    let d = a .before in
+    let l = d .before .before in
+    let n = l .before .before .before in
+    walked-broken _ (e .enum-told3 .given .1)
+    (two-done _ (n .records-of .ensures .0) _ (l .loop .inv .1) (d .due2 .ensures) (a .judge-last .ensures) (l .loop .inv .3) (search needs) (search needs))
+    (c .refused2 .ensures)
+
+enum-told-4 : tie.Need-enum-told-4 Inv-loop μ-loop
+enum-told-4 c = search needs
+
+returns-3 : tie.Need-returns-3 Inv-loop μ-loop
+returns-3 c =
+    let a = c .before .before in
+    let d = a .before in
+    let l = d .before .before in
+    let n = l .before .before .before in
+    walked-kept (c .enum-told4 .given .1)
+    (two-done _ (n .records-of .ensures .0) _ (l .loop .inv .1) (d .due2 .ensures) (a .judge-last .ensures) (l .loop .inv .3) (search needs) (search needs))
+    (counts-done _ (n .records-of .ensures .0) _ (l .loop .inv .2) (search needs) (search needs))
+    refl
+
+pub stage-two-spec : {M : Type 1} → statement M
+stage-two-spec =
+    tie.close
+    (tie.spec
+    Inv-loop
+    μ-loop
+    records-of-requires
+    at-start-requires
+    no-counts-requires
+    loop-holds
+    add-record-view
+    record-view-requires
+    due-requires
+    add-judge-record
+    cast-judge-record
+    judge-record-requires
+    enum-told
+    refused-requires
+    returns
+    enum-told-2
+    counted-requires
+    next-requires
+    add-k
+    loop-less
+    loop-again
+    due-requires-2
+    add-judge-last
+    cast-judge-last
+    judge-last-requires
+    enum-told-3
+    refused-requires-2
+    returns-2
+    enum-told-4
+    returns-3)

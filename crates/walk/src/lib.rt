@@ -1,0 +1,521 @@
+// The walk over a file's records (document 01, "The file"), stages 1 and 2, the words that a file needs,
+// and its table. Every public function takes every file and every buffer.
+//
+// The contracts cite `specs/`: `States` says what is due at each record, `Stages` has the rules up to
+// refusal 9 in 01's order, `Table` what the table is.
+use fields::Number;
+use rules::Due;
+use verdict::Verdict;
+ghost use mathlib.Core.Path.{_≡_};
+ghost use mathlib.Core.List.{[], _∷_};
+ghost use Prim.Native.Nat.{_+_, _-_, _*_, _≤_};
+ghost use lib.ListN.{length};
+ghost use lib.Seq.{sets};
+ghost use Rattle.verdict.specs.declared.Verdict.the-variants.{Broken};
+ghost use Rattle.verdict.specs.Rules.{firstBroken, block};
+ghost use Rattle.walk.specs.States.{sizeIn, dueOf, start, meshed, layered, nextOf, noCounts, Countable, countedFor, countsAt, rowLength};
+ghost use Rattle.walk.specs.Stages.{recordsOf, endChecks, lengthChecks, stageOne, lastChecks, stageTwo, walkedBy, walkedOf, needOf, early};
+ghost use Rattle.walk.specs.Table.{tableOf, filled, filledBy, tabledOf};
+ghost use Rattle.walk.specs.Storing.{placeOf, recordWords, Roomy};
+
+// Where the walk stands: the mesh and its layers left; the layer, its totals, and how many of each came;
+// the points left of a line; the loops of an area, how many were begun, and the last one's line count and
+// entries left.
+pub struct State {
+    pub mesh: usize,
+    pub layers: usize,
+    pub layer: usize,
+    pub nodes: usize,
+    pub node: usize,
+    pub lines: usize,
+    pub line: usize,
+    pub areas: usize,
+    pub area: usize,
+    pub points: usize,
+    pub loops: usize,
+    pub begun: usize,
+    pub count: usize,
+    pub entries: usize,
+}
+
+// What the records were, and the words that the layers among them need.
+pub struct Counts {
+    pub meshes: usize,
+    pub layers: usize,
+    pub nodes: usize,
+    pub lines: usize,
+    pub areas: usize,
+    pub words: usize,
+}
+
+// What stages 1 and 2 answer; the counts of a refused file are 0.
+pub struct Walked {
+    pub verdict: Verdict,
+    pub counts: Counts,
+}
+
+// ---- the walk
+
+// The number in the `width` columns from `column` on, without its sign; 0 where there is none.
+pub fn size_in(t: &[u8], column: usize, width: usize) -> usize
+    ensures { λ r. ⌜ (r ≡ sizeIn (now (t .entry)) column width) × (r ≤ 999999) ⌝ }
+{
+    let answer = fields::read_number(t, column, width);
+    let Number::Value(v) = answer else {
+        return 0;
+    };
+    rules::size(v)
+}
+
+// What is due.
+pub fn due(s: State) -> Due
+    ensures { λ r. ⌜ r ≡ dueOf s ⌝ }
+{
+    if 0 < s.points {
+        return Due::Coordinates(s.points);
+    }
+    if 0 < s.entries {
+        return Due::Loop(s.begun, s.count, s.entries);
+    }
+    if s.begun < s.loops {
+        return Due::Loop(s.begun, s.count, 0);
+    }
+    if s.node < s.nodes {
+        return Due::Node(s.layer, s.node);
+    }
+    if s.line < s.lines {
+        return Due::Line(s.layer, s.line);
+    }
+    if s.area < s.areas {
+        return Due::Area(s.layer, s.area);
+    }
+    if 0 < s.layers {
+        return Due::Layer(s.layer);
+    }
+    Due::Mesh(s.mesh)
+}
+
+// Before the first record.
+pub fn at_start() -> State
+    ensures { λ r. ⌜ r ≡ start ⌝ }
+{
+    State {
+        mesh: 0,
+        layers: 0,
+        layer: 0,
+        nodes: 0,
+        node: 0,
+        lines: 0,
+        line: 0,
+        areas: 0,
+        area: 0,
+        points: 0,
+        loops: 0,
+        begun: 0,
+        count: 0,
+        entries: 0,
+    }
+}
+
+// What is left of `n` when `by` are taken.
+fn less(n: usize, by: usize) -> usize
+    ensures { λ r. ⌜ r ≡ n - by ⌝ }
+{
+    if n < by {
+        return 0;
+    }
+    n - by
+}
+
+// The state behind an M.
+fn behind_mesh(t: &[u8]) -> State
+    ensures { λ r. ⌜ r ≡ meshed (now (t .entry)) ⌝ }
+{
+    let mut s = at_start();
+    s.mesh = size_in(t, 3, 6);
+    s.layers = size_in(t, 29, 3);
+    s
+}
+
+// The state behind an H.
+fn behind_layer(s: State, t: &[u8]) -> State
+    ensures { λ r. ⌜ r ≡ layered s (now (t .entry)) ⌝ }
+{
+    let mut u = at_start();
+    u.mesh = s.mesh;
+    u.layers = less(s.layers, 1);
+    u.layer = size_in(t, 3, 2);
+    u.nodes = size_in(t, 5, 5);
+    u.lines = size_in(t, 10, 5);
+    u.areas = size_in(t, 15, 5);
+    u
+}
+
+// The state behind the record `t`.
+pub fn next(s: State, t: &[u8]) -> State
+    ensures { λ r. ⌜ r ≡ nextOf s (now (t .entry)) ⌝ }
+{
+    let mut u = s;
+    if 0 < s.points {
+        u.points = less(s.points, 7);
+        return u;
+    }
+    if 0 < s.entries {
+        u.entries = less(s.entries, 12);
+        return u;
+    }
+    if s.begun < s.loops {
+        let n = size_in(t, 6, 4);
+        u.begun = s.begun + 1;
+        u.count = n;
+        u.entries = less(n, 12);
+        return u;
+    }
+    if s.node < s.nodes {
+        u.node = s.node + 1;
+        return u;
+    }
+    if s.line < s.lines {
+        u.line = s.line + 1;
+        u.points = size_in(t, 50, 6);
+        return u;
+    }
+    if s.area < s.areas {
+        u.area = s.area + 1;
+        u.loops = size_in(t, 25, 4);
+        u.begun = 0;
+        u.count = 0;
+        u.entries = 0;
+        return u;
+    }
+    if 0 < s.layers {
+        return behind_layer(s, t);
+    }
+    behind_mesh(t)
+}
+
+// ---- stage 1
+
+// How many records are judged: those that there are, and no more than there may be.
+pub fn records_of(file: &[u8]) -> usize
+    ensures { λ r. ⌜ (r ≡ recordsOf (now (file .entry))) × (r ≤ 6399936) ⌝ }
+{
+    let n = file.len() / 74;
+    if 6399936 < n {
+        return 6399936;
+    }
+    n
+}
+
+// The line end of a record.
+fn judge_end(t: &[u8], row: u32) -> Verdict
+    ensures { λ r. ⌜ r ≡ firstBroken (block 1 row (endChecks (now (t .entry)))) ⌝ }
+{
+    if rules::byte_at(t, 72) != 13 {
+        return Verdict::Broken {
+            number: 2,
+            record: row,
+            column: 73,
+        };
+    }
+    if rules::byte_at(t, 73) != 10 {
+        return Verdict::Broken {
+            number: 2,
+            record: row,
+            column: 74,
+        };
+    }
+    Verdict::Fine
+}
+
+// The length of a file; `row` is the record behind the last that is judged.
+fn judge_length(n: usize, row: u32) -> Verdict
+    ensures { λ r. ⌜ r ≡ firstBroken (block 1 row (lengthChecks n)) ⌝ }
+{
+    let whole = n / 74;
+    if (1 <= whole) & ((whole <= 6399936) & (n % 74 == 0)) {
+        return Verdict::Fine;
+    }
+    Verdict::Broken {
+        number: 1,
+        record: row,
+        column: 1,
+    }
+}
+
+// Stage 1: every line end, then the length.
+fn stage_one(file: &[u8]) -> Verdict
+    ensures { λ r. ⌜ r ≡ firstBroken (stageOne (now (file .entry))) ⌝ }
+{
+    let n = records_of(file);
+    let mut k: usize = 0;
+    while k < n {
+        let v = judge_end(records::record_view(file, k + 1), (k + 1) as u32);
+        if let Verdict::Broken {
+            number: _,
+            record: _,
+            column: _,
+        } = v {
+            return v;
+        }
+        k += 1;
+    }
+    judge_length(file.len(), (n + 1) as u32)
+}
+
+// ---- stage 2
+
+// Nothing counted.
+fn no_counts() -> Counts
+    ensures { λ r. ⌜ r ≡ noCounts ⌝ }
+{
+    Counts {
+        meshes: 0,
+        layers: 0,
+        nodes: 0,
+        lines: 0,
+        areas: 0,
+        words: 0,
+    }
+}
+
+// The counts with a record more.
+fn counted(c: Counts, d: Due, t: &[u8]) -> Counts
+    requires { ⌜ Countable c ⌝ }
+    ensures { λ r. ⌜ r ≡ countedFor d c (now (t .entry)) ⌝ }
+{
+    let mut e = c;
+    match d {
+        Due::Mesh(_) => {
+            e.meshes = c.meshes + 1;
+            e
+        }
+        Due::Layer(_) => {
+            e.layers = c.layers + 1;
+            e.words = c.words + (4 + (size_in(t, 10, 5) + size_in(t, 15, 5)));
+            e
+        }
+        Due::Node(_, _) => {
+            e.nodes = c.nodes + 1;
+            e
+        }
+        Due::Line(_, _) => {
+            e.lines = c.lines + 1;
+            e
+        }
+        Due::Coordinates(_) => e,
+        Due::Area(_, _) => {
+            e.areas = c.areas + 1;
+            e
+        }
+        Due::Loop(_, _, _) => e,
+    }
+}
+
+// The file ends where a record is due.
+fn cut_off(row: u32) -> Verdict
+    ensures { λ r. ⌜ r ≡ Broken 4 row 1 ⌝ }
+{
+    Verdict::Broken {
+        number: 4,
+        record: row,
+        column: 1,
+    }
+}
+
+// The end of a file where `d` is due.
+fn judge_last(d: Due, row: u32) -> Verdict
+    ensures { λ r. ⌜ r ≡ firstBroken (block 2 row (lastChecks d)) ⌝ }
+{
+    match d {
+        Due::Mesh(_) => Verdict::Fine,
+        Due::Layer(_) => cut_off(row),
+        Due::Node(_, _) => cut_off(row),
+        Due::Line(_, _) => cut_off(row),
+        Due::Coordinates(_) => cut_off(row),
+        Due::Area(_, _) => cut_off(row),
+        Due::Loop(_, _, _) => cut_off(row),
+    }
+}
+
+// A refusal, with no counts.
+fn refused(v: Verdict) -> Walked
+    ensures { λ r. ⌜ r ≡ record { verdict = v; counts = noCounts } ⌝ }
+{
+    let counts = no_counts();
+    Walked { verdict: v, counts }
+}
+
+// Stage 2: every record by what is due, then the end of the file.
+fn stage_two(file: &[u8]) -> Walked
+    ensures { λ r. ⌜ r ≡ walkedBy (firstBroken (stageTwo (now (file .entry)))) (countsAt (now (file .entry)) (recordsOf (now (file .entry)))) ⌝ }
+{
+    let n = records_of(file);
+    let mut s = at_start();
+    let mut c = no_counts();
+    let mut k: usize = 0;
+    while k < n {
+        let t = records::record_view(file, k + 1);
+        let d = due(s);
+        let v = rules::judge_record(d, t, (k + 1) as u32);
+        if let Verdict::Broken {
+            number: _,
+            record: _,
+            column: _,
+        } = v {
+            return refused(v);
+        }
+        c = counted(c, d, t);
+        s = next(s, t);
+        k += 1;
+    }
+    let v = judge_last(due(s), (n + 1) as u32);
+    if let Verdict::Broken {
+        number: _,
+        record: _,
+        column: _,
+    } = v {
+        return refused(v);
+    }
+    Walked {
+        verdict: v,
+        counts: c,
+    }
+}
+
+// Stages 1 and 2.
+pub fn walk_file(file: &[u8]) -> Walked
+    ensures { λ r. ⌜ r ≡ walkedOf (now (file .entry)) ⌝ }
+{
+    let v = stage_one(file);
+    if let Verdict::Broken {
+        number: _,
+        record: _,
+        column: _,
+    } = v {
+        return refused(v);
+    }
+    stage_two(file)
+}
+
+// ---- the table
+
+// The four words of a row, from `at` on.
+fn put_row(table: &mut [u32], at: usize, h: u32, nodes: usize, lines: usize, areas: usize)
+    requires { ⌜ at + 4 ≤ length (now table) ⌝ }
+    requires { ⌜ (nodes ≤ 999999) × (lines ≤ 999999) × (areas ≤ 999999) ⌝ }
+    ensures { λ _. ⌜ now (table .exit) ≡ sets (now (table .entry)) at (h ∷ nodes ∷ lines ∷ areas ∷ []) ⌝ }
+{
+    table[at] = h;
+    table[at + 1] = nodes as u32;
+    table[at + 2] = lines as u32;
+    table[at + 3] = areas as u32;
+}
+
+// Where the sections of the table begin: the lines' and the areas'. The rows' is 0.
+struct Bases {
+    lines: usize,
+    areas: usize,
+}
+
+// The words that the record `t` gives, due as `d`, behind the counts `c`.
+fn put_record(table: &mut [u32], d: Due, t: &[u8], row: u32, c: Counts, b: Bases)
+    requires { ⌜ Roomy d c b (length (now table)) ⌝ }
+    ensures { λ _. ⌜ now (table .exit) ≡ sets (now (table .entry)) (placeOf d c b) (recordWords d (now (t .entry)) row) ⌝ }
+{
+    match d {
+        Due::Mesh(_) => {}
+        Due::Layer(_) => {
+            let nodes = size_in(t, 5, 5);
+            let lines = size_in(t, 10, 5);
+            let areas = size_in(t, 15, 5);
+            put_row(table, 4 * c.layers, row, nodes, lines, areas);
+        }
+        Due::Node(_, _) => {}
+        Due::Line(_, _) => {
+            table[b.lines + c.lines] = row;
+        }
+        Due::Coordinates(_) => {}
+        Due::Area(_, _) => {
+            table[b.areas + c.areas] = row;
+        }
+        Due::Loop(_, _, _) => {}
+    }
+}
+
+// Fills the table of a file whose records count up to `total`: the rest of the buffer stays as it was.
+fn fill(file: &[u8], total: Counts, table: &mut [u32])
+    requires { ⌜ total ≡ countsAt (now file) (recordsOf (now file)) ⌝ }
+    requires { ⌜ rowLength * total .layers + (total .lines + total .areas) ≤ length (now table) ⌝ }
+    ensures { λ _. ⌜ now (table .exit) ≡ filled (tableOf (now (file .entry))) (now (table .entry)) ⌝ }
+{
+    let n = records_of(file);
+    let rows = 4 * total.layers;
+    let b = Bases {
+        lines: rows,
+        areas: rows + total.lines,
+    };
+    let mut s = at_start();
+    let mut c = no_counts();
+    let mut k: usize = 0;
+    while k < n {
+        let t = records::record_view(file, k + 1);
+        let d = due(s);
+        put_record(&mut *table, d, t, (k + 1) as u32, c, b);
+        c = counted(c, d, t);
+        s = next(s, t);
+        k += 1;
+    }
+}
+
+// What stages 1 and 2 and refusal 9 answer; the counts of a file refused in stage 1 or 2 are 0.
+pub struct Tabled {
+    pub verdict: Verdict,
+    pub counts: Counts,
+}
+
+// The table is too short.
+fn too_short() -> Verdict
+    ensures { λ r. ⌜ r ≡ Broken 9 0 0 ⌝ }
+{
+    Verdict::Broken {
+        number: 9,
+        record: 0,
+        column: 0,
+    }
+}
+
+// Stages 1 and 2, refusal 9, and then the table.
+pub fn fill_table(file: &[u8], table: &mut [u32]) -> Tabled
+    ensures { λ r. ⌜ (r ≡ tabledOf (now (file .entry)) (length (now (table .entry)))) × (now (table .exit) ≡ filledBy (firstBroken (early (now (file .entry)) (length (now (table .entry))))) (now (file .entry)) (now (table .entry))) ⌝ }
+{
+    let w = walk_file(file);
+    let counts = w.counts;
+    let v = w.verdict;
+    if let Verdict::Broken {
+        number: _,
+        record: _,
+        column: _,
+    } = v {
+        return Tabled { verdict: v, counts };
+    }
+    if table.len() < counts.words {
+        let short = too_short();
+        return Tabled {
+            verdict: short,
+            counts,
+        };
+    }
+    fill(file, counts, table);
+    Tabled { verdict: v, counts }
+}
+
+// ---- the need
+
+// The words that a file needs; 0 for a file refused in stage 1 or 2.
+pub fn need(file: &[u8]) -> usize
+    ensures { λ r. ⌜ r ≡ needOf (now (file .entry)) ⌝ }
+{
+    let w = walk_file(file);
+    w.counts.words
+}
