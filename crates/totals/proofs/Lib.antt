@@ -1,0 +1,2 @@
+-- Laws of stage 3.
+pub mod Summing

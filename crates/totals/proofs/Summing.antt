@@ -1,0 +1,187 @@
+-- Stage 3 as the code judges it: sums record by record, and its rules in 01's order. Assumes nothing.
+use mathlib.Core.Bool.{Bool, true, false, cond}
+use mathlib.Core.List.{List, [], _∷_}
+use mathlib.Core.Path.{_≡_, refl, sym, _∙_, ap}
+use Prim.Native.Nat.{ℕ, zero, suc, _+_, _-_, _*_, _≤_, _<_}
+use native.Mathlib.Numerals.{add-one}
+use native.Mathlib.Omega.{arith}
+use lib.Dec.{leb, eqb}
+use borrow.Author.Tests.{le-leb, lt-leb, eq-eqb, ne-eqb}
+use Rattle.records.specs.View.{recordOf}
+use Rattle.verdict.specs.declared.Verdict.{Verdict}
+use Rattle.verdict.specs.declared.Verdict.the-variants.{Fine, Broken}
+use Rattle.verdict.specs.Rules.{Rule, Check, check, firstBroken, block, rows}
+use Rattle.verdict.specs.Order.{Sorted, rising}
+use Rattle.verdict.proofs.Parts.{rows-stop, rows-done, check-kept, check-broken}
+use Rattle.verdict.proofs.Numbers.{numbered, Numbered, block-numbered, rows-numbered}
+use Rattle.verdict.proofs.Orders.{Of, rows-sorted, rows-in}
+use Rattle.rules.specs.declared.Due.{Due}
+use Rattle.rules.specs.declared.Due.the-variants.{Mesh, Layer, Node, Line, Coordinates, Area, Loop}
+use Rattle.walk.specs.declared.State.{State}
+use Rattle.walk.specs.States.{sizeIn, dueOf, stateAt}
+use Rattle.walk.specs.Stages.{recordsOf}
+use Rattle.walk.proofs.Walking.{size-small}
+use Rattle.totals.specs.declared.Sums.{Sums}
+use Rattle.totals.specs.Totals.{rankOf, noSums, oneMore, addedFor, sumsFrom, sumsBehind, meshTotals, layerTotals, areaTotals, totalChecks, fourth, stageThree}
+use Rattle.totals.specs.Adding.{Addable}
+
+-- ---- sums stay small
+
+pub none-addable : (k : ℕ) → Addable k noSums
+none-addable k = record { records = omega arith; nodes = omega arith; lines = omega arith; areas = omega arith; entries = omega arith }
+
+pub most-addable : (k : ℕ) {s : Sums} → k ≤ 6399936 → Addable k s → Addable 6399936 s
+most-addable k l a = record {
+  records = omega (arith, a .records);
+  nodes = omega (arith, a .nodes);
+  lines = omega (arith, a .lines);
+  areas = omega (arith, a .areas);
+  entries = omega (arith, a .entries);
+}
+
+one-addable : (k : ℕ) {s u : Sums} → Addable k s
+    → u .records ≡ s .records + 1 → u .nodes ≤ s .nodes + 999999 → u .lines ≤ s .lines + 999999 → u .areas ≤ s .areas + 999999 → u .entries ≤ s .entries + 999999
+    → Addable (k + 1) u
+one-addable k a r n l p e = record {
+  records = omega (arith, a .records);
+  nodes = omega (arith, a .nodes);
+  lines = omega (arith, a .lines);
+  areas = omega (arith, a .areas);
+  entries = omega (arith, a .entries);
+}
+
+pub more-addable : (k : ℕ) (d : Due) (s : Sums) (t : List ℕ) → Addable k s → Addable (k + 1) (addedFor d s t)
+more-addable k (Mesh last) s t a = one-addable k a refl (omega arith) (omega arith) (omega arith) (omega arith)
+more-addable k (Layer last) s t a = one-addable k a refl (omega (arith, size-small t 5 5)) (omega (arith, size-small t 10 5)) (omega (arith, size-small t 15 5)) (omega arith)
+more-addable k (Node layer last) s t a = one-addable k a refl (omega arith) (omega arith) (omega arith) (omega arith)
+more-addable k (Line layer last) s t a = one-addable k a refl (omega arith) (omega arith) (omega arith) (omega arith)
+more-addable k (Coordinates left) s t a = one-addable k a refl (omega arith) (omega arith) (omega arith) (omega arith)
+more-addable k (Area layer last) s t a = one-addable k a refl (omega arith) (omega arith) (omega arith) (omega arith)
+more-addable k (Loop last count zero) s t a = one-addable k a refl (omega arith) (omega arith) (omega arith) (omega (arith, size-small t 6 4))
+more-addable k (Loop last count (suc left)) s t a = one-addable k a refl (omega arith) (omega arith) (omega arith) (omega arith)
+
+-- ---- the loop over what follows
+
+module _ (r : ℕ) (file : List ℕ) where
+  pub sums-start : (k : ℕ) → sumsFrom r file k (recordsOf file - k) noSums ≡ sumsBehind r file k
+  unfolding sumsBehind
+  sums-start k = refl
+
+  -- one record more
+  sums-step : (i : ℕ) (s : Sums) → i < recordsOf file
+      → sumsFrom r file i (recordsOf file - i) s
+      ≡ cond (leb (rankOf (dueOf (stateAt file i))) r) s (sumsFrom r file (i + 1) (recordsOf file - (i + 1)) (addedFor (dueOf (stateAt file i)) s (recordOf file (i + 1))))
+  unfolding sumsFrom
+  sums-step i s l =
+      let e : recordsOf file - i ≡ suc (recordsOf file - (i + 1)) = omega arith in
+      rw (e, add-one)
+
+  -- the next of its rank or above is due
+  pub sums-stop : (i : ℕ) {u : State} {d : Due} {s z : Sums} {m : ℕ} → i < recordsOf file → u ≡ stateAt file i → d ≡ dueOf u → m ≡ rankOf d → m ≤ r
+      → sumsFrom r file i (recordsOf file - i) s ≡ z → s ≡ z
+  sums-stop i {u} {d} {s} {z} {m} l g e f h q =
+      let t : leb (rankOf (dueOf (stateAt file i))) r ≡ true = rw (← g, ← e, ← f) (le-leb m r h) in
+      sym (rw t at (sums-step i s l)) ∙ q
+
+  -- another is
+  pub sums-more : (i : ℕ) (s : Sums) {u : State} {d : Due} {t : List ℕ} {x z : Sums} {m : ℕ} → i < recordsOf file → u ≡ stateAt file i → d ≡ dueOf u → m ≡ rankOf d → r < m
+      → t ≡ recordOf file (i + 1) → x ≡ addedFor d s t → sumsFrom r file i (recordsOf file - i) s ≡ z → sumsFrom r file (i + 1) (recordsOf file - (i + 1)) x ≡ z
+  sums-more i s {u} {d} {t} {x} {z} {m} l g e f h y a q =
+      let b : leb (rankOf (dueOf (stateAt file i))) r ≡ false = rw (← g, ← e, ← f) (lt-leb m r h) in
+      rw (a, y, e, g) (sym (rw b at (sums-step i s l)) ∙ q)
+
+  -- none is left
+  pub sums-end : (i : ℕ) {s z : Sums} → recordsOf file ≤ i → sumsFrom r file i (recordsOf file - i) s ≡ z → s ≡ z
+  unfolding sumsFrom
+  sums-end i l q =
+      let e : recordsOf file - i ≡ 0 = omega arith in
+      rw e at q
+
+-- ---- totals
+
+-- a total x, read as m, against the count y, in front of other checks
+module _ (r c x y : ℕ) {m : ℕ} (e : m ≡ x) (cs : List Check) where
+  pub total-broken : (m ≡ y → ⊥) → Broken 10 r c ≡ firstBroken (block fourth r (check c 10 (eqb x y) ∷ cs))
+  total-broken h = sym (check-broken fourth r c 10 (eqb x y) cs (rw (← e) (ne-eqb m y h)))
+
+  pub total-kept : {v : Verdict} → m ≡ y → v ≡ firstBroken (block fourth r cs) → v ≡ firstBroken (block fourth r (check c 10 (eqb x y) ∷ cs))
+  total-kept h q = q ∙ sym (check-kept fourth r c 10 (eqb x y) cs (rw (← e) (eq-eqb m y h)))
+
+-- a later record of a loop adds no line count
+pub later-loop : (a b left : ℕ) (s : Sums) (t : List ℕ) → (left ≡ 0 → ⊥) → oneMore s ≡ addedFor (Loop a b left) s t
+later-loop a b zero s t h = absurd (h refl)
+later-loop a b (suc left) s t h = refl
+
+-- ---- a record's totals, by the code's arms
+
+module _ (file : List ℕ) (k : ℕ) {d : Due} {t : List ℕ} {s : Sums} {v : Verdict} where
+  pub mesh-arm : {last : ℕ} → d ≡ Mesh last → t ≡ recordOf file (k + 1) → s ≡ sumsBehind 0 file (k + 1)
+      → v ≡ firstBroken (block fourth (k + 1) (meshTotals t s)) → v ≡ firstBroken (block fourth (k + 1) (totalChecks d file k))
+  mesh-arm e f g h = rw (e, ← f, ← g) h
+
+  pub layer-arm : {last x : ℕ} → d ≡ Layer last → t ≡ recordOf file (k + 1) → s ≡ sumsBehind 1 file (k + 1) → x ≡ sizeIn t 25 5
+      → v ≡ firstBroken (block fourth (k + 1) (check 25 10 (eqb x (s .records + 1)) ∷ [])) → v ≡ firstBroken (block fourth (k + 1) (totalChecks d file k))
+  unfolding layerTotals
+  layer-arm e f g q h = rw (e, ← f, ← g, ← q) h
+
+  pub area-arm : {layer last x : ℕ} → d ≡ Area layer last → t ≡ recordOf file (k + 1) → s ≡ sumsBehind 2 file (k + 1) → x ≡ sizeIn t 29 4
+      → v ≡ firstBroken (block fourth (k + 1) (check 29 10 (eqb x (s .entries)) ∷ [])) → v ≡ firstBroken (block fourth (k + 1) (totalChecks d file k))
+  unfolding areaTotals
+  area-arm e f g q h = rw (e, ← f, ← g, ← q) h
+
+-- ---- the loop over all records
+
+-- the rules of record k + 1
+abbrev pub totalsOf : List ℕ → ℕ → List Rule
+totalsOf file k = block fourth (k + 1) (totalChecks (dueOf (stateAt file k)) file k)
+
+pub rule-is : (file : List ℕ) (k : ℕ) {s : State} {d : Due} {v : Verdict} → s ≡ stateAt file k → d ≡ dueOf s
+    → v ≡ firstBroken (block fourth (k + 1) (totalChecks d file k)) → v ≡ firstBroken (totalsOf file k)
+rule-is file k e f h = rw (← e, ← f) h
+
+module _ (file : List ℕ) {n : ℕ} (e : n ≡ recordsOf file) where
+  pub three-stops : (k : ℕ) {v : Verdict} {a b c : ℕ} → v ≡ Broken a b c → v ≡ firstBroken (totalsOf file k) → firstBroken (rows k (totalsOf file)) ≡ Fine → k < n → v ≡ firstBroken (stageThree file)
+  unfolding stageThree
+  three-stops k q h f l = rows-stop (totalsOf file) (recordsOf file) k (omega (arith, e)) f h q
+
+  pub three-done : (k : ℕ) → firstBroken (rows k (totalsOf file)) ≡ Fine → k ≤ n → n ≤ k → Fine ≡ firstBroken (stageThree file)
+  unfolding stageThree
+  three-done k f l m = rows-done (totalsOf file) (recordsOf file) k (omega (arith, e)) (omega (arith, e)) f
+
+-- ---- the rules in 01's order
+
+total-rising : (d : Due) (file : List ℕ) (k : ℕ) → rising (totalChecks d file k) ≡ true
+unfolding meshTotals layerTotals areaTotals
+total-rising (Mesh last) file k = refl
+total-rising (Layer last) file k = refl
+total-rising (Node layer last) file k = refl
+total-rising (Line layer last) file k = refl
+total-rising (Coordinates left) file k = refl
+total-rising (Area layer last) file k = refl
+total-rising (Loop last count left) file k = refl
+
+pub three-sorted : (file : List ℕ) → Sorted (stageThree file)
+unfolding stageThree
+three-sorted file = rows-sorted fourth (λ k. totalChecks (dueOf (stateAt file k)) file k) (recordsOf file) (λ k. total-rising (dueOf (stateAt file k)) file k)
+
+pub three-of : (file : List ℕ) → Of fourth (stageThree file)
+unfolding stageThree
+three-of file a i = rows-in fourth (λ k. totalChecks (dueOf (stateAt file k)) file k) (recordsOf file) a i .0
+
+abbrev pub above9 : ℕ → Bool
+above9 n = leb 10 n
+
+-- every one has a number above 9
+total-numbered : (d : Due) (file : List ℕ) (k : ℕ) → numbered above9 (totalChecks d file k) ≡ true
+unfolding meshTotals layerTotals areaTotals
+total-numbered (Mesh last) file k = refl
+total-numbered (Layer last) file k = refl
+total-numbered (Node layer last) file k = refl
+total-numbered (Line layer last) file k = refl
+total-numbered (Coordinates left) file k = refl
+total-numbered (Area layer last) file k = refl
+total-numbered (Loop last count left) file k = refl
+
+pub three-numbered : (file : List ℕ) → Numbered above9 (stageThree file)
+unfolding stageThree
+three-numbered file = rows-numbered above9 (recordsOf file) (totalsOf file) (λ k. block-numbered above9 fourth (k + 1) (totalChecks (dueOf (stateAt file k)) file k) (total-numbered (dueOf (stateAt file k)) file k))

@@ -1,0 +1,85 @@
+-- `totals::stage_three` meets its contract: the loop leaves at the first broken total. Assumes nothing.
+use mathlib.Core.Path.{_≡_, _∙_}
+use Prim.Native.Nat.{_-_, _≤_}
+use borrow.Author.Needs.{needs}
+use Rattle.verdict.specs.declared.Verdict.the-variants.{Fine}
+use Rattle.verdict.specs.Rules.{firstBroken, rows}
+use Rattle.verdict.proofs.Parts.{rows-none, rows-pass}
+use Rattle.walk.specs.States.{stateAt}
+use Rattle.walk.proofs.Walking.{at-none, next-state}
+use Rattle.totals.proofs.Summing.{totalsOf, rule-is, three-stops, three-done}
+use Rattle.totals.proofs.stage_three.Statement.{statement}
+use Rattle.totals.proofs.stage_three.Tie as tie
+
+abbrev Inv-loop : tie.InvT-loop
+Inv-loop file n s₀ k₀ s k = (k ≤ n) × (s ≡ stateAt file k) × (firstBroken (rows k (totalsOf file)) ≡ Fine)
+
+abbrev μ-loop : tie.MeasureT-loop
+μ-loop file n s₀ k₀ s k = n - k
+
+records-of-requires : tie.Need-records-of-requires Inv-loop μ-loop
+records-of-requires c κs = search needs
+
+at-start-requires : tie.Need-at-start-requires Inv-loop μ-loop
+at-start-requires c κs = search needs
+
+loop-holds : tie.Need-loop-holds Inv-loop μ-loop
+loop-holds c = (search needs, c .at-start .ensures ∙ at-none _, rows-none _)
+
+due-requires : tie.Need-due-requires Inv-loop μ-loop
+due-requires c κs = search needs
+
+add-record-view : tie.Need-add-record-view Inv-loop μ-loop
+add-record-view c = search needs
+
+record-view-requires : tie.Need-record-view-requires Inv-loop μ-loop
+record-view-requires c κs = search needs
+
+next-requires : tie.Need-next-requires Inv-loop μ-loop
+next-requires c κs = search needs
+
+judge-totals-requires : tie.Need-judge-totals-requires Inv-loop μ-loop
+judge-totals-requires c κs = (search needs, next-state _ _ (c .before .before .before .before .loop .inv .1) (rw (← c .before .record-view .ensures) (c .next .ensures)))
+
+enum-told : tie.Need-enum-told Inv-loop μ-loop
+enum-told c = search needs
+
+returns : tie.Need-returns Inv-loop μ-loop
+returns c = three-stops _ (c .before .before .before .before .before .before .before .before .before .records-of .ensures .0) _ (c .enum-told .given .1) (rule-is _ _ (c .before .before .before .before .before .before .before .loop .inv .1) (c .before .before .before .before .before .due .ensures) (c .before .before .judge-totals .ensures)) (c .before .before .before .before .before .before .before .loop .inv .2) (c .before .before .before .before .before .before .loop-test .taken)
+
+enum-told-2 : tie.Need-enum-told-2 Inv-loop μ-loop
+enum-told-2 c = search needs
+
+add-k : tie.Need-add-k Inv-loop μ-loop
+add-k c = search needs
+
+loop-less : tie.Need-loop-less Inv-loop μ-loop
+loop-less c = search needs
+
+loop-again : tie.Need-loop-again Inv-loop μ-loop
+loop-again c = (search needs, next-state _ _ (c .before .before .before .before .before .before .before .loop .inv .1) (rw (← c .before .before .before .before .record-view .ensures) (c .before .before .before .next .ensures)), rows-pass _ _ (c .before .before .before .before .before .before .before .loop .inv .2) (rule-is _ _ (c .before .before .before .before .before .before .before .loop .inv .1) (c .before .before .before .before .before .due .ensures) (c .before .before .judge-totals .ensures)) (c .enum-told2 .given .1))
+
+returns-2 : tie.Need-returns-2 Inv-loop μ-loop
+returns-2 c = three-done _ (c .before .before .before .records-of .ensures .0) _ (c .before .loop .inv .2) (c .before .loop .inv .0) (c .loop-test .left)
+
+pub stage-three-spec : {M : Type 1} → statement M
+stage-three-spec =
+    tie.close
+    (tie.spec
+    Inv-loop
+    μ-loop
+    records-of-requires
+    at-start-requires
+    loop-holds
+    due-requires
+    add-record-view
+    record-view-requires
+    next-requires
+    judge-totals-requires
+    enum-told
+    returns
+    enum-told-2
+    add-k
+    loop-less
+    loop-again
+    returns-2)

@@ -1,0 +1,83 @@
+-- `totals::sums_behind` meets its contract: what is left to add gives the sums of the whole. Assumes nothing.
+use denote.Ref.{now}
+use Prim.Native.Nat.{_-_, _≤_}
+use mathlib.Core.Path.{_≡_}
+use native.Mathlib.Omega.{arith}
+use borrow.Author.Needs.{needs}
+use Rattle.walk.specs.States.{stateAt}
+use Rattle.walk.specs.Stages.{recordsOf}
+use Rattle.walk.proofs.Walking.{next-state}
+use Rattle.totals.specs.Totals.{sumsFrom, sumsBehind}
+use Rattle.totals.specs.Adding.{Addable}
+use Rattle.totals.proofs.Summing.{none-addable, most-addable, more-addable, sums-start, sums-stop, sums-more, sums-end}
+use Rattle.totals.proofs.sums_behind.Statement.{statement}
+use Rattle.totals.proofs.sums_behind.Tie as tie
+
+abbrev Inv-loop : tie.InvT-loop
+Inv-loop rank file k n sums₀ state₀ i₀ sums state i = (i ≤ 6399936) × (state ≡ stateAt file i) × (Addable i sums) × (sumsFrom rank file i (recordsOf file - i) sums ≡ sumsBehind rank file k)
+
+abbrev μ-loop : tie.MeasureT-loop
+μ-loop rank file k n sums₀ state₀ i₀ sums state i = n - i
+
+records-of-requires : tie.Need-records-of-requires Inv-loop μ-loop
+records-of-requires c κs = search needs
+
+no-sums-requires : tie.Need-no-sums-requires Inv-loop μ-loop
+no-sums-requires c κs = search needs
+
+loop-holds : tie.Need-loop-holds Inv-loop μ-loop
+loop-holds c = (c .before .before .before .pre .0, c .before .before .before .pre .1, rw (c .no-sums .ensures) (none-addable _), rw (c .no-sums .ensures) (sums-start _ _ _))
+
+due-requires : tie.Need-due-requires Inv-loop μ-loop
+due-requires c κs = search needs
+
+rank-of-requires : tie.Need-rank-of-requires Inv-loop μ-loop
+rank-of-requires c κs = search needs
+
+returns : tie.Need-returns Inv-loop μ-loop
+returns c = (sums-stop _ _ _ (rw (c .before .before .before .before .before .before .records-of .ensures .0) at (c .before .before .before .loop-test .taken)) (c .before .before .before .before .loop .inv .1) (c .before .before .due .ensures) (c .before .rank-of .ensures) (c .if1 .taken) (c .before .before .before .before .loop .inv .3), most-addable _ (c .before .before .before .before .loop .inv .0) (c .before .before .before .before .loop .inv .2))
+
+add-record-view : tie.Need-add-record-view Inv-loop μ-loop
+add-record-view c = search needs
+
+record-view-requires : tie.Need-record-view-requires Inv-loop μ-loop
+record-view-requires c κs = search needs
+
+added-requires : tie.Need-added-requires Inv-loop μ-loop
+added-requires c κs = most-addable _ (c .before .before .before .before .before .loop .inv .0) (c .before .before .before .before .before .loop .inv .2)
+
+next-requires : tie.Need-next-requires Inv-loop μ-loop
+next-requires c κs = search needs
+
+add-i : tie.Need-add-i Inv-loop μ-loop
+add-i c = search needs
+
+loop-less : tie.Need-loop-less Inv-loop μ-loop
+loop-less c = search needs
+
+loop-again : tie.Need-loop-again Inv-loop μ-loop
+loop-again c = (omega (arith, c .before .before .before .before .before .before .before .before .before .records-of .ensures .1, c .before .before .before .before .before .before .loop-test .taken), next-state _ _ (c .before .before .before .before .before .before .before .loop .inv .1) (rw (← c .before .before .record-view .ensures) (c .next .ensures)), rw (c .before .added .ensures) (more-addable _ (c .before .before .before .before .before .due .result) (c .before .before .before .before .before .before .before .loop .sums) (now (c .before .before .record-view .result)) (c .before .before .before .before .before .before .before .loop .inv .2)), sums-more _ _ _ _ (rw (c .before .before .before .before .before .before .before .before .before .records-of .ensures .0) at (c .before .before .before .before .before .before .loop-test .taken)) (c .before .before .before .before .before .before .before .loop .inv .1) (c .before .before .before .before .before .due .ensures) (c .before .before .before .before .rank-of .ensures) (c .before .before .before .if1 .left) (c .before .before .record-view .ensures) (c .before .added .ensures) (c .before .before .before .before .before .before .before .loop .inv .3))
+
+returns-2 : tie.Need-returns-2 Inv-loop μ-loop
+returns-2 c = (sums-end _ _ _ (rw (c .before .before .before .records-of .ensures .0) at (c .loop-test .left)) (c .before .loop .inv .3), most-addable _ (c .before .loop .inv .0) (c .before .loop .inv .2))
+
+pub sums-behind-spec : {M : Type 1} → statement M
+sums-behind-spec =
+    tie.close
+    (tie.spec
+    Inv-loop
+    μ-loop
+    records-of-requires
+    no-sums-requires
+    loop-holds
+    due-requires
+    rank-of-requires
+    returns
+    add-record-view
+    record-view-requires
+    added-requires
+    next-requires
+    add-i
+    loop-less
+    loop-again
+    returns-2)
