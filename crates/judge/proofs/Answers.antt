@@ -1,0 +1,25 @@
+-- The theorem of the judge's first half: the answer is the least broken rule in 01's order, Fine exactly where none is broken, and no
+-- second answer fits. The rules stand in that order, so the first broken one is the least. Assumes nothing.
+use mathlib.Core.List.{List}
+use mathlib.Core.Path.{_≡_}
+use Prim.Native.Nat.{ℕ}
+use lib.Dec.{lit<}
+use Rattle.verdict.specs.declared.Verdict.{Verdict}
+use Rattle.verdict.specs.Order.{Answer, Sorted}
+use Rattle.verdict.proofs.Orders.{answers, only, stage-sorted}
+use Rattle.walk.specs.Stages.{third, early}
+use Rattle.walk.proofs.InOrder.{early-sorted, early-up}
+use Rattle.totals.specs.Totals.{fourth, stageThree}
+use Rattle.totals.proofs.Summing.{three-sorted, three-of}
+use Rattle.judge.specs.Rulebook.{rulesOf, verdictOf}
+
+pub rules-sorted : (file : List ℕ) (room : ℕ) → Sorted (rulesOf file room)
+unfolding rulesOf
+rules-sorted file room = stage-sorted third fourth (early file room) (stageThree file) (lit< tt) (early-up file room) (three-of file) (early-sorted file room) (three-sorted file)
+
+pub verdict-answers : (file : List ℕ) (room : ℕ) → Answer (rulesOf file room) (verdictOf file room)
+unfolding verdictOf
+verdict-answers file room = answers (rulesOf file room) (rules-sorted file room)
+
+pub verdict-only : (file : List ℕ) (room : ℕ) (v : Verdict) → Answer (rulesOf file room) v → v ≡ verdictOf file room
+verdict-only file room v a = only (rulesOf file room) v (verdictOf file room) a (verdict-answers file room)

@@ -1,0 +1,17 @@
+-- The rules of a file in 01's order, up to stage 3 (document 01, "Order of judgement and refusal numbers"). A record's rules stand in
+-- `rules`, those of stages 1 and 2 and refusal 9 in `walk`, and those of stage 3 in `totals`. Assumes nothing.
+--   rulesOf file room   the rules of the file, where a table of `room` words is lent
+--   verdictOf file room the answer: the first broken one
+use mathlib.Core.List.{List, _++_}
+use Prim.Native.Nat.{ℕ}
+use Rattle.verdict.specs.declared.Verdict.{Verdict}
+use Rattle.verdict.specs.Rules.{Rule, firstBroken}
+use Rattle.walk.specs.Stages.{early}
+use Rattle.totals.specs.Totals.{stageThree}
+
+-- "The stages run over the whole file, one after another."
+unfoldable pub rulesOf : List ℕ → ℕ → List Rule
+rulesOf file room = early file room ++ stageThree file
+
+unfoldable pub verdictOf : List ℕ → ℕ → Verdict
+verdictOf file room = firstBroken (rulesOf file room)

@@ -1,0 +1,112 @@
+-- The smallest sheet and its neighbours (document 01, the section of that name), and what stages 1 to 3 say of each. Assumes nothing.
+--   mRecord, .., loopRecord   a record of sheet S, as a function of what its neighbours change
+--   sheetS                    sheet S, 518 bytes
+--   changed k c bytes         S with these bytes in record k, from column c on; withMesh: with another M
+--   cases                     S and its neighbours, each with its verdict
+--   twoMeshes                 an accepted file of two meshes
+use mathlib.Core.List.{List, [], _∷_, _++_}
+use Prim.Native.Nat.{ℕ, zero, suc, _+_, _-_, _*_}
+use lib.IntN.{ℤ, pos, negsuc}
+use lib.ListN.{take}
+use Rattle.fields.specs.Place.{put}
+use Rattle.records.specs.declared.Kind.{Kind}
+use Rattle.records.specs.declared.Kind.the-variants.{Mesh, Layer, Node, Line, Coordinates, Area, Loop}
+use Rattle.records.specs.Writing.{lineOf}
+use Rattle.verdict.specs.declared.Verdict.{Verdict}
+use Rattle.verdict.specs.declared.Verdict.the-variants.{Fine, Broken}
+
+-- ---- the seven records
+
+-- "Names are 81 40 throughout."
+abbrev pub wide : ℕ → List ℕ
+wide zero = []
+wide (suc n) = 0x81 ∷ 0x40 ∷ wide n
+
+-- a record of kind k with the numbers ns; those that are not listed are 0
+unfoldable pub written : Kind → List ℤ → List ℕ
+written k ns = lineOf (record { kind = k; numbers = ns; name = wide 20 })
+
+-- "M (533945; totals 1,1,1,1,0,7)": mesh code, layers, records
+unfoldable pub mRecord : ℕ → ℕ → ℕ → List ℕ
+mRecord code layers records = written Mesh (pos code ∷ pos layers ∷ pos 1 ∷ pos 1 ∷ pos 1 ∷ pos 0 ∷ pos records ∷ [])
+
+-- "H (layer 1; 1,1,1,0; records 6; dates 0)": records
+unfoldable pub hRecord : ℕ → List ℕ
+hRecord records = written Layer (pos 1 ∷ pos 1 ∷ pos 1 ∷ pos 1 ∷ pos 0 ∷ pos records ∷ pos 0 ∷ pos 0 ∷ [])
+
+-- "N (item 3, serial 1, (0,0), frame 1, count 2: 1, -1)": layer, frame, count, second slot
+unfoldable pub nRecord : ℕ → ℕ → ℕ → ℤ → List ℕ
+nRecord layer frame count second = written Node (pos layer ∷ pos 3 ∷ pos 1 ∷ pos 0 ∷ pos 0 ∷ pos frame ∷ pos count ∷ pos 1 ∷ second ∷ [])
+
+-- "L (item 9, kind 9, nodes 1 and 1, links 2, left 88888/0, right 13101/1, 5 points)": left code and area, right code and area
+unfoldable pub lRecord : ℕ → ℕ → ℕ → ℕ → List ℕ
+lRecord leftCode left rightCode right =
+    written Line (
+    pos 1 ∷ pos 9 ∷ pos 1 ∷ pos 9 ∷ pos 1 ∷ pos 2 ∷ pos 1 ∷ pos 2
+    ∷ pos leftCode ∷ pos left ∷ pos rightCode ∷ pos right ∷ pos 5 ∷ [])
+
+-- "(0,0) (0,10000) (10000,10000) (10000,0) (0,0)": the last Y, and the X behind it
+unfoldable pub points : ℕ → ℕ → List ℕ
+points lastY sixthX =
+    written Coordinates (
+    pos 0 ∷ pos 0 ∷ pos 0 ∷ pos 10000 ∷ pos 10000 ∷ pos 10000 ∷ pos 10000 ∷ pos 0 ∷ pos 0 ∷ pos lastY
+    ∷ pos sixthX ∷ [])
+
+-- "A (13101, serial 1, (5000,5000), 1 loop, 1 line)": lines
+unfoldable pub aRecord : ℕ → List ℕ
+aRecord lines = written Area (pos 1 ∷ pos 13101 ∷ pos 1 ∷ pos 5000 ∷ pos 5000 ∷ pos 1 ∷ pos lines ∷ [])
+
+-- "loop 1, count 1, entry 1": count, entry
+unfoldable pub loopRecord : ℕ → ℤ → List ℕ
+loopRecord count entry = written Loop (pos 1 ∷ pos count ∷ entry ∷ [])
+
+-- ---- the sheets
+
+-- "Sheet S, 7 records"
+unfoldable pub sheetS : List ℕ
+sheetS =
+    mRecord 533945 1 7
+    ++ (hRecord 6
+    ++ (nRecord 1 1 2 (negsuc 0)
+    ++ (lRecord 88888 0 13101 1
+    ++ (points 0 0
+    ++ (aRecord 1
+    ++ loopRecord 1 (pos 1))))))
+
+unfoldable pub changed : ℕ → ℕ → List ℕ → List ℕ
+changed k c bytes = put sheetS (74 * (k - 1) + c) bytes
+
+abbrev pub withMesh : ℕ → ℕ → ℕ → List ℕ
+withMesh code layers records = changed 1 1 (mRecord code layers records)
+
+-- 01's, in its order; where it names 12, 14, 16 or 17, stages 1 to 3 pass the file. Then further ones, by number
+unfoldable pub cases : List (List ℕ × Verdict)
+cases =
+    (sheetS, Fine)  -- "S accepted"
+    ∷ (withMesh 533945 1 6, Broken 10 1 52)  -- "S with M records 6: 10 at 1,52"
+    ∷ (changed 3 1 (nRecord 1 0 2 (negsuc 0)), Broken 6 3 22)  -- "frame 0: 6 at 3,22"
+    ∷ (changed 3 1 (nRecord 1 1 1 (pos 0)), Fine)  -- "count 1: 14 at 4,24 (slot two 0)"
+    ∷ (changed 5 1 (points 1 0), Fine)  -- "last point (0,1): 12 at 5,41"
+    ∷ (changed 5 1 (points 0 7), Broken 6 5 51)  -- "sixth X 7: 6 at 5,51"
+    ∷ (changed 7 1 (loopRecord 1 (negsuc 0)), Fine)  -- "loop entry -1: 16 at 7,1"
+    ∷ (changed 4 1 (lRecord 13101 1 88888 0), Fine)  -- "left and right exchanged: 17 at 7,10"
+    ∷ (take (74 * 6) sheetS, Broken 4 7 1)  -- "without record 7: 4 at 7,1"
+    ∷ (changed 2 2 (49 ∷ []), Broken 7 2 1)  -- "H1: 7 at 2,1"
+    ∷ (withMesh 533985 1 7, Broken 6 1 3)  -- "mesh 533985: 6 at 1,3"
+    ∷ ([], Broken 1 1 1)  -- no byte
+    ∷ (sheetS ++ (32 ∷ []), Broken 1 8 1)  -- one byte more
+    ∷ (changed 3 74 (32 ∷ []), Broken 2 3 74)  -- byte 74 of record 3 a space
+    ∷ (changed 4 1 (65 ∷ []), Broken 3 4 1)  -- "A " where an L is due
+    ∷ (withMesh 533945 2 7, Broken 4 8 1)  -- layers 2: a second H is due
+    ∷ (changed 3 7 (48 ∷ 48 ∷ 48 ∷ 48 ∷ 49 ∷ []), Broken 5 3 7)  -- the node's serial as "00001"
+    ∷ (changed 7 1 (loopRecord 2 (pos 1)), Broken 6 7 15)  -- loop count 2, slot two 0
+    ∷ (sheetS ++ withMesh 533939 1 7, Broken 6 8 3)  -- a mesh code that is not permitted (6) and below the last (8)
+    ∷ (changed 3 1 (nRecord 5 1 2 (negsuc 0)), Broken 8 3 3)  -- the node's layer code 5
+    ∷ (sheetS ++ sheetS, Broken 8 8 3)  -- the same mesh code again
+    ∷ (changed 2 1 (hRecord 7), Broken 10 2 25)  -- H records 7
+    ∷ (changed 6 1 (aRecord 2), Broken 10 6 29)  -- A lines 2
+    ∷ []
+
+-- "Meshes follow one another, codes strictly rising, first four digits all equal."
+unfoldable pub twoMeshes : List ℕ
+twoMeshes = sheetS ++ withMesh 533946 1 7
