@@ -1,6 +1,8 @@
--- Laws of stage 2 on one record. `Going` has what its loop keeps; the other files serve the proofs.
+-- Laws of stage 2 on one record. `Places` has the checks by column and number, `Rising` that they stand in 01's order, `Going` what the
+-- loop of `judge_record` keeps; the other files serve the proofs.
+pub mod Places
+pub mod Rising
 pub mod Going
 pub mod Signs
 pub mod Matches
 pub mod Slots
-pub mod Rising
