@@ -34,7 +34,7 @@ pub enum Due {
 // ---- permitted values
 
 // 0 or more.
-fn natural(v: i32) -> bool
+pub fn natural(v: i32) -> bool
     ensures { λ r. ⌜ r ≡ natural v ⌝ }
 {
     0 <= v
@@ -52,7 +52,7 @@ pub fn size(v: i32) -> usize
 }
 
 // One of `low` to `high`.
-fn within(v: i32, low: usize, high: usize) -> bool
+pub fn within(v: i32, low: usize, high: usize) -> bool
     ensures { λ r. ⌜ r ≡ within low high v ⌝ }
 {
     let n = size(v);
@@ -229,7 +229,7 @@ fn layer_kind(layer: usize, n: usize) -> bool
 }
 
 // Both or neither.
-fn same(a: bool, b: bool) -> bool
+pub fn same(a: bool, b: bool) -> bool
     ensures { λ r. ⌜ r ≡ same a b ⌝ }
 {
     if a {

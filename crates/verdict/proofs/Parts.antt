@@ -10,7 +10,7 @@ use native.Mathlib.Numerals.{add-one}
 use native.Mathlib.Omega.{arith}
 use Rattle.verdict.specs.declared.Verdict.{Verdict}
 use Rattle.verdict.specs.declared.Verdict.the-variants.{Fine, Broken}
-use Rattle.verdict.specs.Rules.{Rule, brokenAt, firstBroken, Check, check, block, rows}
+use Rattle.verdict.specs.Rules.{Rule, brokenAt, firstBroken, Check, check, block, rows, spread}
 
 -- ---- two lists in a row
 
@@ -85,6 +85,12 @@ module _ (s r : ℕ) where
   unfolding block
   block-append [] ys = refl
   block-append (x ∷ xs) ys = rw (block-append xs ys)
+
+  -- the checks of slots are judged like rows
+  pub spread-rows : (n : ℕ) (g : ℕ → List Check) → block s r (spread n g) ≡ rows n (λ i. block s r (g i))
+  unfolding spread rows block
+  spread-rows zero g = refl
+  spread-rows (suc n) g = block-append (spread n g) (g n) ∙ rw (spread-rows n g)
 
   pub check-none : Fine ≡ firstBroken (block s r [])
   unfolding firstBroken block

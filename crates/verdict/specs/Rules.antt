@@ -3,6 +3,7 @@
 --   firstBroken rs      the first broken rule of the list rs, or Fine
 --   block s r cs        the checks cs as rules of stage s at record r
 --   rows n g            the lists g 0, g 1, .., g (n - 1), one after the other
+--   spread n g          the checks g 0, g 1, .., g (n - 1), one after the other
 --   toldOf v            the verdict v by 01's numbers
 use mathlib.Core.Bool.{Bool, cond}
 use mathlib.Core.List.{List, [], _∷_, _++_}
@@ -45,6 +46,11 @@ block s r (c ∷ cs) = ruleOf s r c ∷ block s r cs
 unfoldable pub rows : ℕ → (ℕ → List Rule) → List Rule
 rows zero g = []
 rows (suc n) g = rows n g ++ g n
+
+-- the checks g 0, g 1, .., g (n - 1) of a record's slots, one after the other
+unfoldable pub spread : ℕ → (ℕ → List Check) → List Check
+spread zero g = []
+spread (suc n) g = spread n g ++ g n
 
 -- "Acceptance is number 0 at 0, 0"
 abbrev pub toldOf : Verdict → Told

@@ -1,0 +1,2 @@
+-- Laws of names. `Answers` has what the answers of `names` and `rules::size` say.
+pub mod Answers

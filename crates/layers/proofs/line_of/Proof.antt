@@ -1,0 +1,40 @@
+-- `layers::line_of` meets its contract: a serial that names a line is 1 or more, and says which word of the table is meant. Assumes nothing.
+use native.Mathlib.Omega.{arith}
+use borrow.Author.Needs.{needs}
+use Rattle.layers.specs.Naming.{lineOf}
+use Rattle.layers.proofs.Answers.{line-asked, sized, line-counted}
+use Rattle.layers.proofs.line_of.Statement.{statement}
+use Rattle.layers.proofs.line_of.Tie as tie
+
+names-line-requires : tie.Need-names-line-requires
+names-line-requires c κs = search needs
+
+size-requires : tie.Need-size-requires
+size-requires c κs = search needs
+
+sub-word-in : tie.Need-sub-word-in
+sub-word-in c =
+    let a = c .before in
+    omega (arith, line-counted (a .before .before .before .fits .v) _ (a .before .names-line .ensures) (a .if1 .taken) (c .size .ensures))
+
+word-in-requires : tie.Need-word-in-requires
+word-in-requires c κs = search needs
+
+cast-result : tie.Need-cast-result
+cast-result c = search needs
+
+returns : tie.Need-returns
+unfolding lineOf
+returns c =
+    let a = c .before .before in
+    let f = a .before .before .before .fits .v in
+    rw (line-asked f _ (a .before .names-line .ensures) (a .if1 .taken), c .word-in .ensures, sized f (c .before .size .ensures))
+
+returns-2 : tie.Need-returns-2
+unfolding lineOf
+returns-2 c = rw (line-asked (c .before .before .before .fits .v) _ (c .before .names-line .ensures) (c .if1 .left))
+
+pub line-of-spec : {M : Type 1} → statement M
+line-of-spec =
+    tie.close
+    (tie.spec names-line-requires size-requires sub-word-in word-in-requires cast-result returns returns-2)

@@ -1,0 +1,34 @@
+-- `layers::word_in` meets its contract: past the end there is no word. Assumes nothing.
+use denote.Ref.{now}
+use mathlib.Core.Path.{sym}
+use native.Mathlib.Omega.{arith}
+use lib.ListN.{List·getD-eq-default}
+use borrow.Author.Needs.{needs}
+use Rattle.layers.proofs.word_in.Statement.{statement}
+use Rattle.layers.proofs.word_in.Tie as tie
+
+returns : tie.Need-returns
+returns c = sym (List·getD-eq-default (now (c .before .args .table)) 0 (omega (arith, c .if1 .taken)))
+
+sub-if2 : tie.Need-sub-if2
+sub-if2 c = search needs
+
+returns-2 : tie.Need-returns-2
+returns-2 c = sym (List·getD-eq-default (now (c .before .before .args .table)) 0 (omega (arith, c .if2 .taken, c .before .if1 .left)))
+
+add-result : tie.Need-add-result
+add-result c = search needs
+
+mul-result : tie.Need-mul-result
+mul-result c = search needs
+
+shared-slice-read-result : tie.Need-shared-slice-read-result
+shared-slice-read-result c = search needs
+
+returns-3 : tie.Need-returns-3
+returns-3 c = search needs
+
+pub word-in-spec : {M : Type 1} → statement M
+word-in-spec =
+    tie.close
+    (tie.spec returns sub-if2 returns-2 add-result mul-result shared-slice-read-result returns-3)

@@ -1,0 +1,140 @@
+// What a number names (document 01, "a number names only a record of its own layer"): the layers of a
+// table, and the records of their nodes, lines and areas. Every public function takes every input.
+//
+// The contracts cite `specs/Naming.antt`.
+ghost use mathlib.Core.Path.{_≡_};
+ghost use Prim.Native.Nat.{_+_, _-_, _*_, _≤_, _<_};
+ghost use lib.ListN.{getD};
+ghost use Rattle.layers.specs.Naming.{rowWord, wordsBefore, layerIn, names, namesLine, nodeOf, lineOf, areaOf};
+
+// Where the lines and the areas of all layers begin in the table.
+pub struct Bases {
+    pub lines: u32,
+    pub areas: u32,
+}
+
+// A layer: its H record; how many nodes, lines and areas it has; and where the words of its first line
+// and of its first area stand in the table.
+pub struct Layer {
+    pub head: u32,
+    pub nodes: u32,
+    pub lines: u32,
+    pub areas: u32,
+    pub line: usize,
+    pub area: usize,
+}
+
+// Word `j` of row `i` of a table, and 0 where there is none.
+fn row_word(table: &[u32], i: usize, j: usize) -> u32
+    requires { ⌜ (i ≤ 6399936) × (j < 4) ⌝ }
+    ensures { λ r. ⌜ r ≡ rowWord (now (table .entry)) i j ⌝ }
+{
+    let at = 4 * i + j;
+    if at < table.len() {
+        return table[at];
+    }
+    0
+}
+
+// Word `j` of the rows before row `i`, added up.
+fn words_before(table: &[u32], j: usize, i: usize) -> usize
+    requires { ⌜ (i ≤ 6399936) × (j < 4) ⌝ }
+    ensures { λ r. ⌜ (r ≡ wordsBefore (now (table .entry)) j i) × (r ≤ 4294967296 * i) ⌝ }
+{
+    let mut sum: usize = 0;
+    let mut k: usize = 0;
+    while k < i {
+        sum += row_word(table, k, j) as usize;
+        k += 1;
+    }
+    sum
+}
+
+// Layer `i` of a table, counted from 0.
+pub fn layer_in(table: &[u32], b: Bases, i: usize) -> Layer
+    ensures { λ r. ⌜ r ≡ layerIn (now (table .entry)) b i ⌝ }
+{
+    if 6399936 < i {
+        return Layer {
+            head: 0,
+            nodes: 0,
+            lines: 0,
+            areas: 0,
+            line: 0,
+            area: 0,
+        };
+    }
+    Layer {
+        head: row_word(table, i, 0),
+        nodes: row_word(table, i, 1),
+        lines: row_word(table, i, 2),
+        areas: row_word(table, i, 3),
+        line: b.lines as usize + words_before(table, 2, i),
+        area: b.areas as usize + words_before(table, 3, i),
+    }
+}
+
+// Whether a number is one of the serials 1 to `n`.
+pub fn names(n: u32, v: i32) -> bool
+    ensures { λ r. ⌜ r ≡ names n v ⌝ }
+{
+    rules::within(v, 1, n as usize)
+}
+
+// Whether an entry, +n or -n, names one of the lines 1 to `n`.
+pub fn names_line(n: u32, v: i32) -> bool
+    ensures { λ r. ⌜ r ≡ namesLine n v ⌝ }
+{
+    let s = rules::size(v);
+    (1 <= s) & (s <= n as usize)
+}
+
+// The N record that a number names in a layer; 0 where it names nothing.
+pub fn node_of(l: Layer, v: i32) -> usize
+    ensures { λ r. ⌜ r ≡ nodeOf l v ⌝ }
+{
+    if names(l.nodes, v) {
+        return l.head as usize + rules::size(v);
+    }
+    0
+}
+
+// Word `at + i` of a table, and 0 where there is none.
+fn word_in(table: &[u32], at: usize, i: usize) -> u32
+    ensures { λ r. ⌜ r ≡ getD (now (table .entry)) (at + i) 0 ⌝ }
+{
+    if table.len() <= at {
+        return 0;
+    }
+    if table.len() - at <= i {
+        return 0;
+    }
+    table[at + i]
+}
+
+// The L record that an entry names in a layer; 0 where it names nothing.
+pub fn line_of(table: &[u32], l: Layer, v: i32) -> usize
+    ensures { λ r. ⌜ r ≡ lineOf (now (table .entry)) l v ⌝ }
+{
+    if names_line(l.lines, v) {
+        return word_in(table, l.line, rules::size(v) - 1) as usize;
+    }
+    0
+}
+
+// The A record that a number names in a layer; 0 where it names nothing.
+pub fn area_of(table: &[u32], l: Layer, v: i32) -> usize
+    ensures { λ r. ⌜ r ≡ areaOf (now (table .entry)) l v ⌝ }
+{
+    if names(l.areas, v) {
+        return word_in(table, l.area, rules::size(v) - 1) as usize;
+    }
+    0
+}
+
+// The L record of line `i` of a layer, counted from 0; 0 where the table has none.
+pub fn line_word(table: &[u32], l: Layer, i: usize) -> usize
+    ensures { λ r. ⌜ r ≡ getD (now (table .entry)) (l .line + i) 0 ⌝ }
+{
+    word_in(table, l.line, i) as usize
+}
