@@ -1,0 +1,285 @@
+-- The checks of lines, of their points and of loop records, by the ways out of the code that judges them. Assumes nothing.
+use mathlib.Core.Bool.{Bool, true, false, _&&_, _||_, not}
+use mathlib.Core.List.{List, [], _∷_, _++_}
+use mathlib.Core.Logic.{⊎-elim}
+use mathlib.Core.Path.{_≡_, refl, sym, _∙_, ap}
+use Prim.Native.Nat.{ℕ, zero, suc, _+_, _-_, _*_, _≤_, _<_, _^_}
+use native.Mathlib.Nat.{le-of-suc-le-suc, not-suc-le-zero, eq-or-lt-of-le}
+use native.Mathlib.Numerals.{add-one}
+use native.Mathlib.Omega.{arith}
+use lib.IntN.{ℤ}
+use lib.Signed.{mag}
+use mir.Syntax.{w32}
+use mir.Val.{toZ, ofZ, hbits}
+use borrow.Author.Tests.{not-true, not-false, lt-ltb, le-ltb, le-leb, lt-leb, eq-eqb, ne-eqb}
+use Rattle.records.specs.View.{numberIn}
+use Rattle.verdict.specs.declared.Verdict.{Verdict}
+use Rattle.verdict.specs.declared.Verdict.the-variants.{Fine, Broken}
+use Rattle.verdict.specs.Rules.{Rule, Check, check, firstBroken, block, rows}
+use Rattle.verdict.proofs.Parts.{stands, goes-on, rows-pass, rows-stop, rows-done, block-append, spread-rows, check-none, check-kept, check-broken}
+use Rattle.rules.specs.Permitted.{size}
+use Rattle.rules.proofs.Signs.{passed-on}
+use Rattle.layers.specs.declared.Layer.{Layer}
+use Rattle.layers.specs.Naming.{names, namesLine, nodeOf, areaOf}
+use Rattle.links.specs.Links.{isZero, equal, entryIs, some, serialIn, nodeEntry, listed, linkFits, lineEndChecks, sideChecks, atNode, firstPointChecks, lastPointChecks, loopEntry, entryChecks, fifth}
+
+-- ---- answers
+
+-- the i32 z fits, as a call's answer does
+abbrev pub Small : ℤ → Type 0
+Small z = mag z < 2 ^ hbits w32
+
+-- z as the next call gets it
+abbrev pub passed : ℤ → ℤ
+passed z = toZ w32 (ofZ w32 z)
+
+-- the answer b of a call of g on z, which is x
+pub told : {A : Type 0} (g : ℤ → A) {z x : ℤ} {b : A} → Small z → z ≡ x → b ≡ g (passed z) → g x ≡ b
+told g h e q = ap g (sym (passed-on h e)) ∙ sym q
+
+-- of a call on two
+pub told-both : {A : Type 0} (g : ℤ → ℤ → A) {z x w y : ℤ} {b : A} → Small z → z ≡ x → Small w → w ≡ y → b ≡ g (passed z) (passed w) → g x y ≡ b
+told-both g {z} {x} {w} {y} h e k f q = ap (λ u. g u y) (sym (passed-on h e)) ∙ (ap (g (passed z)) (sym (passed-on k f)) ∙ sym q)
+
+-- ---- one check in front of others, and parts in a row
+
+waits : (a b : Bool) {t : Bool} → a ≡ true → b ≡ t → (not a || b) ≡ t
+waits a b p q = rw (p, q)
+
+or-left : (a b : Bool) → a ≡ true → (a || b) ≡ true
+or-left a b p = rw p
+
+or-right : (a b : Bool) → b ≡ true → (a || b) ≡ true
+or-right true b q = refl
+or-right false b q = q
+
+or-none : (a b : Bool) → a ≡ false → b ≡ false → (a || b) ≡ false
+or-none a b p q = rw (p, q)
+
+module _ (row c n : ℕ) (b : Bool) (cs : List Check) where
+  kept : {v : Verdict} → b ≡ true → v ≡ firstBroken (block fifth row cs) → v ≡ firstBroken (block fifth row (check c n b ∷ cs))
+  kept h q = q ∙ sym (check-kept fifth row c n b cs h)
+
+  broke : {v : Verdict} → b ≡ false → v ≡ Broken n row c → v ≡ firstBroken (block fifth row (check c n b ∷ cs))
+  broke h q = q ∙ sym (check-broken fifth row c n b cs h)
+
+module _ (row : ℕ) (xs ys : List Check) where
+  -- the first part's verdict v is broken and is returned
+  pub part-stops : {v : Verdict} {a b c : ℕ} → v ≡ Broken a b c → v ≡ firstBroken (block fifth row xs) → v ≡ firstBroken (block fifth row (xs ++ ys))
+  part-stops h e = stands (block fifth row xs) (block fifth row ys) h e ∙ ap firstBroken (sym (block-append fifth row xs ys))
+
+  -- it is fine, and the second part's verdict w is returned
+  pub part-passes : {v w : Verdict} → v ≡ Fine → v ≡ firstBroken (block fifth row xs) → w ≡ firstBroken (block fifth row ys) → w ≡ firstBroken (block fifth row (xs ++ ys))
+  part-passes h e q = goes-on (block fifth row xs) (block fifth row ys) h e q ∙ ap firstBroken (sym (block-append fifth row xs ys))
+
+-- ---- what an N lists
+
+some-step : (i : ℕ) (f : ℕ → Bool) → some (i + 1) f ≡ (some i f || f i)
+unfolding some
+some-step i f = rw add-one
+
+some-hit : (n i : ℕ) (f : ℕ → Bool) → i < n → f i ≡ true → some n f ≡ true
+unfolding some
+some-hit zero i f l g = absurd (not-suc-le-zero l)
+some-hit (suc n) i f l g =
+    ⊎-elim
+    (λ q. or-right (some n f) (f n) (ap f (sym q) ∙ g))
+    (λ q. or-left (some n f) (f n) (some-hit n i f q g))
+    (eq-or-lt-of-le (le-of-suc-le-suc l))
+
+-- slot i is +n or, backwards, -n
+abbrev pub slotIs : List ℕ → ℕ → Bool → ℕ → ℕ → Bool
+slotIs file r back n i = entryIs back n (nodeEntry file r i)
+
+module _ (file : List ℕ) (r : ℕ) (back : Bool) (n : ℕ) where
+  pub listed-start : some 0 (slotIs file r back n) ≡ false
+  unfolding some
+  listed-start = refl
+
+  pub listed-done : (i : ℕ) → i ≤ 9 → 9 ≤ i → some i (slotIs file r back n) ≡ false → false ≡ listed file r back n
+  unfolding listed
+  listed-done i l m h = let e : 9 ≡ i = omega arith in rw e (sym h)
+
+  module _ (i : ℕ) {z : ℤ} {b : Bool} (ok : Small z) (e : z ≡ nodeEntry file r i) (q : b ≡ entryIs back n (passed z)) where
+    pub listed-hit : i < 9 → b ≡ true → true ≡ listed file r back n
+    unfolding listed
+    listed-hit l t = sym (some-hit 9 i (slotIs file r back n) l (told (entryIs back n) ok e q ∙ t))
+
+    pub listed-pass : some i (slotIs file r back n) ≡ false → b ≡ false → some (i + 1) (slotIs file r back n) ≡ false
+    listed-pass h t = some-step i (slotIs file r back n) ∙ or-none (some i (slotIs file r back n)) (slotIs file r back n i) h (told (entryIs back n) ok e q ∙ t)
+
+-- ---- one end of a line
+
+-- z is its node number, and a says whether it names a node
+module _ (file : List ℕ) (l : Layer) (r c k : ℕ) (back : Bool) (row : ℕ) {z : ℤ} (ok : Small z) (e : z ≡ numberIn file r c 5) where
+  module _ {a : Bool} (n : a ≡ names (l .nodes) (passed z)) where
+    named : not a ≡ false → names (l .nodes) (numberIn file r c 5) ≡ true
+    named t = told (names (l .nodes)) ok e n ∙ not-false a t
+
+    pub end-unnamed : {x : Verdict} → not a ≡ true → x ≡ Broken 11 row c → x ≡ firstBroken (block fifth row (lineEndChecks file l r c k back))
+    unfolding lineEndChecks
+    end-unnamed t v = broke _ _ _ _ _ (told (names (l .nodes)) ok e n ∙ not-true a t) v
+
+  -- m is the node's record, s the line's serial, and b says whether the node lists it
+  module _ {m s : ℕ} {b : Bool} (f : m ≡ nodeOf l (passed z)) (g : s ≡ serialIn file r) (q : b ≡ listed file m back s) where
+    lists : listed file (nodeOf l (numberIn file r c 5)) back (serialIn file r) ≡ b
+    lists = rw (told (nodeOf l) ok e f, ← g) (sym q)
+
+    pub end-unlisted : {x : Verdict} {a : Bool} → a ≡ names (l .nodes) (passed z) → not a ≡ false → not b ≡ true → x ≡ Broken 14 row c
+        → x ≡ firstBroken (block fifth row (lineEndChecks file l r c k back))
+    unfolding lineEndChecks
+    end-unlisted n t u v = kept _ _ _ _ _ (named n t) (broke _ _ _ _ _ (waits _ _ (named n t) (lists ∙ not-true b u)) v)
+
+  -- y is its link, w the node's frame, and d says whether they fit
+  module _ {m : ℕ} {y w : ℤ} {d : Bool} (f : m ≡ nodeOf l (passed z)) (oky : Small y) (ey : y ≡ numberIn file r k 1) (okw : Small w) (ew : w ≡ numberIn file m 22 2)
+      (p : d ≡ linkFits (passed y) (passed w)) where
+    fits : linkFits (numberIn file r k 1) (numberIn file (nodeOf l (numberIn file r c 5)) 22 2) ≡ d
+    fits = told-both linkFits oky ey okw (ew ∙ ap (λ m. numberIn file m 22 2) (sym (told (nodeOf l) ok e f))) p
+
+    module _ {a b : Bool} {s : ℕ} (n : a ≡ names (l .nodes) (passed z)) (t : not a ≡ false) (g : s ≡ serialIn file r) (q : b ≡ listed file m back s) (u : not b ≡ false) where
+      pub end-unfit : {x : Verdict} → not d ≡ true → x ≡ Broken 12 row k → x ≡ firstBroken (block fifth row (lineEndChecks file l r c k back))
+      unfolding lineEndChecks
+      end-unfit h v =
+          kept _ _ _ _ _ (named n t) (kept _ _ _ _ _ (waits _ _ (named n t) (lists f g q ∙ not-false b u)) (broke _ _ _ _ _ (waits _ _ (named n t) (fits ∙ not-true d h)) v))
+
+      pub end-fine : not d ≡ false → Fine ≡ firstBroken (block fifth row (lineEndChecks file l r c k back))
+      unfolding lineEndChecks
+      end-fine h =
+          kept _ _ _ _ _ (named n t) (kept _ _ _ _ _ (waits _ _ (named n t) (lists f g q ∙ not-false b u)) (kept _ _ _ _ _ (waits _ _ (named n t) (fits ∙ not-false d h)) (check-none fifth row)))
+
+-- ---- one side of a line
+
+-- z is its area number, and b says whether it names an area
+module _ (file t : List ℕ) (l : Layer) (r c a row : ℕ) {z : ℤ} {b : Bool} (ok : Small z) (e : z ≡ numberIn file r a 5) (n : b ≡ names (l .areas) (passed z)) where
+  unnamed : not b ≡ true → (not (names (l .areas) (numberIn file r a 5)) || equal (numberIn file r c 5) (numberIn file (areaOf t l (numberIn file r a 5)) 5 5)) ≡ true
+  unnamed h = rw (told (names (l .areas)) ok e n ∙ not-true b h)
+
+  area : not b ≡ false → names (l .areas) (numberIn file r a 5) ≡ true
+  area h = told (names (l .areas)) ok e n ∙ not-false b h
+
+  -- it names none: d says whether it is 0
+  module _ {d : Bool} (h : not b ≡ true) (q : d ≡ isZero (passed z)) where
+    pub side-none : d ≡ true → Fine ≡ firstBroken (block fifth row (sideChecks file t l r c a))
+    unfolding sideChecks
+    side-none u = kept _ _ _ _ _ (unnamed h) (kept _ _ _ _ _ (or-left _ _ (told isZero ok e q ∙ u)) (check-none fifth row))
+
+    pub side-unnamed : {x : Verdict} → d ≡ false → x ≡ Broken 11 row a → x ≡ firstBroken (block fifth row (sideChecks file t l r c a))
+    unfolding sideChecks
+    side-unnamed u v = kept _ _ _ _ _ (unnamed h) (broke _ _ _ _ _ (or-none _ _ (told isZero ok e q ∙ u) (told (names (l .areas)) ok e n ∙ not-true b h)) v)
+
+  -- m is the area's record, y the line's code, w the area's, and d says whether they are equal
+  module _ {m : ℕ} {y w : ℤ} {d : Bool} (f : m ≡ areaOf t l (passed z)) (oky : Small y) (ey : y ≡ numberIn file r c 5) (okw : Small w) (ew : w ≡ numberIn file m 5 5)
+      (q : d ≡ equal (passed y) (passed w)) where
+    alike : equal (numberIn file r c 5) (numberIn file (areaOf t l (numberIn file r a 5)) 5 5) ≡ d
+    alike = told-both equal oky ey okw (ew ∙ ap (λ m. numberIn file m 5 5) (sym (told (areaOf t l) ok e f))) q
+
+    pub side-unlike : {x : Verdict} → not b ≡ false → not d ≡ true → x ≡ Broken 12 row c → x ≡ firstBroken (block fifth row (sideChecks file t l r c a))
+    unfolding sideChecks
+    side-unlike h u v = broke _ _ _ _ _ (waits _ _ (area h) (alike ∙ not-true d u)) v
+
+    pub side-fine : not b ≡ false → not d ≡ false → Fine ≡ firstBroken (block fifth row (sideChecks file t l r c a))
+    unfolding sideChecks
+    side-fine h u = kept _ _ _ _ _ (waits _ _ (area h) (alike ∙ not-false d u)) (kept _ _ _ _ _ (or-right (isZero (numberIn file r a 5)) _ (area h)) (check-none fifth row))
+
+-- ---- points
+
+-- a says whether v names a node
+module _ (file : List ℕ) (l : Layer) (v : ℤ) (r i : ℕ) {a : Bool} (ok : Small v) (n : a ≡ names (l .nodes) (passed v)) where
+  at-names : names (l .nodes) v ≡ a
+  at-names = told (names (l .nodes)) ok refl n
+
+  pub at-unnamed : not a ≡ true → true ≡ atNode file l v r i
+  unfolding atNode
+  at-unnamed t = rw (at-names ∙ not-true a t)
+
+  -- m is its record, x and y are the point, u and w the node's place
+  module _ {m : ℕ} {x y u w : ℤ} {b d : Bool} (f : m ≡ nodeOf l (passed v))
+      (okx : Small x) (ex : x ≡ numberIn file r (1 + 10 * i) 5) (oky : Small y) (ey : y ≡ numberIn file r (6 + 10 * i) 5)
+      (oku : Small u) (eu : u ≡ numberIn file m 12 5) (okw : Small w) (ew : w ≡ numberIn file m 17 5)
+      (p : b ≡ equal (passed x) (passed u)) (q : d ≡ equal (passed y) (passed w)) where
+    at-node : m ≡ nodeOf l v
+    at-node = f ∙ ap (nodeOf l) (passed-on ok refl)
+
+    both-at : (equal (numberIn file r (1 + 10 * i) 5) (numberIn file (nodeOf l v) 12 5) && equal (numberIn file r (6 + 10 * i) 5) (numberIn file (nodeOf l v) 17 5)) ≡ (b && d)
+    both-at = rw (
+      told-both equal okx ex oku (eu ∙ ap (λ m. numberIn file m 12 5) at-node) p,
+      told-both equal oky ey okw (ew ∙ ap (λ m. numberIn file m 17 5) at-node) q,
+    )
+
+    pub at-named : not a ≡ false → (b && d) ≡ atNode file l v r i
+    unfolding atNode
+    at-named t = sym (waits _ _ (at-names ∙ not-false a t) both-at)
+
+module _ (file : List ℕ) (l : Layer) (q r left row : ℕ) where
+  -- one point is no first point
+  pub first-few : left ≤ 1 → Fine ≡ firstBroken (block fifth row (firstPointChecks file l q r left))
+  unfolding firstPointChecks
+  first-few h = rw (le-ltb 1 left h) (check-none fifth row)
+
+  -- n is the line's number of points
+  module _ {z : ℤ} {n : ℕ} (h : 1 < left) (ok : Small z) (e : z ≡ numberIn file q 50 6) (s : n ≡ size (passed z)) where
+    pub first-later : (left ≡ n → ⊥) → Fine ≡ firstBroken (block fifth row (firstPointChecks file l q r left))
+    unfolding firstPointChecks
+    first-later u = rw (lt-ltb 1 left h, told size ok e s, ne-eqb left n u) (check-none fifth row)
+
+    -- b says whether the first point is at its node
+    module _ {w : ℤ} {b : Bool} (u : left ≡ n) (okw : Small w) (ew : w ≡ numberIn file q 18 5) (a : b ≡ atNode file l (passed w) r 0) where
+      pub first-broken : {x : Verdict} → not b ≡ true → x ≡ Broken 12 row 1 → x ≡ firstBroken (block fifth row (firstPointChecks file l q r left))
+      unfolding firstPointChecks
+      first-broken t v = rw (lt-ltb 1 left h, told size ok e s, eq-eqb left n u) (broke _ _ _ _ _ (told (λ v. atNode file l v r 0) okw ew a ∙ not-true b t) v)
+
+      pub first-kept : not b ≡ false → Fine ≡ firstBroken (block fifth row (firstPointChecks file l q r left))
+      unfolding firstPointChecks
+      first-kept t = rw (lt-ltb 1 left h, told size ok e s, eq-eqb left n u) (kept _ _ _ _ _ (told (λ v. atNode file l v r 0) okw ew a ∙ not-false b t) (check-none fifth row))
+
+  -- the last point is not in this record
+  pub last-none : left ≡ 0 → Fine ≡ firstBroken (block fifth row (lastPointChecks file l q r left))
+  unfolding lastPointChecks
+  last-none h = rw (le-ltb 0 left (omega (arith, h))) (check-none fifth row)
+
+  pub last-later : (left ≡ 0 → ⊥) → 7 < left → Fine ≡ firstBroken (block fifth row (lastPointChecks file l q r left))
+  unfolding lastPointChecks
+  last-later h u = rw (lt-ltb 0 left (omega (arith, u)), lt-leb left 7 u) (check-none fifth row)
+
+  -- it is: b says whether it is at its node
+  module _ {w : ℤ} {b : Bool} (h : left ≡ 0 → ⊥) (u : left ≤ 7) (okw : Small w) (ew : w ≡ numberIn file q 24 5) (a : b ≡ atNode file l (passed w) r (left - 1)) where
+    pub last-broken : {x : Verdict} → not b ≡ true → x ≡ Broken 12 row (1 + 10 * (left - 1)) → x ≡ firstBroken (block fifth row (lastPointChecks file l q r left))
+    unfolding lastPointChecks
+    last-broken t v = rw (lt-ltb 0 left (omega (arith, h)), le-leb left 7 u) (broke _ _ _ _ _ (told (λ v. atNode file l v r (left - 1)) okw ew a ∙ not-true b t) v)
+
+    pub last-kept : not b ≡ false → Fine ≡ firstBroken (block fifth row (lastPointChecks file l q r left))
+    unfolding lastPointChecks
+    last-kept t = rw (lt-ltb 0 left (omega (arith, h)), le-leb left 7 u) (kept _ _ _ _ _ (told (λ v. atNode file l v r (left - 1)) okw ew a ∙ not-false b t) (check-none fifth row))
+
+-- ---- entries of a loop record
+
+both-not : (a b : Bool) → (not a && not b) ≡ true → (a || b) ≡ false
+both-not true b h = sym h
+both-not false b h = not-true b h
+
+not-both : (a b : Bool) → (not a && not b) ≡ false → (a || b) ≡ true
+not-both true b h = refl
+not-both false b h = not-false b h
+
+abbrev pub entrySlot : List ℕ → Layer → ℕ → ℕ → ℕ → List Rule
+entrySlot file l r row i = block fifth row (check (10 + 5 * i) 11 (isZero (loopEntry file r i) || namesLine (l .lines) (loopEntry file r i)) ∷ [])
+
+module _ (file : List ℕ) (l : Layer) (r row : ℕ) where
+  entry-rows : firstBroken (rows 12 (entrySlot file l r row)) ≡ firstBroken (block fifth row (entryChecks file l r))
+  unfolding entryChecks
+  entry-rows = ap firstBroken (sym (spread-rows fifth row 12 (λ i. check (10 + 5 * i) 11 (isZero (loopEntry file r i) || namesLine (l .lines) (loopEntry file r i)) ∷ [])))
+
+  -- a says whether the entry z is 0, and b whether it names a line
+  module _ (i : ℕ) {z : ℤ} {a b : Bool} (ok : Small z) (e : z ≡ loopEntry file r i) (p : a ≡ isZero (passed z)) (n : b ≡ namesLine (l .lines) (passed z)) where
+    entry-is : (isZero (loopEntry file r i) || namesLine (l .lines) (loopEntry file r i)) ≡ (a || b)
+    entry-is = rw (told isZero ok e p, told (namesLine (l .lines)) ok e n)
+
+    pub entries-stop : {x : Verdict} → x ≡ Broken 11 row (10 + 5 * i) → (not a && not b) ≡ true → i < 12 → firstBroken (rows i (entrySlot file l r row)) ≡ Fine
+        → x ≡ firstBroken (block fifth row (entryChecks file l r))
+    entries-stop v t k f = rows-stop (entrySlot file l r row) 12 i k f (broke _ _ _ _ _ (entry-is ∙ both-not a b t) v) v ∙ entry-rows
+
+    pub entries-pass : (not a && not b) ≡ false → firstBroken (rows i (entrySlot file l r row)) ≡ Fine → firstBroken (rows (i + 1) (entrySlot file l r row)) ≡ Fine
+    entries-pass t f = rows-pass (entrySlot file l r row) i f (kept _ _ _ _ _ (entry-is ∙ not-both a b t) (check-none fifth row)) refl
+
+  pub entries-done : (i : ℕ) → firstBroken (rows i (entrySlot file l r row)) ≡ Fine → i ≤ 12 → 12 ≤ i → Fine ≡ firstBroken (block fifth row (entryChecks file l r))
+  entries-done i f k m = rows-done (entrySlot file l r row) 12 i k m f ∙ entry-rows

@@ -1,0 +1,70 @@
+-- `links::judge_end` meets its contract: each way out is one of the laws for an end. Assumes nothing.
+use Rattle.links.proofs.LineLaws.{end-unnamed, end-unlisted, end-unfit, end-fine}
+use borrow.Author.Needs.{needs}
+use Rattle.links.proofs.judge_end.Statement.{statement}
+use Rattle.links.proofs.judge_end.Tie as tie
+
+number-at-requires : tie.Need-number-at-requires
+number-at-requires c κs = search needs
+
+names-requires : tie.Need-names-requires
+names-requires c κs = search needs
+
+broken-requires : tie.Need-broken-requires
+broken-requires c κs = search needs
+
+returns : tie.Need-returns
+returns c = end-unnamed _ _ _ _ _ _ _ (c .before .before .before .number-at .ok) (c .before .before .before .number-at .ensures) (c .before .before .names .ensures) (c .before .if1 .taken) (c .broken .ensures)
+
+node-of-requires : tie.Need-node-of-requires
+node-of-requires c κs = search needs
+
+serial-in-requires : tie.Need-serial-in-requires
+serial-in-requires c κs = search needs
+
+listed-requires : tie.Need-listed-requires
+listed-requires c κs = search needs
+
+broken-requires-2 : tie.Need-broken-requires-2
+broken-requires-2 c κs = search needs
+
+returns-2 : tie.Need-returns-2
+returns-2 c = end-unlisted _ _ _ _ _ _ _ (c .before .before .before .before .before .before .before .number-at .ok) (c .before .before .before .before .before .before .before .number-at .ensures) (c .before .before .before .before .node-of .ensures) (c .before .before .before .serial-in .ensures) (c .before .before .listed .ensures) (c .before .before .before .before .before .before .names .ensures) (c .before .before .before .before .before .if1 .left) (c .before .if2 .taken) (c .broken2 .ensures)
+
+number-at-requires-2 : tie.Need-number-at-requires-2
+number-at-requires-2 c κs = search needs
+
+number-at-requires-3 : tie.Need-number-at-requires-3
+number-at-requires-3 c κs = search needs
+
+link-fits-requires : tie.Need-link-fits-requires
+link-fits-requires c κs = search needs
+
+broken-requires-3 : tie.Need-broken-requires-3
+broken-requires-3 c κs = search needs
+
+returns-3 : tie.Need-returns-3
+returns-3 c = end-unfit _ _ _ _ _ _ _ (c .before .before .before .before .before .before .before .before .before .before .before .number-at .ok) (c .before .before .before .before .before .before .before .before .before .before .before .number-at .ensures) (c .before .before .before .before .before .before .before .before .node-of .ensures) (c .before .before .before .before .number-at2 .ok) (c .before .before .before .before .number-at2 .ensures) (c .before .before .before .number-at3 .ok) (c .before .before .before .number-at3 .ensures) (c .before .before .link-fits .ensures) (c .before .before .before .before .before .before .before .before .before .before .names .ensures) (c .before .before .before .before .before .before .before .before .before .if1 .left) (c .before .before .before .before .before .before .before .serial-in .ensures) (c .before .before .before .before .before .before .listed .ensures) (c .before .before .before .before .before .if2 .left) (c .before .if3 .taken) (c .broken3 .ensures)
+
+returns-4 : tie.Need-returns-4
+returns-4 c = end-fine _ _ _ _ _ _ _ (c .before .before .before .before .before .before .before .before .before .before .number-at .ok) (c .before .before .before .before .before .before .before .before .before .before .number-at .ensures) (c .before .before .before .before .before .before .before .node-of .ensures) (c .before .before .before .number-at2 .ok) (c .before .before .before .number-at2 .ensures) (c .before .before .number-at3 .ok) (c .before .before .number-at3 .ensures) (c .before .link-fits .ensures) (c .before .before .before .before .before .before .before .before .before .names .ensures) (c .before .before .before .before .before .before .before .before .if1 .left) (c .before .before .before .before .before .before .serial-in .ensures) (c .before .before .before .before .before .listed .ensures) (c .before .before .before .before .if2 .left) (c .if3 .left)
+
+pub judge-end-spec : {M : Type 1} → statement M
+judge-end-spec =
+    tie.close
+    (tie.spec
+    number-at-requires
+    names-requires
+    broken-requires
+    returns
+    node-of-requires
+    serial-in-requires
+    listed-requires
+    broken-requires-2
+    returns-2
+    number-at-requires-2
+    number-at-requires-3
+    link-fits-requires
+    broken-requires-3
+    returns-3
+    returns-4)

@@ -1,0 +1,54 @@
+-- `links::judge_last` meets its contract: each way out is one of the laws for a last point. Assumes nothing.
+use Rattle.links.proofs.LineLaws.{last-none, last-later, last-broken, last-kept}
+use borrow.Author.Needs.{needs}
+use Rattle.links.proofs.judge_last.Statement.{statement}
+use Rattle.links.proofs.judge_last.Tie as tie
+
+returns : tie.Need-returns
+returns c = last-none _ _ _ _ _ _ (c .if1 .taken)
+
+returns-2 : tie.Need-returns-2
+returns-2 c = last-later _ _ _ _ _ _ (c .before .if1 .left) (c .if2 .taken)
+
+number-at-requires : tie.Need-number-at-requires
+number-at-requires c κs = search needs
+
+sub-at-node : tie.Need-sub-at-node
+sub-at-node c = search needs
+
+at-node-requires : tie.Need-at-node-requires
+at-node-requires c κs = search needs
+
+sub-broken : tie.Need-sub-broken
+sub-broken c = search needs
+
+mul-broken : tie.Need-mul-broken
+mul-broken c = search needs
+
+add-broken : tie.Need-add-broken
+add-broken c = search needs
+
+broken-requires : tie.Need-broken-requires
+broken-requires c κs = search needs
+
+returns-3 : tie.Need-returns-3
+returns-3 c = last-broken _ _ _ _ _ _ (c .before .before .before .before .before .if1 .left) (c .before .before .before .before .if2 .left) (c .before .before .before .number-at .ok) (c .before .before .before .number-at .ensures) (c .before .before .at-node .ensures) (c .before .if3 .taken) (c .broken .ensures)
+
+returns-4 : tie.Need-returns-4
+returns-4 c = last-kept _ _ _ _ _ _ (c .before .before .before .before .if1 .left) (c .before .before .before .if2 .left) (c .before .before .number-at .ok) (c .before .before .number-at .ensures) (c .before .at-node .ensures) (c .if3 .left)
+
+pub judge-last-spec : {M : Type 1} → statement M
+judge-last-spec =
+    tie.close
+    (tie.spec
+    returns
+    returns-2
+    number-at-requires
+    sub-at-node
+    at-node-requires
+    sub-broken
+    mul-broken
+    add-broken
+    broken-requires
+    returns-3
+    returns-4)

@@ -1,0 +1,175 @@
+-- Stage 4 (document 01, refusals 11 to 14): what the numbers of a layer name, and whether both sides say the same. The table t says where
+-- lines and areas stand; l is the layer of the record. "A check that needs a number which names nothing waits: 11 speaks for it."
+-- Assumes nothing.
+--   nodeChecks ..     of an N's entries: 11, 12, 13
+--   lineEndChecks ..  of one end of a line: its node number (11, 14) and its link (12)
+--   sideChecks ..     of one side of a line: its code (12) and its area number (11)
+--   pointChecks ..    of a line's first and last point (12)
+--   entryChecks ..    of a loop record's entries: 11
+--   stageFour file t b   all of them, in 01's order; b says where the lines and the areas begin in the table
+use mathlib.Core.Bool.{Bool, true, false, cond, _&&_, _||_, not}
+use mathlib.Core.List.{List, [], _∷_, _++_}
+use Prim.Native.Nat.{ℕ, zero, suc, _+_, _*_, _-_}
+use lib.Dec.{eqb, leb, ltb}
+use lib.IntN.{ℤ}
+use lib.ListN.{getD}
+use Rattle.records.specs.View.{numberIn}
+use Rattle.verdict.specs.Rules.{Rule, Check, check, block, rows, spread}
+use Rattle.rules.specs.Permitted.{natural, size, is, same}
+use Rattle.rules.specs.declared.Due.{Due}
+use Rattle.rules.specs.declared.Due.the-variants.{Mesh, Layer, Node, Line, Coordinates, Area, Loop}
+use Rattle.walk.specs.States.{dueOf, stateAt, countsAt}
+use Rattle.walk.specs.Stages.{recordsOf}
+use Rattle.layers.specs.declared.Bases.{Bases}
+use Rattle.layers.specs.declared.Layer as layers
+use Rattle.layers.specs.Naming.{layerIn, names, namesLine, nodeOf, lineOf, areaOf}
+
+-- ---- numbers
+
+abbrev pub isZero : ℤ → Bool
+isZero v = eqb (size v) 0
+
+-- the same sign and size
+unfoldable pub equal : ℤ → ℤ → Bool
+equal a b = same (natural a) (natural b) && eqb (size a) (size b)
+
+-- the entry v is +n; or, backwards, -n
+unfoldable pub entryIs : Bool → ℕ → ℤ → Bool
+entryIs back n v = eqb (size v) n && same back (not (natural v))
+
+-- some of f 0, f 1, .. f (n - 1) is true
+unfoldable pub some : ℕ → (ℕ → Bool) → Bool
+some zero f = false
+some (suc n) f = some n f || f n
+
+-- a record's own serial: of an N and of an L, "serial 7-11"
+abbrev pub serialIn : List ℕ → ℕ → ℕ
+serialIn file r = size (numberIn file r 7 5)
+
+-- ---- N
+
+-- slot i of an N: "nine line numbers of width 5 in 26-70"
+unfoldable pub nodeEntry : List ℕ → ℕ → ℕ → ℤ
+nodeEntry file r i = numberIn file r (26 + 5 * i) 5
+
+-- the node where line v starts, or, backwards, ends: "start node 18-22", "end node 24-28"
+unfoldable pub endNode : List ℕ → List ℕ → layers.Layer → ℤ → ℤ
+endNode file t l v = numberIn file (lineOf t l v) (cond (natural v) 18 24) 5
+
+-- "12: a node entry +n where line n doesn't start there, or -n where it doesn't end there"
+unfoldable pub meets : List ℕ → List ℕ → layers.Layer → ℕ → ℤ → Bool
+meets file t l r v =
+    not (namesLine (l .lines) v)
+    || (not (names (l .nodes) (endNode file t l v))
+    || eqb (size (endNode file t l v)) (serialIn file r))
+
+-- "13: an entry repeats an earlier one of the same node"
+unfoldable pub repeatsNode : List ℕ → ℕ → ℕ → Bool
+repeatsNode file r i = some i (λ j. equal (nodeEntry file r i) (nodeEntry file r j))
+
+-- a slot that is 0 is no entry
+unfoldable pub nodeSlot : List ℕ → List ℕ → layers.Layer → ℕ → ℕ → List Check
+nodeSlot file t l r i =
+    check (26 + 5 * i) 11 (isZero (nodeEntry file r i) || namesLine (l .lines) (nodeEntry file r i))
+    ∷ check (26 + 5 * i) 12 (isZero (nodeEntry file r i) || meets file t l r (nodeEntry file r i))
+    ∷ check (26 + 5 * i) 13 (isZero (nodeEntry file r i) || not (repeatsNode file r i))
+    ∷ []
+
+unfoldable pub nodeChecks : List ℕ → List ℕ → layers.Layer → ℕ → List Check
+nodeChecks file t l r = spread 9 (nodeSlot file t l r)
+
+-- ---- L
+
+-- the N at record r lists +n, or, backwards, -n
+unfoldable pub listed : List ℕ → ℕ → Bool → ℕ → Bool
+listed file r back n = some 9 (λ i. entryIs back n (nodeEntry file r i))
+
+-- "12: a link that is 0 on a frame node or not 0 elsewhere": "frame 22-23"
+unfoldable pub linkFits : ℤ → ℤ → Bool
+linkFits link frame = same (isZero link) (isZero frame)
+
+-- the end of the line at record r whose node number stands at column c and whose link stands at column k
+unfoldable pub lineEndChecks : List ℕ → layers.Layer → ℕ → ℕ → ℕ → Bool → List Check
+lineEndChecks file l r c k back =
+    check c 11 (names (l .nodes) (numberIn file r c 5))
+    ∷ check c 14 (not (names (l .nodes) (numberIn file r c 5)) || listed file (nodeOf l (numberIn file r c 5)) back (serialIn file r))
+    ∷ check k 12 (not (names (l .nodes) (numberIn file r c 5)) || linkFits (numberIn file r k 1) (numberIn file (nodeOf l (numberIn file r c 5)) 22 2))
+    ∷ []
+
+-- the side whose code stands at column c and whose area number stands at column a: "12: an L's code unlike its area's"; "11: (area 0
+-- aside)"; an A's "code 5-9"
+unfoldable pub sideChecks : List ℕ → List ℕ → layers.Layer → ℕ → ℕ → ℕ → List Check
+sideChecks file t l r c a =
+    check c 12 (not (names (l .areas) (numberIn file r a 5)) || equal (numberIn file r c 5) (numberIn file (areaOf t l (numberIn file r a 5)) 5 5))
+    ∷ check a 11 (isZero (numberIn file r a 5) || names (l .areas) (numberIn file r a 5))
+    ∷ []
+
+-- "start node 18-22, its link 23; end node 24-28, its link 29; left code 30-34, left area 35-39; right code 40-44, right area 45-49"
+unfoldable pub lineChecks : List ℕ → List ℕ → layers.Layer → ℕ → List Check
+lineChecks file t l r =
+    lineEndChecks file l r 18 23 false
+    ++ (lineEndChecks file l r 24 29 true
+    ++ (sideChecks file t l r 30 35
+    ++ sideChecks file t l r 40 45))
+
+-- ---- coordinates
+
+-- pair i of the coordinate record r is where the N that v names stands: "X 12-16", "Y 17-21"
+unfoldable pub atNode : List ℕ → layers.Layer → ℤ → ℕ → ℕ → Bool
+atNode file l v r i =
+    not (names (l .nodes) v)
+    || (equal (numberIn file r (1 + 10 * i) 5) (numberIn file (nodeOf l v) 12 5)
+    && equal (numberIn file r (6 + 10 * i) 5) (numberIn file (nodeOf l v) 17 5))
+
+-- "12: a line's first or last point unlike its node (at that point's X)". `left` points are left of the line whose L is record q, this
+-- record's among them: the first point is pair 0 where all are left, the last one is pair `left - 1` where no more than seven are
+unfoldable pub firstPointChecks : List ℕ → layers.Layer → ℕ → ℕ → ℕ → List Check
+firstPointChecks file l q r left = cond (ltb 1 left && eqb left (size (numberIn file q 50 6))) (check 1 12 (atNode file l (numberIn file q 18 5) r 0) ∷ []) []
+
+unfoldable pub lastPointChecks : List ℕ → layers.Layer → ℕ → ℕ → ℕ → List Check
+lastPointChecks file l q r left = cond (ltb 0 left && leb left 7) (check (1 + 10 * (left - 1)) 12 (atNode file l (numberIn file q 24 5) r (left - 1)) ∷ []) []
+
+unfoldable pub pointChecks : List ℕ → layers.Layer → ℕ → ℕ → ℕ → List Check
+pointChecks file l q r left = firstPointChecks file l q r left ++ lastPointChecks file l q r left
+
+-- ---- loop records
+
+-- slot i of a loop record: "twelve line numbers of width 5 in 10-69"
+unfoldable pub loopEntry : List ℕ → ℕ → ℕ → ℤ
+loopEntry file r i = numberIn file r (10 + 5 * i) 5
+
+unfoldable pub entryChecks : List ℕ → layers.Layer → ℕ → List Check
+entryChecks file l r = spread 12 (λ i. check (10 + 5 * i) 11 (isZero (loopEntry file r i) || namesLine (l .lines) (loopEntry file r i)) ∷ [])
+
+-- ---- the stage
+
+-- record r, due as d, in the layer l; `line` lines of the layer came before it
+abbrev pub linkChecks : Due → List ℕ → List ℕ → layers.Layer → ℕ → ℕ → List Check
+linkChecks (Mesh last) file t l line r = []
+linkChecks (Layer last) file t l line r = []
+linkChecks (Node layer last) file t l line r = nodeChecks file t l r
+linkChecks (Line layer last) file t l line r = lineChecks file t l r
+linkChecks (Coordinates left) file t l line r = pointChecks file l (getD t (l .line + (line - 1)) 0) r left
+linkChecks (Area layer last) file t l line r = []
+linkChecks (Loop last count left) file t l line r = entryChecks file l r
+
+abbrev pub isLayer : Due → Bool
+isLayer (Mesh last) = false
+isLayer (Layer last) = true
+isLayer (Node layer last) = false
+isLayer (Line layer last) = false
+isLayer (Coordinates left) = false
+isLayer (Area layer last) = false
+isLayer (Loop last count left) = false
+
+-- the layer of the record behind the first k
+unfoldable pub layerAt : List ℕ → List ℕ → Bases → ℕ → layers.Layer
+layerAt file t b k = layerIn t b (countsAt file k .layers - 1)
+
+-- stage 4 is judged fifth
+abbrev pub fifth : ℕ
+fifth = 5
+
+unfoldable pub stageFour : List ℕ → List ℕ → Bases → List Rule
+stageFour file t b =
+    rows (recordsOf file) (λ k. block fifth (k + 1) (linkChecks (dueOf (stateAt file k)) file t (layerAt file t b k) (stateAt file k .line) (k + 1)))

@@ -1,0 +1,16 @@
+-- What the scan for a repeated entry finds. It serves the code and is no part of a promise. Assumes nothing.
+use mathlib.Core.Bool.{Bool, true, false, _||_, not}
+use mathlib.Core.List.{List}
+use mathlib.Core.Path.{_≡_}
+use Prim.Native.Nat.{ℕ, _≤_, _<_}
+use Rattle.links.specs.Links.{isZero, nodeEntry, repeatsNode}
+
+-- slot i of the N at record r is no entry, or repeats none
+unfoldable pub clean : List ℕ → ℕ → ℕ → Bool
+clean file r i = isZero (nodeEntry file r i) || not (repeatsNode file r i)
+
+-- x is the first slot that is not clean, or 9
+pub record FirstRepeat (file : List ℕ) (r x : ℕ) : Type 0 where
+  pub within : x ≤ 9
+  pub before : (i : ℕ) → i < x → clean file r i ≡ true
+  pub found : x < 9 → clean file r x ≡ false

@@ -1,0 +1,469 @@
+// Stage 4 of the judge (document 01, refusals 11 to 14): what the numbers of a layer name, and whether
+// both sides say the same. Every public function takes every file and every table.
+//
+// The contracts cite `specs/Links.antt`.
+use layers::Bases;
+use layers::Layer;
+use rules::Due;
+use verdict::Verdict;
+ghost use mathlib.Core.Path.{_≡_};
+ghost use mathlib.Core.Bool.{false, true, cond, not};
+ghost use Prim.Native.Nat.{_+_, _-_, _≤_, _<_};
+ghost use lib.ListN.{getD};
+ghost use Rattle.verdict.specs.declared.Verdict.the-variants.{Broken};
+ghost use Rattle.verdict.specs.Rules.{firstBroken, block};
+ghost use Rattle.links.specs.Links.{isZero, equal, entryIs, serialIn, nodeEntry, endNode, meets, repeatsNode, nodeSlot, nodeChecks, listed, linkFits, lineEndChecks, sideChecks, lineChecks, atNode, firstPointChecks, lastPointChecks, pointChecks, loopEntry, entryChecks, linkChecks, isLayer, layerAt, fifth, stageFour};
+ghost use Rattle.layers.specs.Naming.{layerIn};
+ghost use Rattle.links.specs.Scanning.{clean, FirstRepeat};
+
+// ---- numbers
+
+fn is_zero(v: i32) -> bool
+    ensures { λ r. ⌜ r ≡ isZero v ⌝ }
+{
+    rules::size(v) == 0
+}
+
+// The same sign and size.
+fn equal(a: i32, b: i32) -> bool
+    ensures { λ r. ⌜ r ≡ equal a b ⌝ }
+{
+    rules::same(rules::natural(a), rules::natural(b)) & (rules::size(a) == rules::size(b))
+}
+
+// The entry +n or, backwards, -n.
+fn entry_is(back: bool, n: usize, v: i32) -> bool
+    ensures { λ r. ⌜ r ≡ entryIs back n v ⌝ }
+{
+    (rules::size(v) == n) & rules::same(back, !rules::natural(v))
+}
+
+// A record's own serial.
+fn serial_in(file: &[u8], r: usize) -> usize
+    ensures { λ x. ⌜ x ≡ serialIn (now (file .entry)) r ⌝ }
+{
+    rules::size(records::number_at(file, r, 7, 5))
+}
+
+// A refusal at a column.
+fn broken(number: u32, row: u32, column: usize) -> Verdict
+    requires { ⌜ column ≤ 74 ⌝ }
+    ensures { λ r. ⌜ r ≡ Broken number row column ⌝ }
+{
+    Verdict::Broken {
+        number,
+        record: row,
+        column: column as u32,
+    }
+}
+
+// ---- N
+
+// Slot `i` of an N.
+fn node_entry(file: &[u8], r: usize, i: usize) -> i32
+    requires { ⌜ i < 9 ⌝ }
+    ensures { λ x. ⌜ x ≡ nodeEntry (now (file .entry)) r i ⌝ }
+{
+    records::number_at(file, r, 26 + 5 * i, 5)
+}
+
+// The node where a line starts or, backwards, ends.
+fn end_node(file: &[u8], table: &[u32], l: Layer, v: i32) -> i32
+    ensures { λ x. ⌜ x ≡ endNode (now (file .entry)) (now (table .entry)) l v ⌝ }
+{
+    let r = layers::line_of(table, l, v);
+    if rules::natural(v) {
+        return records::number_at(file, r, 18, 5);
+    }
+    records::number_at(file, r, 24, 5)
+}
+
+// Whether line `v` starts or, backwards, ends at the N of record `r`; it waits where a number names
+// nothing.
+fn meets(file: &[u8], table: &[u32], l: Layer, r: usize, v: i32) -> bool
+    ensures { λ x. ⌜ x ≡ meets (now (file .entry)) (now (table .entry)) l r v ⌝ }
+{
+    if !layers::names_line(l.lines, v) {
+        return true;
+    }
+    let e = end_node(file, table, l, v);
+    if !layers::names(l.nodes, e) {
+        return true;
+    }
+    rules::size(e) == serial_in(file, r)
+}
+
+// How many earlier slots the entry `v` of slot `i` is compared with: none where it is no entry.
+fn earlier(v: i32, i: usize) -> usize
+    ensures { λ x. ⌜ x ≡ cond (isZero v) 0 i ⌝ }
+{
+    if is_zero(v) {
+        return 0;
+    }
+    i
+}
+
+// The first slot of an N that repeats an earlier one, or 9.
+fn first_repeat(file: &[u8], r: usize) -> usize
+    ensures { λ x. ⌜ FirstRepeat (now (file .entry)) r x ⌝ }
+{
+    let mut at: usize = 9;
+    let mut i: usize = 0;
+    'scan: while i < 9 {
+        let v = node_entry(file, r, i);
+        let stop = earlier(v, i);
+        let mut j: usize = 0;
+        while j < stop {
+            let w = node_entry(file, r, j);
+            if equal(v, w) {
+                at = i;
+                break 'scan;
+            }
+            j += 1;
+        }
+        i += 1;
+    }
+    at
+}
+
+// Slot `i` of the N at record `r`; `again` says that it repeats an earlier one.
+fn judge_slot(
+    file: &[u8],
+    table: &[u32],
+    l: Layer,
+    r: usize,
+    i: usize,
+    again: bool,
+    row: u32,
+) -> Verdict
+    requires { ⌜ (i < 9) × (again ≡ not (clean (now file) r i)) ⌝ }
+    ensures { λ x. ⌜ x ≡ firstBroken (block fifth row (nodeSlot (now (file .entry)) (now (table .entry)) l r i)) ⌝ }
+{
+    let v = node_entry(file, r, i);
+    if is_zero(v) {
+        return Verdict::Fine;
+    }
+    if !layers::names_line(l.lines, v) {
+        return broken(11, row, 26 + 5 * i);
+    }
+    if !meets(file, table, l, r, v) {
+        return broken(12, row, 26 + 5 * i);
+    }
+    if again {
+        return broken(13, row, 26 + 5 * i);
+    }
+    Verdict::Fine
+}
+
+// The entries of the N at record `r`.
+fn judge_node(file: &[u8], table: &[u32], l: Layer, r: usize, row: u32) -> Verdict
+    ensures { λ x. ⌜ x ≡ firstBroken (block fifth row (nodeChecks (now (file .entry)) (now (table .entry)) l r)) ⌝ }
+{
+    let at = first_repeat(file, r);
+    let mut i: usize = 0;
+    while i < 9 {
+        let v = judge_slot(file, table, l, r, i, i == at, row);
+        if let Verdict::Broken {
+            number: _,
+            record: _,
+            column: _,
+        } = v {
+            return v;
+        }
+        i += 1;
+    }
+    Verdict::Fine
+}
+
+// ---- L
+
+// Whether the N at record `r` lists +n or, backwards, -n.
+fn listed(file: &[u8], r: usize, back: bool, n: usize) -> bool
+    ensures { λ x. ⌜ x ≡ listed (now (file .entry)) r back n ⌝ }
+{
+    let mut i: usize = 0;
+    while i < 9 {
+        let v = node_entry(file, r, i);
+        if entry_is(back, n, v) {
+            return true;
+        }
+        i += 1;
+    }
+    false
+}
+
+// 0 exactly where the frame is.
+fn link_fits(link: i32, frame: i32) -> bool
+    ensures { λ x. ⌜ x ≡ linkFits link frame ⌝ }
+{
+    rules::same(is_zero(link), is_zero(frame))
+}
+
+// One end of the line at record `r`: its node number at column `c`, its link at column `k`.
+fn judge_end(file: &[u8], l: Layer, r: usize, c: usize, k: usize, back: bool, row: u32) -> Verdict
+    requires { ⌜ (c ≤ 74) × (k ≤ 74) ⌝ }
+    ensures { λ x. ⌜ x ≡ firstBroken (block fifth row (lineEndChecks (now (file .entry)) l r c k back)) ⌝ }
+{
+    let v = records::number_at(file, r, c, 5);
+    if !layers::names(l.nodes, v) {
+        return broken(11, row, c);
+    }
+    let node = layers::node_of(l, v);
+    let serial = serial_in(file, r);
+    if !listed(file, node, back, serial) {
+        return broken(14, row, c);
+    }
+    let link = records::number_at(file, r, k, 1);
+    let frame = records::number_at(file, node, 22, 2);
+    if !link_fits(link, frame) {
+        return broken(12, row, k);
+    }
+    Verdict::Fine
+}
+
+// One side of the line at record `r`: its code at column `c`, its area number at column `a`.
+fn judge_side(
+    file: &[u8],
+    table: &[u32],
+    l: Layer,
+    r: usize,
+    c: usize,
+    a: usize,
+    row: u32,
+) -> Verdict
+    requires { ⌜ (c ≤ 74) × (a ≤ 74) ⌝ }
+    ensures { λ x. ⌜ x ≡ firstBroken (block fifth row (sideChecks (now (file .entry)) (now (table .entry)) l r c a)) ⌝ }
+{
+    let v = records::number_at(file, r, a, 5);
+    if !layers::names(l.areas, v) {
+        if is_zero(v) {
+            return Verdict::Fine;
+        }
+        return broken(11, row, a);
+    }
+    let area = layers::area_of(table, l, v);
+    let code = records::number_at(file, r, c, 5);
+    let other = records::number_at(file, area, 5, 5);
+    if !equal(code, other) {
+        return broken(12, row, c);
+    }
+    Verdict::Fine
+}
+
+// The ends and the sides of the line at record `r`.
+fn judge_line(file: &[u8], table: &[u32], l: Layer, r: usize, row: u32) -> Verdict
+    ensures { λ x. ⌜ x ≡ firstBroken (block fifth row (lineChecks (now (file .entry)) (now (table .entry)) l r)) ⌝ }
+{
+    let start = judge_end(file, l, r, 18, 23, false, row);
+    if let Verdict::Broken {
+        number: _,
+        record: _,
+        column: _,
+    } = start {
+        return start;
+    }
+    let end = judge_end(file, l, r, 24, 29, true, row);
+    if let Verdict::Broken {
+        number: _,
+        record: _,
+        column: _,
+    } = end {
+        return end;
+    }
+    let left = judge_side(file, table, l, r, 30, 35, row);
+    if let Verdict::Broken {
+        number: _,
+        record: _,
+        column: _,
+    } = left {
+        return left;
+    }
+    judge_side(file, table, l, r, 40, 45, row)
+}
+
+// ---- coordinates
+
+// Whether pair `i` of the coordinate record `r` is where the N that `v` names stands.
+fn at_node(file: &[u8], l: Layer, v: i32, r: usize, i: usize) -> bool
+    requires { ⌜ i < 7 ⌝ }
+    ensures { λ x. ⌜ x ≡ atNode (now (file .entry)) l v r i ⌝ }
+{
+    if !layers::names(l.nodes, v) {
+        return true;
+    }
+    let node = layers::node_of(l, v);
+    let x = records::number_at(file, r, 1 + 10 * i, 5);
+    let y = records::number_at(file, r, 6 + 10 * i, 5);
+    equal(x, records::number_at(file, node, 12, 5))
+        & equal(y, records::number_at(file, node, 17, 5))
+}
+
+// The first point, where all points of the line are left; the L is record `q`.
+fn judge_first(file: &[u8], l: Layer, q: usize, r: usize, left: usize, row: u32) -> Verdict
+    ensures { λ x. ⌜ x ≡ firstBroken (block fifth row (firstPointChecks (now (file .entry)) l q r left)) ⌝ }
+{
+    if left <= 1 {
+        return Verdict::Fine;
+    }
+    if left != rules::size(records::number_at(file, q, 50, 6)) {
+        return Verdict::Fine;
+    }
+    let v = records::number_at(file, q, 18, 5);
+    if !at_node(file, l, v, r, 0) {
+        return broken(12, row, 1);
+    }
+    Verdict::Fine
+}
+
+// The last point, where no more than seven are left.
+fn judge_last(file: &[u8], l: Layer, q: usize, r: usize, left: usize, row: u32) -> Verdict
+    ensures { λ x. ⌜ x ≡ firstBroken (block fifth row (lastPointChecks (now (file .entry)) l q r left)) ⌝ }
+{
+    if left == 0 {
+        return Verdict::Fine;
+    }
+    if 7 < left {
+        return Verdict::Fine;
+    }
+    let v = records::number_at(file, q, 24, 5);
+    if !at_node(file, l, v, r, left - 1) {
+        return broken(12, row, 1 + 10 * (left - 1));
+    }
+    Verdict::Fine
+}
+
+// The first and the last point of a line.
+fn judge_points(file: &[u8], l: Layer, q: usize, r: usize, left: usize, row: u32) -> Verdict
+    ensures { λ x. ⌜ x ≡ firstBroken (block fifth row (pointChecks (now (file .entry)) l q r left)) ⌝ }
+{
+    let first = judge_first(file, l, q, r, left, row);
+    if let Verdict::Broken {
+        number: _,
+        record: _,
+        column: _,
+    } = first {
+        return first;
+    }
+    judge_last(file, l, q, r, left, row)
+}
+
+// ---- loop records
+
+// Slot `i` of a loop record.
+fn loop_entry(file: &[u8], r: usize, i: usize) -> i32
+    requires { ⌜ i < 12 ⌝ }
+    ensures { λ x. ⌜ x ≡ loopEntry (now (file .entry)) r i ⌝ }
+{
+    records::number_at(file, r, 10 + 5 * i, 5)
+}
+
+// The entries of the loop record `r`.
+fn judge_entries(file: &[u8], l: Layer, r: usize, row: u32) -> Verdict
+    ensures { λ x. ⌜ x ≡ firstBroken (block fifth row (entryChecks (now (file .entry)) l r)) ⌝ }
+{
+    let mut i: usize = 0;
+    while i < 12 {
+        let v = loop_entry(file, r, i);
+        if !is_zero(v) & !layers::names_line(l.lines, v) {
+            return broken(11, row, 10 + 5 * i);
+        }
+        i += 1;
+    }
+    Verdict::Fine
+}
+
+// ---- the stage
+
+// The L record of the line whose points come: `line` lines of the layer came.
+fn current_line(table: &[u32], l: Layer, line: usize) -> usize
+    ensures { λ x. ⌜ x ≡ getD (now (table .entry)) (l .line + (line - 1)) 0 ⌝ }
+{
+    let mut i: usize = 0;
+    if 0 < line {
+        i = line - 1;
+    }
+    layers::line_word(table, l, i)
+}
+
+// Record `r`, due as `d`, in the layer `l`; `line` lines of the layer came before it.
+fn judge_record(d: Due, file: &[u8], table: &[u32], l: Layer, line: usize, r: usize) -> Verdict
+    requires { ⌜ r ≤ 6399936 ⌝ }
+    ensures { λ x. ⌜ x ≡ firstBroken (block fifth r (linkChecks d (now (file .entry)) (now (table .entry)) l line r)) ⌝ }
+{
+    let row = r as u32;
+    match d {
+        Due::Mesh(_) => Verdict::Fine,
+        Due::Layer(_) => Verdict::Fine,
+        Due::Node(_, _) => judge_node(file, table, l, r, row),
+        Due::Line(_, _) => judge_line(file, table, l, r, row),
+        Due::Coordinates(left) => {
+            let q = current_line(table, l, line);
+            judge_points(file, l, q, r, left, row)
+        }
+        Due::Area(_, _) => Verdict::Fine,
+        Due::Loop(_, _, _) => judge_entries(file, l, r, row),
+    }
+}
+
+// The layer behind a record that was due as `d`: another one behind an H. `rows` H records came.
+fn layer_behind(d: Due, table: &[u32], b: Bases, rows: usize, l: Layer) -> Layer
+    ensures { λ x. ⌜ x ≡ cond (isLayer d) (layerIn (now (table .entry)) b (rows - 1)) l ⌝ }
+{
+    match d {
+        Due::Mesh(_) => l,
+        Due::Layer(_) => {
+            let mut i: usize = 0;
+            if 0 < rows {
+                i = rows - 1;
+            }
+            layers::layer_in(table, b, i)
+        }
+        Due::Node(_, _) => l,
+        Due::Line(_, _) => l,
+        Due::Coordinates(_) => l,
+        Due::Area(_, _) => l,
+        Due::Loop(_, _, _) => l,
+    }
+}
+
+// 1 for an H.
+fn rows_of(d: Due) -> usize
+    ensures { λ x. ⌜ x ≡ cond (isLayer d) 1 0 ⌝ }
+{
+    match d {
+        Due::Mesh(_) => 0,
+        Due::Layer(_) => 1,
+        Due::Node(_, _) => 0,
+        Due::Line(_, _) => 0,
+        Due::Coordinates(_) => 0,
+        Due::Area(_, _) => 0,
+        Due::Loop(_, _, _) => 0,
+    }
+}
+
+// Stage 4: every record by what it names.
+pub fn stage_four(file: &[u8], table: &[u32], b: Bases) -> Verdict
+    ensures { λ r. ⌜ r ≡ firstBroken (stageFour (now (file .entry)) (now (table .entry)) b) ⌝ }
+{
+    let n = walk::records_of(file);
+    let mut s = walk::at_start();
+    let mut rows: usize = 0;
+    let mut l = layers::layer_in(table, b, 0);
+    let mut k: usize = 0;
+    while k < n {
+        let d = walk::due(s);
+        let v = judge_record(d, file, table, l, s.line, k + 1);
+        if let Verdict::Broken {
+            number: _,
+            record: _,
+            column: _,
+        } = v {
+            return v;
+        }
+        rows += rows_of(d);
+        l = layer_behind(d, table, b, rows, l);
+        s = walk::next(s, records::record_view(file, k + 1));
+        k += 1;
+    }
+    Verdict::Fine
+}
