@@ -1,4 +1,4 @@
--- The smallest sheet and its neighbours (document 01, the section of that name), and what stages 1 to 3 say of each. Assumes nothing.
+-- The smallest sheet and its neighbours (document 01, the section of that name), and what stages 1 to 4 say of each. Assumes nothing.
 --   mRecord, .., loopRecord   a record of sheet S, as a function of what its neighbours change
 --   sheetS                    sheet S, 518 bytes
 --   changed k c bytes         S with these bytes in record k, from column c on; withMesh: with another M
@@ -9,6 +9,7 @@ use Prim.Native.Nat.{ℕ, zero, suc, _+_, _-_, _*_}
 use lib.IntN.{ℤ, pos, negsuc}
 use lib.ListN.{take}
 use Rattle.fields.specs.Place.{put}
+use Rattle.fields.specs.Spelling.{spell}
 use Rattle.records.specs.declared.Kind.{Kind}
 use Rattle.records.specs.declared.Kind.the-variants.{Mesh, Layer, Node, Line, Coordinates, Area, Loop}
 use Rattle.records.specs.Writing.{lineOf}
@@ -76,17 +77,21 @@ sheetS =
 unfoldable pub changed : ℕ → ℕ → List ℕ → List ℕ
 changed k c bytes = put sheetS (74 * (k - 1) + c) bytes
 
+-- five columns
+abbrev pub number : ℕ → List ℕ
+number n = spell 5 (pos n)
+
 abbrev pub withMesh : ℕ → ℕ → ℕ → List ℕ
 withMesh code layers records = changed 1 1 (mRecord code layers records)
 
--- 01's, in its order; where it names 12, 14, 16 or 17, stages 1 to 3 pass the file. Then further ones, by number
+-- 01's, in its order; where it names 16 or 17, stages 1 to 4 pass the file. Then further ones, by number
 unfoldable pub cases : List (List ℕ × Verdict)
 cases =
     (sheetS, Fine)  -- "S accepted"
     ∷ (withMesh 533945 1 6, Broken 10 1 52)  -- "S with M records 6: 10 at 1,52"
     ∷ (changed 3 1 (nRecord 1 0 2 (negsuc 0)), Broken 6 3 22)  -- "frame 0: 6 at 3,22"
-    ∷ (changed 3 1 (nRecord 1 1 1 (pos 0)), Fine)  -- "count 1: 14 at 4,24 (slot two 0)"
-    ∷ (changed 5 1 (points 1 0), Fine)  -- "last point (0,1): 12 at 5,41"
+    ∷ (changed 3 1 (nRecord 1 1 1 (pos 0)), Broken 14 4 24)  -- "count 1: 14 at 4,24 (slot two 0)"
+    ∷ (changed 5 1 (points 1 0), Broken 12 5 41)  -- "last point (0,1): 12 at 5,41"
     ∷ (changed 5 1 (points 0 7), Broken 6 5 51)  -- "sixth X 7: 6 at 5,51"
     ∷ (changed 7 1 (loopRecord 1 (negsuc 0)), Fine)  -- "loop entry -1: 16 at 7,1"
     ∷ (changed 4 1 (lRecord 13101 1 88888 0), Fine)  -- "left and right exchanged: 17 at 7,10"
@@ -105,6 +110,15 @@ cases =
     ∷ (sheetS ++ sheetS, Broken 8 8 3)  -- the same mesh code again
     ∷ (changed 2 1 (hRecord 7), Broken 10 2 25)  -- H records 7
     ∷ (changed 6 1 (aRecord 2), Broken 10 6 29)  -- A lines 2
+    ∷ (changed 3 26 (number 2), Broken 11 3 26)  -- a node entry that names no line
+    ∷ (changed 4 18 (number 2), Broken 11 4 18)  -- start node 2: the node's own check waits
+    ∷ (changed 4 24 (number 0), Broken 11 4 24)  -- end node 0
+    ∷ (changed 4 45 (number 2), Broken 11 4 45)  -- right area 2
+    ∷ (changed 7 10 (number 2), Broken 11 7 10)  -- a loop entry that names no line
+    ∷ (changed 4 23 (48 ∷ []), Broken 12 4 23)  -- link 0 on a frame node
+    ∷ (changed 4 40 (number 13102), Broken 12 4 40)  -- a code unlike its area's
+    ∷ (changed 5 1 (number 1), Broken 12 5 1)  -- the first point (1,0)
+    ∷ (changed 3 31 (number 1), Broken 13 3 31)  -- the same entry twice
     ∷ []
 
 -- "Meshes follow one another, codes strictly rising, first four digits all equal."

@@ -4,10 +4,17 @@
 //
 // The contracts cite `specs/`: `Rulebook` has the rules in 01's order, `Outcomes` what is answered and
 // what the table holds afterwards.
+use layers::Bases;
 use verdict::Verdict;
+use walk::Counts;
 ghost use mathlib.Core.Path.{_≡_};
+ghost use Prim.Native.Nat.{_≤_};
 ghost use lib.ListN.{length};
-ghost use Rattle.walk.specs.Stages.{needOf};
+ghost use Rattle.verdict.specs.Rules.{firstBroken};
+ghost use Rattle.walk.specs.States.{countsAt};
+ghost use Rattle.walk.specs.Stages.{recordsOf, needOf};
+ghost use Rattle.walk.specs.Table.{tableOf};
+ghost use Rattle.judge.specs.Rulebook.{basesOf, late};
 ghost use Rattle.judge.specs.Outcomes.{outcomeBy, outcomeOf, tableAfter};
 
 // What is answered: a refusal's number and place, or 0 at 0, 0; and the words that the file needs where
@@ -49,7 +56,35 @@ fn outcome_of(v: Verdict, need: usize) -> Outcome
     }
 }
 
-// Judges a file as far as stage 3, and leaves its table in the first words of `table`; refused with 1 to
+// Where the lines and the areas begin in the table of a file with these counts.
+fn bases_of(c: Counts) -> Bases
+    requires { ⌜ (c .layers ≤ 6399936) × (c .lines ≤ 6399936) ⌝ }
+    ensures { λ r. ⌜ r ≡ basesOf c ⌝ }
+{
+    let rows = 4 * c.layers;
+    Bases {
+        lines: rows as u32,
+        areas: (rows + c.lines) as u32,
+    }
+}
+
+// Stages 3 and 4 of a file that keeps the rules up to refusal 9; `table` is its table.
+fn judge_late(file: &[u8], table: &[u32], c: Counts) -> Verdict
+    requires { ⌜ (now table ≡ tableOf (now file)) × (c ≡ countsAt (now file) (recordsOf (now file))) ⌝ }
+    ensures { λ r. ⌜ r ≡ firstBroken (late (now (file .entry))) ⌝ }
+{
+    let v = totals::stage_three(file);
+    if let Verdict::Broken {
+        number: _,
+        record: _,
+        column: _,
+    } = v {
+        return v;
+    }
+    links::stage_four(file, table, bases_of(c))
+}
+
+// Judges a file as far as stage 4, and leaves its table in the first words of `table`; refused with 1 to
 // 9, it leaves `table` as it was.
 pub fn load(file: &[u8], table: &mut [u32]) -> Outcome
     ensures { λ r. ⌜ (r ≡ outcomeOf (now (file .entry)) (length (now (table .entry)))) × (now (table .exit) ≡ tableAfter (now (file .entry)) (now (table .entry))) ⌝ }
@@ -64,6 +99,6 @@ pub fn load(file: &[u8], table: &mut [u32]) -> Outcome
     } = v {
         return outcome_of(v, counts.words);
     }
-    let w = totals::stage_three(file);
+    let w = judge_late(file, &table[..counts.words], counts);
     outcome_of(w, counts.words)
 }

@@ -1,6 +1,7 @@
--- `judge::load` meets its contract: a refusal up to 9 stands, and behind none of them stage 3 speaks. Assumes nothing.
-use mathlib.Core.Path.{refl}
-use Rattle.judge.proofs.Loading.{early-outcome, early-table, late-outcome, late-table}
+-- `judge::load` meets its contract: a refusal up to 9 stands, and behind none of them the later stages speak. Assumes nothing.
+use mathlib.Core.Path.{refl, sym}
+use lib.Seq.{length-take-le}
+use Rattle.judge.proofs.Loading.{early-outcome, early-table, all-counts, words-fit, words-are, late-outcome, late-table}
 use borrow.Author.Needs.{needs}
 use Rattle.judge.proofs.load.Statement.{statement}
 use Rattle.judge.proofs.load.Tie as tie
@@ -23,8 +24,14 @@ returns c = (early-outcome _ _ (c .before .before .before .before .before .befor
 enum-told-2 : tie.Need-enum-told-2
 enum-told-2 c = search needs
 
-stage-three-requires : tie.Need-stage-three-requires
-stage-three-requires c κs = search needs
+slice-reshare-prefix-judge-late : tie.Need-slice-reshare-prefix-judge-late
+slice-reshare-prefix-judge-late c = words-fit _ _ (c .before .before .before .before .before .fill-table .ensures .0) (c .enum-told2 .given .1) _ _ (c .before .before .before .before .before .fill-table .ensures .1)
+
+slice-aggregate-judge-late : tie.Need-slice-aggregate-judge-late
+slice-aggregate-judge-late c = sym (length-take-le _ _ (words-fit _ _ (c .before .before .before .before .before .before .fill-table .ensures .0) (c .before .enum-told2 .given .1) _ _ (c .before .before .before .before .before .before .fill-table .ensures .1)))
+
+judge-late-requires : tie.Need-judge-late-requires
+judge-late-requires c κs = (words-are _ _ (c .before .before .before .before .before .before .fill-table .ensures .0) (c .before .enum-told2 .given .1) _ _ (c .before .before .before .before .before .before .fill-table .ensures .1), all-counts _ _ (c .before .before .before .before .before .before .fill-table .ensures .0) (c .before .enum-told2 .given .1))
 
 outcome-of-requires-2 : tie.Need-outcome-of-requires-2
 outcome-of-requires-2 c κs = search needs
@@ -33,7 +40,7 @@ same-length-2 : tie.Need-same-length-2
 same-length-2 c = search needs
 
 returns-2 : tie.Need-returns-2
-returns-2 c = (late-outcome _ _ (c .before .before .before .before .before .before .before .fill-table .ensures .0) (c .before .before .enum-told2 .given .1) (c .before .stage-three .ensures) (c .outcome-of2 .ensures), late-table _ _ (c .before .before .before .before .before .before .before .fill-table .ensures .0) (c .before .before .enum-told2 .given .1) (c .before .stage-three .ensures) _ _ refl (c .before .before .before .before .before .before .before .fill-table .ensures .1))
+returns-2 c = (late-outcome _ _ (c .before .before .before .before .before .before .before .before .fill-table .ensures .0) (c .before .before .before .enum-told2 .given .1) (c .before .judge-late .ensures) (c .outcome-of2 .ensures), late-table _ _ (c .before .before .before .before .before .before .before .before .fill-table .ensures .0) (c .before .before .before .enum-told2 .given .1) (c .before .judge-late .ensures) _ _ refl (c .before .before .before .before .before .before .before .before .fill-table .ensures .1))
 
 pub load-spec : {M : Type 1} → statement M
 load-spec =
@@ -45,7 +52,9 @@ load-spec =
     same-length
     returns
     enum-told-2
-    stage-three-requires
+    slice-reshare-prefix-judge-late
+    slice-aggregate-judge-late
+    judge-late-requires
     outcome-of-requires-2
     same-length-2
     returns-2)
