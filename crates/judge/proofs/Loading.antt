@@ -1,8 +1,8 @@
 -- The stages in a row as the code judges them, and the table that each leaves. Assumes nothing.
-use mathlib.Core.Bool.{Bool, true, false, cond}
+use mathlib.Core.Bool.{true, false}
 use mathlib.Core.List.{List, _++_}
 use mathlib.Core.Path.{_≡_, refl, sym, _∙_, ap}
-use Prim.Native.Nat.{ℕ, _≤_, _<_}
+use Prim.Native.Nat.{ℕ, _≤_}
 use native.Mathlib.Omega.{arith}
 use lib.Dec.{leb}
 use lib.ListN.{length, take, drop, length-append}
@@ -13,19 +13,19 @@ use Rattle.verdict.specs.declared.Verdict.the-variants.{Fine, Broken}
 use Rattle.verdict.specs.declared.Told.{Told}
 use Rattle.verdict.specs.Rules.{firstBroken, toldOf}
 use Rattle.verdict.proofs.Parts.{stands, goes-on, both-fine}
-use Rattle.verdict.proofs.Numbers.{Numbered, append-numbered, broken-number}
+use Rattle.verdict.proofs.Numbers.{upTo9, above9, Numbered, append-numbered, broken-number}
 use Rattle.walk.specs.declared.Tabled.{Tabled}
 use Rattle.walk.specs.declared.Counts.{Counts}
-use Rattle.walk.specs.States.{rowLength, countsAt}
+use Rattle.walk.specs.States.{countsAt}
 use Rattle.walk.specs.Stages.{recordsOf, stageOne, stageTwo, roomRule, walkedOf, needOf, early}
 use Rattle.walk.specs.Table.{tableOf, filled, filledBy, tabledOf}
 use Rattle.walk.proofs.Walking.{counts-small}
 use Rattle.walk.proofs.Judging.{records-small, walked-verdict, walked-fine, ended}
 use Rattle.walk.proofs.Dues.{words-counted}
 use Rattle.walk.proofs.Filling.{table-length}
-use Rattle.walk.proofs.InOrder.{upTo9, early-numbered}
+use Rattle.walk.proofs.InOrder.{early-numbered}
 use Rattle.totals.specs.Totals.{stageThree}
-use Rattle.totals.proofs.Summing.{above9, three-numbered}
+use Rattle.totals.proofs.Summing.{three-numbered}
 use Rattle.judge.specs.declared.Outcome.{Outcome}
 use Rattle.layers.specs.declared.Bases.{Bases}
 use Rattle.links.specs.Links.{stageFour}

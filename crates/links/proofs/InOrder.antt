@@ -9,7 +9,7 @@ use borrow.Author.Tests.{lt-ltb, ltb-true}
 use Rattle.records.specs.View.{numberIn}
 use Rattle.verdict.specs.Rules.{check, spread}
 use Rattle.verdict.specs.Order.{Sorted, rising}
-use Rattle.verdict.proofs.Numbers.{numbered, Numbered, block-numbered, rows-numbered}
+use Rattle.verdict.proofs.Numbers.{above9, numbered, Numbered, block-numbered, rows-numbered}
 use Rattle.verdict.proofs.Orders.{Of, and-both, rows-sorted, rows-in}
 use Rattle.rules.specs.Permitted.{size}
 use Rattle.rules.specs.declared.Due.{Due}
@@ -20,9 +20,6 @@ use Rattle.layers.specs.declared.Bases.{Bases}
 use Rattle.layers.specs.declared.Layer.{Layer}
 use Rattle.links.specs.Links.{nodeSlot, nodeChecks, lineEndChecks, sideChecks, lineChecks, atNode, firstPointChecks, lastPointChecks, pointChecks, entryChecks, linkChecks, layerAt, fifth, stageFour}
 use Rattle.links.proofs.StageLaws.{linksOf}
-
-abbrev pub above9 : ℕ → Bool
-above9 n = leb 10 n
 
 -- ---- a record's checks
 

@@ -1,11 +1,8 @@
 -- The checks of lines, of their points and of loop records, by the ways out of the code that judges them. Assumes nothing.
 use mathlib.Core.Bool.{Bool, true, false, _&&_, _||_, not}
 use mathlib.Core.List.{List, [], _∷_, _++_}
-use mathlib.Core.Logic.{⊎-elim}
 use mathlib.Core.Path.{_≡_, refl, sym, _∙_, ap}
-use Prim.Native.Nat.{ℕ, zero, suc, _+_, _-_, _*_, _≤_, _<_, _^_}
-use native.Mathlib.Nat.{le-of-suc-le-suc, not-suc-le-zero, eq-or-lt-of-le}
-use native.Mathlib.Numerals.{add-one}
+use Prim.Native.Nat.{ℕ, _+_, _-_, _*_, _≤_, _<_, _^_}
 use native.Mathlib.Omega.{arith}
 use lib.IntN.{ℤ}
 use lib.Signed.{mag}
@@ -22,6 +19,8 @@ use Rattle.rules.proofs.Signs.{passed-on}
 use Rattle.layers.specs.declared.Layer.{Layer}
 use Rattle.layers.specs.Naming.{names, namesLine, nodeOf, areaOf}
 use Rattle.links.specs.Links.{isZero, equal, entryIs, some, serialIn, nodeEntry, listed, linkFits, lineEndChecks, sideChecks, atNode, firstPointChecks, lastPointChecks, loopEntry, entryChecks, fifth}
+use Rattle.links.proofs.Numbers.{asked, told-both}
+use Rattle.links.proofs.NodeLaws.{some-none, some-more, some-hit}
 
 -- ---- answers
 
@@ -35,11 +34,7 @@ passed z = toZ w32 (ofZ w32 z)
 
 -- the answer b of a call of g on z, which is x
 pub told : {A : Type 0} (g : ℤ → A) {z x : ℤ} {b : A} → Small z → z ≡ x → b ≡ g (passed z) → g x ≡ b
-told g h e q = ap g (sym (passed-on h e)) ∙ sym q
-
--- of a call on two
-pub told-both : {A : Type 0} (g : ℤ → ℤ → A) {z x w y : ℤ} {b : A} → Small z → z ≡ x → Small w → w ≡ y → b ≡ g (passed z) (passed w) → g x y ≡ b
-told-both g {z} {x} {w} {y} h e k f q = ap (λ u. g u y) (sym (passed-on h e)) ∙ (ap (g (passed z)) (sym (passed-on k f)) ∙ sym q)
+told g h e q = asked g h e q refl
 
 -- ---- one check in front of others, and parts in a row
 
@@ -74,27 +69,13 @@ module _ (row : ℕ) (xs ys : List Check) where
 
 -- ---- what an N lists
 
-some-step : (i : ℕ) (f : ℕ → Bool) → some (i + 1) f ≡ (some i f || f i)
-unfolding some
-some-step i f = rw add-one
-
-some-hit : (n i : ℕ) (f : ℕ → Bool) → i < n → f i ≡ true → some n f ≡ true
-unfolding some
-some-hit zero i f l g = absurd (not-suc-le-zero l)
-some-hit (suc n) i f l g =
-    ⊎-elim
-    (λ q. or-right (some n f) (f n) (ap f (sym q) ∙ g))
-    (λ q. or-left (some n f) (f n) (some-hit n i f q g))
-    (eq-or-lt-of-le (le-of-suc-le-suc l))
-
 -- slot i is +n or, backwards, -n
 abbrev pub slotIs : List ℕ → ℕ → Bool → ℕ → ℕ → Bool
 slotIs file r back n i = entryIs back n (nodeEntry file r i)
 
 module _ (file : List ℕ) (r : ℕ) (back : Bool) (n : ℕ) where
   pub listed-start : some 0 (slotIs file r back n) ≡ false
-  unfolding some
-  listed-start = refl
+  listed-start = some-none (slotIs file r back n)
 
   pub listed-done : (i : ℕ) → i ≤ 9 → 9 ≤ i → some i (slotIs file r back n) ≡ false → false ≡ listed file r back n
   unfolding listed
@@ -106,7 +87,7 @@ module _ (file : List ℕ) (r : ℕ) (back : Bool) (n : ℕ) where
     listed-hit l t = sym (some-hit 9 i (slotIs file r back n) l (told (entryIs back n) ok e q ∙ t))
 
     pub listed-pass : some i (slotIs file r back n) ≡ false → b ≡ false → some (i + 1) (slotIs file r back n) ≡ false
-    listed-pass h t = some-step i (slotIs file r back n) ∙ or-none (some i (slotIs file r back n)) (slotIs file r back n i) h (told (entryIs back n) ok e q ∙ t)
+    listed-pass h t = some-more i (slotIs file r back n) h (told (entryIs back n) ok e q ∙ t)
 
 -- ---- one end of a line
 

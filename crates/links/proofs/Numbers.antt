@@ -4,9 +4,8 @@ use mathlib.Core.Path.{_≡_, sym, _∙_, ap}
 use Prim.Native.Nat.{_<_, _^_}
 use lib.IntN.{ℤ}
 use lib.Signed.{mag}
-use mir.Facts.{toZ-ofZ}
 use mir.Syntax.{w32}
-use mir.Val.{SFits, toZ, ofZ, hbits}
+use mir.Val.{toZ, ofZ, hbits}
 use Rattle.rules.proofs.Signs.{passed-on}
 use Rattle.links.specs.Links.{equal}
 
@@ -18,13 +17,10 @@ told P f e h = h ∙ ap P (passed-on f e)
 pub asked : {A : Type 0} (P : ℤ → A) {z x : ℤ} {r b : A} → mag z < 2 ^ hbits w32 → z ≡ x → r ≡ P (toZ w32 (ofZ w32 z)) → r ≡ b → P x ≡ b
 asked P f e h t = sym (told P f e h) ∙ t
 
--- the same of a function's own parameter v
-pub own-told : {A : Type 0} (P : ℤ → A) {v : ℤ} {r : A} → SFits w32 v → r ≡ P (toZ w32 (ofZ w32 v)) → r ≡ P v
-own-told P f h = h ∙ ap P (toZ-ofZ f)
-
-pub own-asked : {A : Type 0} (P : ℤ → A) {v : ℤ} {r b : A} → SFits w32 v → r ≡ P (toZ w32 (ofZ w32 v)) → r ≡ b → P v ≡ b
-own-asked P f h t = sym (own-told P f h) ∙ t
+-- the same of two numbers
+pub told-both : {A : Type 0} (P : ℤ → ℤ → A) {v w x y : ℤ} {r : A} → mag v < 2 ^ hbits w32 → v ≡ x → mag w < 2 ^ hbits w32 → w ≡ y → r ≡ P (toZ w32 (ofZ w32 v)) (toZ w32 (ofZ w32 w)) → P x y ≡ r
+told-both P f p g q h = sym (h ∙ rw (passed-on f p, passed-on g q))
 
 -- two numbers compared
 pub compared : {v w x y : ℤ} {r b : Bool} → mag v < 2 ^ hbits w32 → v ≡ x → mag w < 2 ^ hbits w32 → w ≡ y → r ≡ equal (toZ w32 (ofZ w32 v)) (toZ w32 (ofZ w32 w)) → r ≡ b → equal x y ≡ b
-compared f p g q h t = sym (h ∙ rw (passed-on f p, passed-on g q)) ∙ t
+compared f p g q h t = told-both equal f p g q h ∙ t

@@ -12,7 +12,7 @@ ghost use Prim.Native.Nat.{_+_, _-_, _≤_, _<_};
 ghost use lib.ListN.{getD};
 ghost use Rattle.verdict.specs.declared.Verdict.the-variants.{Broken};
 ghost use Rattle.verdict.specs.Rules.{firstBroken, block};
-ghost use Rattle.links.specs.Links.{isZero, equal, entryIs, serialIn, nodeEntry, endNode, meets, repeatsNode, nodeSlot, nodeChecks, listed, linkFits, lineEndChecks, sideChecks, lineChecks, atNode, firstPointChecks, lastPointChecks, pointChecks, loopEntry, entryChecks, linkChecks, isLayer, layerAt, fifth, stageFour};
+ghost use Rattle.links.specs.Links.{isZero, equal, entryIs, serialIn, nodeEntry, endNode, meets, nodeSlot, nodeChecks, listed, linkFits, lineEndChecks, sideChecks, lineChecks, atNode, firstPointChecks, lastPointChecks, pointChecks, loopEntry, entryChecks, linkChecks, isLayer, fifth, stageFour};
 ghost use Rattle.layers.specs.Naming.{layerIn};
 ghost use Rattle.links.specs.Scanning.{clean, FirstRepeat};
 

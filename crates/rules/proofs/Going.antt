@@ -1,8 +1,8 @@
 -- Stage 2 along a layout, one field at a time: what the loop of `judge_record` keeps. Assumes nothing.
 use mathlib.Core.Bool.{Bool, true, false, cond, _&&_, not}
 use mathlib.Core.List.{List, [], _∷_, _++_}
-use mathlib.Core.Path.{_≡_, refl, sym, _∙_, ap}
-use Prim.Native.Nat.{ℕ, zero, suc, _+_, _≤_, _<_}
+use mathlib.Core.Path.{_≡_, refl, sym, _∙_}
+use Prim.Native.Nat.{ℕ, suc, _+_, _≤_, _<_}
 use native.Mathlib.Numerals.{add-one}
 use native.Mathlib.Omega.{arith}
 use lib.Dec.{eqb}
@@ -19,13 +19,12 @@ use Rattle.records.specs.Reading.{lettersFault, faultOf, zeros}
 use Rattle.records.specs.declared.Field.{Field}
 use Rattle.records.specs.declared.Field.the-variants.{End, Letters, Number, Name, Blank}
 use Rattle.records.proofs.Layouts.{isField, on-layout, off-layout, split, total-split, fitting, start-small}
-use Rattle.verdict.specs.declared.Verdict.{Verdict}
 use Rattle.verdict.specs.declared.Verdict.the-variants.{Fine, Broken}
 use Rattle.verdict.specs.Rules.{Check, check, firstBroken, block}
 use Rattle.verdict.proofs.Parts.{check-none, check-kept, check-broken}
 use Rattle.rules.specs.declared.Due.{Due}
 use Rattle.rules.specs.Asks.{Ask, permitted, inStep, askedOf, firstAsked}
-use Rattle.rules.specs.Checks.{kindOf, free, formChecks, valueChecks, along, checksOf}
+use Rattle.rules.specs.Checks.{kindOf, formChecks, valueChecks, along, checksOf}
 
 -- ---- one field's checks, in front of others
 

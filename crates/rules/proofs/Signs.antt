@@ -70,3 +70,11 @@ module _ {v : ℤ} (f : SFits w32 v) where
 -- a call's answer z, as the next call gets it: a z that fits is read back as it was
 pub passed-on : {z x : ℤ} → mag z < 2 ^ hbits w32 → z ≡ x → toZ w32 (ofZ w32 z) ≡ x
 passed-on h e = toZ-ofZ (record { sfits = h }) ∙ e
+
+-- an answer r about a function's own parameter v is the definition's about v
+pub own-told : {A : Type 0} (P : ℤ → A) {v : ℤ} {r : A} → SFits w32 v → r ≡ P (toZ w32 (ofZ w32 v)) → r ≡ P v
+own-told P f h = h ∙ ap P (toZ-ofZ f)
+
+-- as a branch has it: the answer is b
+pub own-asked : {A : Type 0} (P : ℤ → A) {v : ℤ} {r b : A} → SFits w32 v → r ≡ P (toZ w32 (ofZ w32 v)) → r ≡ b → P v ≡ b
+own-asked P f h t = sym (own-told P f h) ∙ t

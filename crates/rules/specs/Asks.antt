@@ -4,7 +4,7 @@
 --   asksOf d ns      of a record that is due as d: for each of its numbers what is asked of it. ns are the numbers read so far, each
 --                    in its place, and 0 elsewhere; nothing is asked of a number that looks at one behind it
 use mathlib.Core.Bool.{Bool, cond, _||_}
-use mathlib.Core.List.{List, [], _∷_, _++_}
+use mathlib.Core.List.{List, [], _∷_}
 use Prim.Native.Nat.{ℕ, zero, suc, _+_, _/_}
 use lib.Dec.{ltb, eqb}
 use lib.IntN.{ℤ, pos}

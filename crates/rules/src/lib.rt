@@ -17,7 +17,7 @@ ghost use lib.ListN.{getD};
 ghost use Rattle.verdict.specs.declared.Verdict.the-variants.{Broken};
 ghost use Rattle.verdict.specs.Rules.{firstBroken, block};
 ghost use Rattle.rules.specs.Permitted.{natural, size, within, is, atLeast, isMeshCode, followsMesh, oneOrFive, isLayerCode, followsLayer, isDate, nodeItemOne, nodeItemFive, isNodeItem, onFrame, layered, isFrame, lineItemOne, lineItemFive, isLineItem, lineKindOne, lineKindFive, same, isLineKind, linkSize, isLink, isCode, isSide, isAreaCode, isSlot, isPoint, isNext, isLoopSerial};
-ghost use Rattle.rules.specs.Asks.{Ask, permitted, inStep, at, layerAsk, slotAsk, meshAsks, layerAsks, nodeAsks, lineAsks, coordinateAsks, areaAsks, loopAsks, loopDue, entriesDue, askedOf, firstAsked};
+ghost use Rattle.rules.specs.Asks.{permitted, inStep, at, layerAsk, meshAsks, layerAsks, nodeAsks, lineAsks, coordinateAsks, areaAsks, loopAsks, loopDue, entriesDue, askedOf, firstAsked};
 ghost use Rattle.rules.specs.Checks.{kindOf, checksOf};
 
 // What is due at a place of a file, with what its rules need to know of the records before it.

@@ -1,8 +1,8 @@
 -- Stage 3 as the code judges it: sums record by record, and its rules in 01's order. Assumes nothing.
-use mathlib.Core.Bool.{Bool, true, false, cond}
+use mathlib.Core.Bool.{true, false, cond}
 use mathlib.Core.List.{List, [], _∷_}
-use mathlib.Core.Path.{_≡_, refl, sym, _∙_, ap}
-use Prim.Native.Nat.{ℕ, zero, suc, _+_, _-_, _*_, _≤_, _<_}
+use mathlib.Core.Path.{_≡_, refl, sym, _∙_}
+use Prim.Native.Nat.{ℕ, zero, suc, _+_, _-_, _≤_, _<_}
 use native.Mathlib.Numerals.{add-one}
 use native.Mathlib.Omega.{arith}
 use lib.Dec.{leb, eqb}
@@ -13,7 +13,7 @@ use Rattle.verdict.specs.declared.Verdict.the-variants.{Fine, Broken}
 use Rattle.verdict.specs.Rules.{Rule, Check, check, firstBroken, block, rows}
 use Rattle.verdict.specs.Order.{Sorted, rising}
 use Rattle.verdict.proofs.Parts.{rows-stop, rows-done, check-kept, check-broken}
-use Rattle.verdict.proofs.Numbers.{numbered, Numbered, block-numbered, rows-numbered}
+use Rattle.verdict.proofs.Numbers.{above9, numbered, Numbered, block-numbered, rows-numbered}
 use Rattle.verdict.proofs.Orders.{Of, rows-sorted, rows-in}
 use Rattle.rules.specs.declared.Due.{Due}
 use Rattle.rules.specs.declared.Due.the-variants.{Mesh, Layer, Node, Line, Coordinates, Area, Loop}
@@ -167,9 +167,6 @@ three-sorted file = rows-sorted fourth (λ k. totalChecks (dueOf (stateAt file k
 pub three-of : (file : List ℕ) → Of fourth (stageThree file)
 unfolding stageThree
 three-of file a i = rows-in fourth (λ k. totalChecks (dueOf (stateAt file k)) file k) (recordsOf file) a i .0
-
-abbrev pub above9 : ℕ → Bool
-above9 n = leb 10 n
 
 -- every one has a number above 9
 total-numbered : (d : Due) (file : List ℕ) (k : ℕ) → numbered above9 (totalChecks d file k) ≡ true

@@ -9,7 +9,6 @@ ghost use mathlib.Core.Path.{_≡_};
 ghost use mathlib.Core.List.{[], _∷_};
 ghost use Prim.Native.Nat.{_+_, _≤_, _<_};
 ghost use lib.Dec.{eqb};
-ghost use Rattle.records.specs.View.{recordOf};
 ghost use Rattle.verdict.specs.Rules.{check, firstBroken, block};
 ghost use Rattle.walk.specs.States.{stateAt};
 ghost use Rattle.totals.specs.Totals.{rankOf, noSums, oneMore, layerMore, loopMore, addedFor, sumsBehind, meshTotals, totalChecks, fourth, stageThree};

@@ -2,14 +2,21 @@
 use mathlib.Core.Bool.{Bool, true, false, cond, _&&_}
 use mathlib.Core.List.{List, [], _∷_, _++_}
 use mathlib.Core.Logic.{⊎-elim, inl, inr}
-use mathlib.Core.Path.{_≡_, refl, sym, ap, _∙_}
-use Prim.Native.Nat.{ℕ, zero, suc, _+_}
+use mathlib.Core.Path.{_≡_, refl, ap, _∙_}
+use Prim.Native.Nat.{ℕ, zero, suc}
 use native.Mathlib.Omega.{arith}
-use Rattle.verdict.specs.declared.Verdict.{Verdict}
-use Rattle.verdict.specs.declared.Verdict.the-variants.{Fine, Broken}
-use Rattle.verdict.specs.Rules.{Rule, brokenAt, firstBroken, Check, ruleOf, block, rows}
+use lib.Dec.{leb}
+use Rattle.verdict.specs.declared.Verdict.the-variants.{Broken}
+use Rattle.verdict.specs.Rules.{Rule, brokenAt, firstBroken, Check, block, rows}
 use Rattle.verdict.specs.Order.{In}
 use Rattle.verdict.proofs.Orders.{in-append, and-both}
+
+-- refusals 1 to 9, and those behind them
+abbrev pub upTo9 : ℕ → Bool
+upTo9 n = leb n 9
+
+abbrev pub above9 : ℕ → Bool
+above9 n = leb 10 n
 
 module _ (p : ℕ → Bool) where
   -- of a record's checks; it computes

@@ -13,7 +13,7 @@ use Rattle.rules.specs.declared.Due.{Due}
 use Rattle.rules.specs.declared.Due.the-variants.{Mesh, Layer, Node, Line, Coordinates, Area, Loop}
 use Rattle.walk.specs.declared.State.{State}
 use Rattle.walk.specs.declared.Counts.{Counts}
-use Rattle.walk.specs.States.{sizeIn, dueOf, nextFor, nextOf, stateAt, rowLength, layerWords, countedFor, countsAt}
+use Rattle.walk.specs.States.{dueOf, nextFor, nextOf, stateAt, rowLength, layerWords, countedFor, countsAt}
 use Rattle.walk.specs.Stages.{mayEnd}
 
 pick : {A : Type 0} (P : A → Type 0) (b : Bool) {x y : A} → (b ≡ true → P x) → (b ≡ false → P y) → P (cond b x y)

@@ -3,13 +3,13 @@ use mathlib.Core.Bool.{Bool, true}
 use mathlib.Core.List.{List, [], _∷_, _++_}
 use mathlib.Core.Logic.{⊎-elim}
 use mathlib.Core.Path.{_≡_, refl, sym, _∙_}
-use Prim.Native.Nat.{ℕ, _+_, _≤_}
+use Prim.Native.Nat.{ℕ, _+_}
 use native.Mathlib.Omega.{arith}
 use lib.Dec.{leb, lit≤, lit<}
 use lib.ListN.{length}
 use Rattle.verdict.specs.Rules.{Check, check, block, rows}
 use Rattle.verdict.specs.Order.{Sorted, rising}
-use Rattle.verdict.proofs.Numbers.{numbered, Numbered, block-numbered, append-numbered, rows-numbered}
+use Rattle.verdict.proofs.Numbers.{upTo9, numbered, Numbered, block-numbered, append-numbered, rows-numbered}
 use Rattle.verdict.proofs.Orders.{UpTo, Of, stage-sorted, stage-up, in-append, sorted-append, earlier-row, block-in, block-sorted, rows-in, rows-sorted}
 use Rattle.records.specs.View.{recordOf}
 use Rattle.rules.specs.declared.Due.{Due}
@@ -78,9 +78,6 @@ unfolding stageTwo
 two-of file = staged-of 2 (λ k. checksOf (dueOf (stateAt file k)) (recordOf file (k + 1))) (recordsOf file) (lastChecks (dueOf (stateAt file (recordsOf file))))
 
 -- ---- all rules up to refusal 9
-
-abbrev pub upTo9 : ℕ → Bool
-upTo9 n = leb n 9
 
 end-numbered : (t : List ℕ) → numbered upTo9 (endChecks t) ≡ true
 unfolding endChecks

@@ -1,6 +1,6 @@
 -- Stages 1 and 2 as the code judges them, record by record, and what a file that keeps them is. Assumes nothing.
 use mathlib.Core.Bool.{Bool, true, false, cond, _&&_}
-use mathlib.Core.List.{List, [], _∷_, _++_}
+use mathlib.Core.List.{List, [], _++_}
 use mathlib.Core.Path.{_≡_, refl, sym, _∙_, ap}
 use Prim.Native.Nat.{ℕ, _+_, _*_, _/_, _%_, _<_, _≤_}
 use native.Mathlib.Omega.{arith}
@@ -9,8 +9,9 @@ use lib.Dec.{leb, ltb, eqb, lit≤}
 use lib.ListN.{length, getD}
 use Rattle.verdict.specs.declared.Verdict.{Verdict}
 use Rattle.verdict.specs.declared.Verdict.the-variants.{Fine, Broken}
-use Rattle.verdict.specs.Rules.{Rule, check, block, rows, firstBroken}
+use Rattle.verdict.specs.Rules.{Rule, block, rows, firstBroken}
 use Rattle.verdict.proofs.Parts.{fine-broken, in-turn, both-fine, stands, goes-on, rows-stop, rows-done, check-none, check-kept, check-broken, check-fine}
+use Rattle.verdict.proofs.Orders.{and-both}
 use Rattle.records.specs.View.{recordOf}
 use Rattle.rules.specs.declared.Due.{Due}
 use Rattle.rules.specs.declared.Due.the-variants.{Mesh}
@@ -163,13 +164,6 @@ walked-fine file h =
     let g = verdict-by (firstBroken (stageOne file ++ stageTwo file)) (countsAt file (recordsOf file)) h in
     let b = both-fine (stageOne file) (stageTwo file) (g .0) in
     (b .0, b .1, g .1)
-
-and-both : (a b : Bool) → (a && b) ≡ true → (a ≡ true) × (b ≡ true)
-and-both true b h = (refl, h)
-and-both false b h =
-    let z : _≡_ {A = Bool} false true = h in
-    let z′ : _≡_ {A = ℕ} 0 1 = cc in
-    absurd (omega arith)
 
 -- whole records, at least one and no more than there may be
 pub record Whole (file : List ℕ) : Type 0 where

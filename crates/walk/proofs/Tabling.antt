@@ -1,17 +1,16 @@
 -- Refusal 9 behind stages 1 and 2, and the room that a table then has, as the code judges them. Assumes nothing.
-use mathlib.Core.List.{List, [], _∷_, _++_}
-use mathlib.Core.Path.{_≡_, refl, sym, _∙_, ap, subst}
+use mathlib.Core.List.{List, [], _++_}
+use mathlib.Core.Path.{_≡_, sym, _∙_, ap}
 use Prim.Native.Nat.{ℕ, _+_, _*_, _≤_, _<_}
 use native.Mathlib.Omega.{arith}
 use lib.Dec.{leb}
 use borrow.Author.Tests.{le-leb, lt-leb}
 use Rattle.verdict.specs.declared.Verdict.{Verdict}
 use Rattle.verdict.specs.declared.Verdict.the-variants.{Fine, Broken}
-use Rattle.verdict.specs.Rules.{firstBroken, check, block}
+use Rattle.verdict.specs.Rules.{firstBroken}
 use Rattle.verdict.proofs.Parts.{stands, goes-on, check-none, check-kept, check-broken}
 use Rattle.walk.specs.declared.Counts.{Counts}
 use Rattle.walk.specs.declared.Walked.{Walked}
-use Rattle.walk.specs.declared.Tabled.{Tabled}
 use Rattle.walk.specs.States.{rowLength, countsAt}
 use Rattle.walk.specs.Stages.{recordsOf, stageOne, stageTwo, walkedOf, third, wordsOf, roomRule, early}
 use Rattle.walk.specs.Table.{filled, tableOf, filledBy, tabledOf}

@@ -1,8 +1,10 @@
 -- `layers::area_of` meets its contract: a serial that names an area is 1 or more, and says which word of the table is meant. Assumes nothing.
 use native.Mathlib.Omega.{arith}
 use borrow.Author.Needs.{needs}
-use Rattle.layers.specs.Naming.{areaOf}
-use Rattle.layers.proofs.Answers.{asked, sized, counted}
+use Rattle.layers.specs.Naming.{names, areaOf}
+use Rattle.rules.specs.Permitted.{size}
+use Rattle.rules.proofs.Signs.{own-told, own-asked}
+use Rattle.layers.proofs.Answers.{counted}
 use Rattle.layers.proofs.area_of.Statement.{statement}
 use Rattle.layers.proofs.area_of.Tie as tie
 
@@ -28,11 +30,11 @@ unfolding areaOf
 returns c =
     let a = c .before .before in
     let f = a .before .before .before .fits .v in
-    rw (asked f _ (a .before .names .ensures) (a .if1 .taken), c .word-in .ensures, sized f (c .before .size .ensures))
+    rw (own-asked (names _) f (a .before .names .ensures) (a .if1 .taken), c .word-in .ensures, own-told size f (c .before .size .ensures))
 
 returns-2 : tie.Need-returns-2
 unfolding areaOf
-returns-2 c = rw (asked (c .before .before .before .fits .v) _ (c .before .names .ensures) (c .if1 .left))
+returns-2 c = rw (own-asked (names _) (c .before .before .before .fits .v) (c .before .names .ensures) (c .if1 .left))
 
 pub area-of-spec : {M : Type 1} → statement M
 area-of-spec =

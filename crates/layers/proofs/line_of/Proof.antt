@@ -1,8 +1,10 @@
 -- `layers::line_of` meets its contract: a serial that names a line is 1 or more, and says which word of the table is meant. Assumes nothing.
 use native.Mathlib.Omega.{arith}
 use borrow.Author.Needs.{needs}
-use Rattle.layers.specs.Naming.{lineOf}
-use Rattle.layers.proofs.Answers.{line-asked, sized, line-counted}
+use Rattle.layers.specs.Naming.{namesLine, lineOf}
+use Rattle.rules.specs.Permitted.{size}
+use Rattle.rules.proofs.Signs.{own-told, own-asked}
+use Rattle.layers.proofs.Answers.{line-counted}
 use Rattle.layers.proofs.line_of.Statement.{statement}
 use Rattle.layers.proofs.line_of.Tie as tie
 
@@ -28,11 +30,11 @@ unfolding lineOf
 returns c =
     let a = c .before .before in
     let f = a .before .before .before .fits .v in
-    rw (line-asked f _ (a .before .names-line .ensures) (a .if1 .taken), c .word-in .ensures, sized f (c .before .size .ensures))
+    rw (own-asked (namesLine _) f (a .before .names-line .ensures) (a .if1 .taken), c .word-in .ensures, own-told size f (c .before .size .ensures))
 
 returns-2 : tie.Need-returns-2
 unfolding lineOf
-returns-2 c = rw (line-asked (c .before .before .before .fits .v) _ (c .before .names-line .ensures) (c .if1 .left))
+returns-2 c = rw (own-asked (namesLine _) (c .before .before .before .fits .v) (c .before .names-line .ensures) (c .if1 .left))
 
 pub line-of-spec : {M : Type 1} → statement M
 line-of-spec =

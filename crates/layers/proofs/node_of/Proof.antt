@@ -1,8 +1,10 @@
 -- `layers::node_of` meets its contract: a serial that names a node is no more than the layer's nodes, and so the sum fits. Assumes nothing.
 use native.Mathlib.Omega.{arith}
 use borrow.Author.Needs.{needs}
-use Rattle.layers.specs.Naming.{nodeOf}
-use Rattle.layers.proofs.Answers.{asked, sized, counted}
+use Rattle.layers.specs.Naming.{names, nodeOf}
+use Rattle.rules.specs.Permitted.{size}
+use Rattle.rules.proofs.Signs.{own-told, own-asked}
+use Rattle.layers.proofs.Answers.{counted}
 use Rattle.layers.proofs.node_of.Statement.{statement}
 use Rattle.layers.proofs.node_of.Tie as tie
 
@@ -25,11 +27,11 @@ unfolding nodeOf
 returns c =
     let a = c .before .before in
     let f = a .before .before .fits .v in
-    rw (asked f _ (a .before .names .ensures) (a .if1 .taken), sized f (c .size .ensures))
+    rw (own-asked (names _) f (a .before .names .ensures) (a .if1 .taken), own-told size f (c .size .ensures))
 
 returns-2 : tie.Need-returns-2
 unfolding nodeOf
-returns-2 c = rw (asked (c .before .before .fits .v) _ (c .before .names .ensures) (c .if1 .left))
+returns-2 c = rw (own-asked (names _) (c .before .before .fits .v) (c .before .names .ensures) (c .if1 .left))
 
 pub node-of-spec : {M : Type 1} → statement M
 node-of-spec =

@@ -4,7 +4,7 @@ use Rattle.rules.specs.Permitted.{natural}
 use Rattle.rules.proofs.Signs.{passed-on}
 use Rattle.layers.specs.Naming.{lineOf}
 use Rattle.links.specs.Links.{endNode}
-use Rattle.links.proofs.Numbers.{own-told, own-asked}
+use Rattle.rules.proofs.Signs.{own-told, own-asked}
 use Rattle.links.proofs.end_node.Statement.{statement}
 use Rattle.links.proofs.end_node.Tie as tie
 

@@ -4,7 +4,8 @@ use borrow.Author.Needs.{needs}
 use Rattle.rules.specs.Permitted.{size}
 use Rattle.layers.specs.Naming.{names, namesLine}
 use Rattle.links.specs.Links.{endNode, meets}
-use Rattle.links.proofs.Numbers.{told, asked, own-told, own-asked}
+use Rattle.rules.proofs.Signs.{own-told, own-asked}
+use Rattle.links.proofs.Numbers.{told, asked}
 use Rattle.links.proofs.meets.Statement.{statement}
 use Rattle.links.proofs.meets.Tie as tie
 
