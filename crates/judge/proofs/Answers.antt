@@ -16,7 +16,8 @@ use Rattle.totals.proofs.Summing.{three-sorted, three-of}
 use Rattle.layers.specs.declared.Bases.{Bases}
 use Rattle.links.specs.Links.{fifth, stageFour}
 use Rattle.links.proofs.InOrder.{four-sorted, four-of}
-use Rattle.judge.specs.Rulebook.{basesOf, late, rulesOf, verdictOf}
+use Rattle.layers.specs.Passing.{basesOf}
+use Rattle.judge.specs.Rulebook.{late, rulesOf, verdictOf}
 
 pub rules-sorted : (file : List ℕ) (room : ℕ) → Sorted (rulesOf file room)
 unfolding rulesOf late

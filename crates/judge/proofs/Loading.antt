@@ -30,7 +30,8 @@ use Rattle.judge.specs.declared.Outcome.{Outcome}
 use Rattle.layers.specs.declared.Bases.{Bases}
 use Rattle.links.specs.Links.{stageFour}
 use Rattle.links.proofs.InOrder.{four-numbered}
-use Rattle.judge.specs.Rulebook.{basesOf, late, rulesOf, verdictOf}
+use Rattle.layers.specs.Passing.{basesOf}
+use Rattle.judge.specs.Rulebook.{late, rulesOf, verdictOf}
 use Rattle.judge.specs.Outcomes.{outcomeBy, outcomeOf, tableBy, tableAfter}
 
 -- the need is told with 9, and with nothing else

@@ -22,8 +22,9 @@ use Rattle.walk.specs.Stages.{recordsOf, endChecks, lengthChecks, stageOne, las
 use Rattle.walk.specs.Table.{gather, tableOf}
 use Rattle.totals.specs.Totals.{sumsFrom, sumsBehind, meshTotals, layerTotals, areaTotals, stageThree}
 use Rattle.layers.specs.Naming.{wordsBefore, layerIn, names, namesLine, nodeOf, lineOf as lineNamed, areaOf}
-use Rattle.links.specs.Links.{equal, entryIs, some, nodeEntry, endNode, meets, repeatsNode, nodeSlot, nodeChecks, listed, linkFits, lineEndChecks, sideChecks, lineChecks, atNode, firstPointChecks, lastPointChecks, pointChecks, loopEntry, entryChecks, layerAt, stageFour}
-use Rattle.judge.specs.Rulebook.{basesOf, late, rulesOf, verdictOf}
+use Rattle.links.specs.Links.{equal, entryIs, some, nodeEntry, endNode, meets, repeatsNode, nodeSlot, nodeChecks, listed, linkFits, lineEndChecks, sideChecks, lineChecks, atNode, firstPointChecks, lastPointChecks, pointChecks, loopEntry, entryChecks, stageFour}
+use Rattle.layers.specs.Passing.{basesOf, layerAt}
+use Rattle.judge.specs.Rulebook.{late, rulesOf, verdictOf}
 use Rattle.judge.specs.Outcomes.{outcomeOf, tableAfter}
 use Rattle.judge.specs.Sheets.{written, mRecord, hRecord, nRecord, lRecord, points, aRecord, loopRecord, sheetS, changed, withMesh, cases, twoMeshes}
 

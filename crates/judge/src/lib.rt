@@ -14,7 +14,8 @@ ghost use Rattle.verdict.specs.Rules.{firstBroken};
 ghost use Rattle.walk.specs.States.{countsAt};
 ghost use Rattle.walk.specs.Stages.{recordsOf, needOf};
 ghost use Rattle.walk.specs.Table.{tableOf};
-ghost use Rattle.judge.specs.Rulebook.{basesOf, late};
+ghost use Rattle.layers.specs.Passing.{basesOf};
+ghost use Rattle.judge.specs.Rulebook.{late};
 ghost use Rattle.judge.specs.Outcomes.{outcomeBy, outcomeOf, tableAfter};
 
 // What is answered: a refusal's number and place, or 0 at 0, 0; and the words that the file needs where

@@ -1,11 +1,14 @@
 // What a number names (document 01, "a number names only a record of its own layer"): the layers of a
 // table, and the records of their nodes, lines and areas. Every public function takes every input.
 //
-// The contracts cite `specs/Naming.antt`.
+// The contracts cite `specs/`: `Naming` says what a number names, `Passing` the layer of a record.
+use rules::Due;
 ghost use mathlib.Core.Path.{_≡_};
+ghost use mathlib.Core.Bool.{cond};
 ghost use Prim.Native.Nat.{_+_, _-_, _*_, _≤_, _<_};
 ghost use lib.ListN.{getD};
 ghost use Rattle.layers.specs.Naming.{rowWord, wordsBefore, layerIn, names, namesLine, nodeOf, lineOf, areaOf};
+ghost use Rattle.layers.specs.Passing.{isLayer};
 
 // Where the lines and the areas of all layers begin in the table.
 pub struct Bases {
@@ -137,4 +140,49 @@ pub fn line_word(table: &[u32], l: Layer, i: usize) -> usize
     ensures { λ r. ⌜ r ≡ getD (now (table .entry)) (l .line + i) 0 ⌝ }
 {
     word_in(table, l.line, i) as usize
+}
+
+// The A record of area `i` of a layer, counted from 0; 0 where the table has none.
+pub fn area_word(table: &[u32], l: Layer, i: usize) -> usize
+    ensures { λ r. ⌜ (r ≡ getD (now (table .entry)) (l .area + i) 0) × (r ≤ 4294967295) ⌝ }
+{
+    word_in(table, l.area, i) as usize
+}
+
+// ---- from record to record
+
+// The layer behind a record that was due as `d`: another one behind an H. `rows` H records came.
+pub fn layer_behind(d: Due, table: &[u32], b: Bases, rows: usize, l: Layer) -> Layer
+    ensures { λ x. ⌜ x ≡ cond (isLayer d) (layerIn (now (table .entry)) b (rows - 1)) l ⌝ }
+{
+    match d {
+        Due::Mesh(_) => l,
+        Due::Layer(_) => {
+            let mut i: usize = 0;
+            if 0 < rows {
+                i = rows - 1;
+            }
+            layer_in(table, b, i)
+        }
+        Due::Node(_, _) => l,
+        Due::Line(_, _) => l,
+        Due::Coordinates(_) => l,
+        Due::Area(_, _) => l,
+        Due::Loop(_, _, _) => l,
+    }
+}
+
+// 1 for an H.
+pub fn rows_of(d: Due) -> usize
+    ensures { λ x. ⌜ x ≡ cond (isLayer d) 1 0 ⌝ }
+{
+    match d {
+        Due::Mesh(_) => 0,
+        Due::Layer(_) => 1,
+        Due::Node(_, _) => 0,
+        Due::Line(_, _) => 0,
+        Due::Coordinates(_) => 0,
+        Due::Area(_, _) => 0,
+        Due::Loop(_, _, _) => 0,
+    }
 }

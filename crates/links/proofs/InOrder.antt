@@ -18,7 +18,8 @@ use Rattle.walk.specs.States.{dueOf, stateAt}
 use Rattle.walk.specs.Stages.{recordsOf}
 use Rattle.layers.specs.declared.Bases.{Bases}
 use Rattle.layers.specs.declared.Layer.{Layer}
-use Rattle.links.specs.Links.{nodeSlot, nodeChecks, lineEndChecks, sideChecks, lineChecks, atNode, firstPointChecks, lastPointChecks, pointChecks, entryChecks, linkChecks, layerAt, fifth, stageFour}
+use Rattle.layers.specs.Passing.{layerAt}
+use Rattle.links.specs.Links.{nodeSlot, nodeChecks, lineEndChecks, sideChecks, lineChecks, atNode, firstPointChecks, lastPointChecks, pointChecks, entryChecks, linkChecks, fifth, stageFour}
 use Rattle.links.proofs.StageLaws.{linksOf}
 
 -- ---- a record's checks

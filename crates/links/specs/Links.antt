@@ -18,11 +18,12 @@ use Rattle.verdict.specs.Rules.{Rule, Check, check, block, rows, spread}
 use Rattle.rules.specs.Permitted.{natural, size, same}
 use Rattle.rules.specs.declared.Due.{Due}
 use Rattle.rules.specs.declared.Due.the-variants.{Mesh, Layer, Node, Line, Coordinates, Area, Loop}
-use Rattle.walk.specs.States.{dueOf, stateAt, countsAt}
+use Rattle.walk.specs.States.{dueOf, stateAt}
 use Rattle.walk.specs.Stages.{recordsOf}
 use Rattle.layers.specs.declared.Bases.{Bases}
 use Rattle.layers.specs.declared.Layer as layers
-use Rattle.layers.specs.Naming.{layerIn, names, namesLine, nodeOf, lineOf, areaOf}
+use Rattle.layers.specs.Naming.{names, namesLine, nodeOf, lineOf, areaOf}
+use Rattle.layers.specs.Passing.{layerAt}
 
 -- ---- numbers
 
@@ -152,19 +153,6 @@ linkChecks (Line layer last) file t l line r = lineChecks file t l r
 linkChecks (Coordinates left) file t l line r = pointChecks file l (getD t (l .line + (line - 1)) 0) r left
 linkChecks (Area layer last) file t l line r = []
 linkChecks (Loop last count left) file t l line r = entryChecks file l r
-
-abbrev pub isLayer : Due → Bool
-isLayer (Mesh last) = false
-isLayer (Layer last) = true
-isLayer (Node layer last) = false
-isLayer (Line layer last) = false
-isLayer (Coordinates left) = false
-isLayer (Area layer last) = false
-isLayer (Loop last count left) = false
-
--- the layer of the record behind the first k
-unfoldable pub layerAt : List ℕ → List ℕ → Bases → ℕ → layers.Layer
-layerAt file t b k = layerIn t b (countsAt file k .layers - 1)
 
 -- stage 4 is judged fifth
 abbrev pub fifth : ℕ

@@ -12,27 +12,26 @@ ghost use Prim.Native.Nat.{_+_, _-_, _≤_, _<_};
 ghost use lib.ListN.{getD};
 ghost use Rattle.verdict.specs.declared.Verdict.the-variants.{Broken};
 ghost use Rattle.verdict.specs.Rules.{firstBroken, block};
-ghost use Rattle.links.specs.Links.{isZero, equal, entryIs, serialIn, nodeEntry, endNode, meets, nodeSlot, nodeChecks, listed, linkFits, lineEndChecks, sideChecks, lineChecks, atNode, firstPointChecks, lastPointChecks, pointChecks, loopEntry, entryChecks, linkChecks, isLayer, fifth, stageFour};
-ghost use Rattle.layers.specs.Naming.{layerIn};
+ghost use Rattle.links.specs.Links.{isZero, equal, entryIs, serialIn, nodeEntry, endNode, meets, nodeSlot, nodeChecks, listed, linkFits, lineEndChecks, sideChecks, lineChecks, atNode, firstPointChecks, lastPointChecks, pointChecks, loopEntry, entryChecks, linkChecks, fifth, stageFour};
 ghost use Rattle.links.specs.Scanning.{clean, FirstRepeat};
 
 // ---- numbers
 
-fn is_zero(v: i32) -> bool
+pub fn is_zero(v: i32) -> bool
     ensures { λ r. ⌜ r ≡ isZero v ⌝ }
 {
     rules::size(v) == 0
 }
 
 // The same sign and size.
-fn equal(a: i32, b: i32) -> bool
+pub fn equal(a: i32, b: i32) -> bool
     ensures { λ r. ⌜ r ≡ equal a b ⌝ }
 {
     rules::same(rules::natural(a), rules::natural(b)) & (rules::size(a) == rules::size(b))
 }
 
 // The entry +n or, backwards, -n.
-fn entry_is(back: bool, n: usize, v: i32) -> bool
+pub fn entry_is(back: bool, n: usize, v: i32) -> bool
     ensures { λ r. ⌜ r ≡ entryIs back n v ⌝ }
 {
     (rules::size(v) == n) & rules::same(back, !rules::natural(v))
@@ -68,7 +67,7 @@ fn node_entry(file: &[u8], r: usize, i: usize) -> i32
 }
 
 // The node where a line starts or, backwards, ends.
-fn end_node(file: &[u8], table: &[u32], l: Layer, v: i32) -> i32
+pub fn end_node(file: &[u8], table: &[u32], l: Layer, v: i32) -> i32
     ensures { λ x. ⌜ x ≡ endNode (now (file .entry)) (now (table .entry)) l v ⌝ }
 {
     let r = layers::line_of(table, l, v);
@@ -405,42 +404,6 @@ fn judge_record(d: Due, file: &[u8], table: &[u32], l: Layer, line: usize, r: us
     }
 }
 
-// The layer behind a record that was due as `d`: another one behind an H. `rows` H records came.
-fn layer_behind(d: Due, table: &[u32], b: Bases, rows: usize, l: Layer) -> Layer
-    ensures { λ x. ⌜ x ≡ cond (isLayer d) (layerIn (now (table .entry)) b (rows - 1)) l ⌝ }
-{
-    match d {
-        Due::Mesh(_) => l,
-        Due::Layer(_) => {
-            let mut i: usize = 0;
-            if 0 < rows {
-                i = rows - 1;
-            }
-            layers::layer_in(table, b, i)
-        }
-        Due::Node(_, _) => l,
-        Due::Line(_, _) => l,
-        Due::Coordinates(_) => l,
-        Due::Area(_, _) => l,
-        Due::Loop(_, _, _) => l,
-    }
-}
-
-// 1 for an H.
-fn rows_of(d: Due) -> usize
-    ensures { λ x. ⌜ x ≡ cond (isLayer d) 1 0 ⌝ }
-{
-    match d {
-        Due::Mesh(_) => 0,
-        Due::Layer(_) => 1,
-        Due::Node(_, _) => 0,
-        Due::Line(_, _) => 0,
-        Due::Coordinates(_) => 0,
-        Due::Area(_, _) => 0,
-        Due::Loop(_, _, _) => 0,
-    }
-}
-
 // Stage 4: every record by what it names.
 pub fn stage_four(file: &[u8], table: &[u32], b: Bases) -> Verdict
     ensures { λ r. ⌜ r ≡ firstBroken (stageFour (now (file .entry)) (now (table .entry)) b) ⌝ }
@@ -460,8 +423,8 @@ pub fn stage_four(file: &[u8], table: &[u32], b: Bases) -> Verdict
         } = v {
             return v;
         }
-        rows += rows_of(d);
-        l = layer_behind(d, table, b, rows, l);
+        rows += layers::rows_of(d);
+        l = layers::layer_behind(d, table, b, rows, l);
         s = walk::next(s, records::record_view(file, k + 1));
         k += 1;
     }

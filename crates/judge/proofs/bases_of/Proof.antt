@@ -1,6 +1,6 @@
 -- `judge::bases_of` meets its contract: the rows stand first, then the lines. Assumes nothing.
 use mathlib.Core.Path.{refl}
-use Rattle.judge.specs.Rulebook.{basesOf}
+use Rattle.layers.specs.Passing.{basesOf}
 use borrow.Author.Needs.{needs}
 use Rattle.judge.proofs.bases_of.Statement.{statement}
 use Rattle.judge.proofs.bases_of.Tie as tie

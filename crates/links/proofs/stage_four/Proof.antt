@@ -5,8 +5,9 @@ use native.Mathlib.Omega.{arith}
 use Rattle.verdict.proofs.Parts.{rows-none, rows-pass}
 use Rattle.walk.specs.States.{stateAt, countsAt}
 use Rattle.walk.proofs.Walking.{at-none, next-state}
-use Rattle.links.specs.Links.{layerAt}
-use Rattle.links.proofs.StageLaws.{Kept, rule-is, rows-start, rows-more, rows-small, layer-start, layer-next, four-stops, four-done}
+use Rattle.layers.specs.Passing.{layerAt}
+use Rattle.layers.proofs.Passing.{rows-start, rows-more, rows-small, layer-start, layer-next}
+use Rattle.links.proofs.StageLaws.{Kept, rule-is, four-stops, four-done}
 use borrow.Author.Needs.{needs}
 use Rattle.links.proofs.stage_four.Statement.{statement}
 use Rattle.links.proofs.stage_four.Tie as tie

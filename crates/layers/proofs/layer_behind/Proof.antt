@@ -1,12 +1,12 @@
--- `links::layer_behind` meets its contract: only an H changes the layer. Assumes nothing.
+-- `layers::layer_behind` meets its contract: only an H changes the layer. Assumes nothing.
 use mathlib.Core.Logic.{⊎-elim}
 use mathlib.Core.Path.{_≡_}
 use Prim.Native.Nat.{_-_}
 use native.Mathlib.Omega.{arith}
-use Rattle.links.proofs.StageLaws.{layer-is}
+use Rattle.layers.proofs.Passing.{layer-is}
 use borrow.Author.Needs.{needs}
-use Rattle.links.proofs.layer_behind.Statement.{statement}
-use Rattle.links.proofs.layer_behind.Tie as tie
+use Rattle.layers.proofs.layer_behind.Statement.{statement}
+use Rattle.layers.proofs.layer_behind.Tie as tie
 
 -- one back, or 0
 back : (c : tie.Joined1) → c .if1 .i ≡ c .before .before .before .before .args .rows - 1

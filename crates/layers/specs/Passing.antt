@@ -1,0 +1,31 @@
+-- The layer of a record (document 01, "a number names only a record of its own layer"): each H begins another one. Assumes nothing.
+--   isLayer d           an H is due
+--   basesOf c           where the lines and the areas begin in the table of a file with the counts c
+--   layerAt file t b k  the layer of the record behind the first k
+use mathlib.Core.Bool.{Bool, true, false}
+use mathlib.Core.List.{List}
+use Prim.Native.Nat.{ℕ, _+_, _*_, _-_}
+use Rattle.rules.specs.declared.Due.{Due}
+use Rattle.rules.specs.declared.Due.the-variants.{Mesh, Layer, Node, Line, Coordinates, Area, Loop}
+use Rattle.walk.specs.declared.Counts.{Counts}
+use Rattle.walk.specs.States.{rowLength, countsAt}
+use Rattle.layers.specs.declared.Bases.{Bases}
+use Rattle.layers.specs.declared.Layer as layers
+use Rattle.layers.specs.Naming.{layerIn}
+
+abbrev pub isLayer : Due → Bool
+isLayer (Mesh last) = false
+isLayer (Layer last) = true
+isLayer (Node layer last) = false
+isLayer (Line layer last) = false
+isLayer (Coordinates left) = false
+isLayer (Area layer last) = false
+isLayer (Loop last count left) = false
+
+-- "one row a layer in file order ..; after all rows every line's L record; then every area's A record"
+unfoldable pub basesOf : Counts → Bases
+basesOf c = record { lines = rowLength * c .layers; areas = rowLength * c .layers + c .lines }
+
+-- the layer of the record behind the first k
+unfoldable pub layerAt : List ℕ → List ℕ → Bases → ℕ → layers.Layer
+layerAt file t b k = layerIn t b (countsAt file k .layers - 1)
