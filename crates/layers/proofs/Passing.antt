@@ -34,7 +34,7 @@ pub rows-start : (file : List ℕ) → 0 ≡ countsAt file 0 .layers
 unfolding countsAt
 rows-start file = refl
 
-counts-step : (file : List ℕ) (k : ℕ) → countsAt file (k + 1) .layers ≡ countsAt file k .layers + cond (isLayer (dueOf (stateAt file k))) 1 0
+pub counts-step : (file : List ℕ) (k : ℕ) → countsAt file (k + 1) .layers ≡ countsAt file k .layers + cond (isLayer (dueOf (stateAt file k))) 1 0
 unfolding countsAt
 counts-step file k = rw add-one (counted-layers (dueOf (stateAt file k)) (countsAt file k) (recordOf file (suc k)))
 

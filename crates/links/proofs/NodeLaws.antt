@@ -50,11 +50,11 @@ earlier-less true i e = omega arith
 earlier-less false i e = omega arith
 
 -- by whether the slot is 0, b; f says which earlier slots are like it
-none-before : (b : Bool) (i j : ℕ) (f : ℕ → Bool) → j ≡ cond b 0 i → some j f ≡ false → b || not (some i f) ≡ true
+pub none-before : (b : Bool) (i j : ℕ) (f : ℕ → Bool) → j ≡ cond b 0 i → some j f ≡ false → b || not (some i f) ≡ true
 none-before true i j f q h = refl
 none-before false i j f q h = rw (← q, h)
 
-one-before : (b : Bool) (i j : ℕ) (f : ℕ → Bool) → j < cond b 0 i → f j ≡ true → b || not (some i f) ≡ false
+pub one-before : (b : Bool) (i j : ℕ) (f : ℕ → Bool) → j < cond b 0 i → f j ≡ true → b || not (some i f) ≡ false
 one-before true i j f l e = absurd (not-suc-le-zero l)
 one-before false i j f l e = rw (some-hit i j f l e)
 

@@ -113,7 +113,8 @@ unfolding countsAt stateAt nextOf
 opened file zero = record { lines = omega arith; areas = omega arith; words = refl }
 opened file (suc k) = open-next (countsAt file k) (stateAt file k) (recordOf file (suc k)) (opened file k)
 
-idle-end : (s : State) → mayEnd (dueOf s) ≡ true → Idle s
+-- where the file may end, none is left
+pub idle-end : (s : State) → mayEnd (dueOf s) ≡ true → Idle s
 idle-end s =
     by-due (λ d. mayEnd d ≡ true → Idle s) s
     (λ _ e. no e)

@@ -21,10 +21,10 @@ use Rattle.walk.proofs.Stores.{sets-left, sets-right, more-filled, fill
 -- ---- how many words each section has
 
 -- a section has as many words as were counted
-record Counted (file : List ℕ) (k : ℕ) : Type 0 where
-  rows : length (gather rowWords file k) ≡ rowLength * countsAt file k .layers
-  lines : length (gather lineWords file k) ≡ countsAt file k .lines
-  areas : length (gather areaWords file k) ≡ countsAt file k .areas
+pub record Counted (file : List ℕ) (k : ℕ) : Type 0 where
+  pub rows : length (gather rowWords file k) ≡ rowLength * countsAt file k .layers
+  pub lines : length (gather lineWords file k) ≡ countsAt file k .lines
+  pub areas : length (gather areaWords file k) ≡ countsAt file k .areas
 
 row-one : (d : Due) (t : List ℕ) (r : ℕ) (c : Counts) → rowLength * c .layers + length (rowWords d t r) ≡ rowLength * countedFor d c t .layers
 row-one (Mesh last) t r c = omega arith
@@ -53,7 +53,7 @@ area-one (Coordinates left) t r c = omega arith
 area-one (Area layer last) t r c = omega arith
 area-one (Loop last count left) t r c = omega arith
 
-counted : (file : List ℕ) (k : ℕ) → Counted file k
+pub counted : (file : List ℕ) (k : ℕ) → Counted file k
 unfolding gather countsAt
 counted file zero = record { rows = refl; lines = refl; areas = refl }
 counted file (suc k) =

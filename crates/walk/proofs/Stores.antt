@@ -35,10 +35,10 @@ sets-right (w ∷ ws) xs ys i =
     ∙ rw (← add-suc (length xs) i) (sets-right ws xs (set ys i w) (suc i))
 
 -- some words more behind those that stand in front
-pub more-filled : (xs ws d : List ℕ) → length xs + length ws ≤ length d → sets (filled xs d) (length xs) ws ≡ filled (xs ++ ws) d
+pub more-filled : {A : Type 0} (xs ws d : List A) → length xs + length ws ≤ length d → sets (filled xs d) (length xs) ws ≡ filled (xs ++ ws) d
 more-filled xs ws d l =
     sets-eq ws (xs ++ drop (length xs) d) (length xs) (rw (length-append, length-drop) (omega arith))
     ∙ rw (take-append-seam, drop-append-add, drop-drop, length-append, append-assoc)
 
-pub filled-length : (xs d : List ℕ) → length xs ≤ length d → length (filled xs d) ≡ length d
+pub filled-length : {A : Type 0} (xs d : List A) → length xs ≤ length d → length (filled xs d) ≡ length d
 filled-length xs d l = rw (length-append, length-drop) (omega arith)

@@ -3,7 +3,7 @@
 --   rowWords d t r   the words of the row that the record t gives, due as d, with the number r: none but for an H
 --   gather g file k  the words that g takes from the first k records, in file order
 --   tableOf file     the file's table
---   filled ws d      the words ws in front, and what stood in d behind them
+--   filled ws d      ws in front, and what stood in d behind it
 --   tabledOf, filledBy   what is answered up to refusal 9, and what the lent table holds then
 use mathlib.Core.List.{List, [], _∷_, _++_}
 use Prim.Native.Nat.{ℕ, zero, suc}
@@ -58,7 +58,7 @@ tableOf file =
     ++ (gather lineWords file (recordsOf file)
     ++ gather areaWords file (recordsOf file))
 
-abbrev pub filled : List ℕ → List ℕ → List ℕ
+abbrev pub filled : {A : Type 0} → List A → List A → List A
 filled ws d = ws ++ drop (length ws) d
 
 -- what a call leaves in the table whose rules up to refusal 9 gave a verdict: untouched, or the table in front
