@@ -1,0 +1,78 @@
+-- Loop records and their counts: a number of width 4 is at most 9999, and every number of a record that the file has not is 0.
+-- Assumes nothing.
+use mathlib.Core.Bool.{true}
+use mathlib.Core.List.{List, []}
+use mathlib.Core.Path.{_≡_, refl}
+use Prim.Native.Nat.{ℕ, _+_, _-_, _/_, _^_, _≤_, _<_}
+use native.Mathlib.Omega.{arith}
+use lib.Dec.{leb, lit≤, lit<}
+use lib.IntN.{ℤ, pos, negsuc}
+use lib.ListN.{length}
+use lib.Signed.{mag}
+use mir.Syntax.{w32}
+use mir.Val.{toZ, ofZ, hbits}
+use borrow.Author.Tests.{le-leb, lt-leb}
+use Rattle.fields.specs.Answer.{valueOf}
+use Rattle.fields.specs.Number.{numberAt, holds}
+use Rattle.fields.specs.Place.{isInside}
+use Rattle.fields.specs.declared.Number as numbers
+use Rattle.fields.specs.declared.Number.the-variants as number
+use Rattle.fields.proofs.FieldLaws.{number-in-range}
+use Rattle.fields.proofs.Range.{holds-size, holds-minus}
+use Rattle.records.specs.View.{recordOf, numberIn}
+use Rattle.rules.specs.Permitted.{size}
+use Rattle.rules.proofs.Matches.{and-false}
+use Rattle.links.specs.Links.{loopEntry}
+use Rattle.links.proofs.Numbers.{told}
+use Rattle.entries.specs.Entries.{slotOf, recordsFor, countAt, loopsAt, recordsTo, slotsOf}
+
+-- ---- a number of width 4
+
+four-holds : (v : ℤ) → holds 4 v ≡ true → size v ≤ 9999
+four-holds (pos n) h = omega (arith, holds-size 4 n h)
+four-holds (negsuc n) h = omega (arith, holds-minus 4 n h)
+
+four-by : (s : List ℕ) (c : ℕ) (r : numbers.Number) → numberAt s c 4 ≡ r → size (valueOf r) ≤ 9999
+four-by s c (number.Value v) e = four-holds v (number-in-range s c 4 v e)
+four-by s c number.Refused e = lit≤ tt
+
+-- it has at most four digits, whatever stands there
+pub four-digits : (file : List ℕ) (k c : ℕ) → size (numberIn file k c 4) ≤ 9999
+unfolding numberIn
+four-digits file k c = four-by (recordOf file k) c (numberAt (recordOf file k) c 4) refl
+
+-- the answer r of `size` about the number z that stands there
+pub four-told : (file : List ℕ) (k c : ℕ) {z : ℤ} {r : ℕ} → mag z < 2 ^ hbits w32 → z ≡ numberIn file k c 4 → r ≡ size (toZ w32 (ofZ w32 z))
+    → (r ≡ size (numberIn file k c 4)) × (r ≤ 9999)
+four-told file k c f e h =
+    let t = told size f e h in
+    (t, rw t (four-digits file k c))
+
+-- ---- a record that the file has not
+
+pub no-number : (c w : ℕ) → 0 < w → numberAt [] c w ≡ number.Refused
+unfolding numberAt isInside
+no-number c w h = rw (lt-leb (c - 1 + w) 0 (omega arith), and-false (leb 1 c))
+
+pub number-none : (file : List ℕ) (k c w : ℕ) → length file / 74 < k → 0 < w → numberIn file k c w ≡ pos 0
+unfolding numberIn recordOf
+number-none file k c w h p = rw (le-leb 1 k (omega arith), lt-leb k (length file / 74) h, no-number c w p)
+
+pub slot-none : (file : List ℕ) (f e : ℕ) → length file / 74 < f → slotOf file f e ≡ pos 0
+unfolding slotOf loopEntry
+slot-none file f e h = number-none file (f + e / 12) _ 5 (omega arith) (lit< tt)
+
+pub slots-none : (file : List ℕ) (a : ℕ) → length file / 74 < a → slotsOf file a ≡ 0
+unfolding slotsOf loopsAt recordsTo
+slots-none file a h = rw (number-none file a 25 4 h (lit< tt))
+
+-- ---- records
+
+-- a loop of at most 9999 lines has at most 834 records
+pub records-few : (n : ℕ) → n ≤ 9999 → recordsFor n ≤ 834
+unfolding recordsFor
+records-few n h = omega arith
+
+-- the answer r of `records_for` about the count n of the loop whose first record is f
+pub records-told : (file : List ℕ) (f : ℕ) {n r : ℕ} → (n ≡ countAt file f) × (n ≤ 9999) → r ≡ recordsFor n → (r ≡ recordsFor (countAt file f)) × (r ≤ 834)
+records-told file f {n} c e = (rw (← c .0) e, rw e (records-few n (c .1)))

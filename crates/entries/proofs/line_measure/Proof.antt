@@ -1,0 +1,75 @@
+-- `entries::line_measure` meets its contract: a kept measure that is the line's is small, a line that is walked has its own, and what
+-- names no line has 0. Assumes nothing.
+use denote.Ref.{now}
+use mathlib.Core.Path.{sym, ap}
+use Prim.Native.Nat.{_-_}
+use native.Mathlib.Omega.{arith}
+use borrow.Author.Tests.{not-true, not-false}
+use borrow.Author.Needs.{needs}
+use Rattle.rules.specs.Permitted.{size}
+use Rattle.rules.proofs.Signs.{own-told, own-asked}
+use Rattle.layers.specs.Naming.{namesLine, lineOf}
+use Rattle.layers.proofs.Answers.{line-counted}
+use Rattle.entries.proofs.Summing.{measure-unnamed, kept-told, walked-told}
+use Rattle.entries.proofs.line_measure.Statement.{statement}
+use Rattle.entries.proofs.line_measure.Tie as tie
+
+names-line-requires : tie.Need-names-line-requires
+names-line-requires c κs = search needs
+
+returns : tie.Need-returns
+returns c =
+    let a = c .before .before .before .before in
+    (record { small = omega arith }, λ k. sym (measure-unnamed (now (a .args .file)) (now (a .args .table)) (a .args .l) (a .args .v) (own-asked (namesLine _) (a .fits .v) (c .before .names-line .ensures) (not-true _ (c .if1 .taken)))))
+
+size-requires : tie.Need-size-requires
+size-requires c κs = search needs
+
+sub-i : tie.Need-sub-i
+sub-i c =
+    let a = c .before .before .before .before .before in
+    line-counted (a .fits .v) _ (c .before .before .names-line .ensures) (not-false _ (c .before .if1 .left)) (c .size .ensures) .0
+
+mul-possible : tie.Need-mul-possible
+mul-possible c = search needs
+
+shared-slice-copy-out-possible : tie.Need-shared-slice-copy-out-possible
+shared-slice-copy-out-possible c = search needs
+
+possible-requires : tie.Need-possible-requires
+possible-requires c κs = search needs
+
+returns-2 : tie.Need-returns-2
+returns-2 c =
+    let s = c .before .before .before in
+    let a = s .before .before .before .before .before in
+    let n = own-asked (namesLine _) (a .fits .v) (s .before .before .names-line .ensures) (not-false _ (s .before .if1 .left)) in
+    kept-told _ _ _ (now (a .args .kept)) (a .args .v) (s .size .result - 1) n (ap (λ n. n - 1) (own-told size (a .fits .v) (s .size .ensures))) (c .before .before .if2 .taken) (c .before .possible-arg .given) (c .possible .ensures)
+
+line-of-requires : tie.Need-line-of-requires
+line-of-requires c κs = search needs
+
+line-measure-requires : tie.Need-line-measure-requires
+line-measure-requires c κs = search needs
+
+returns-3 : tie.Need-returns-3
+returns-3 c =
+    let a = c .before .before .before .before .before .before .before .before in
+    let w = walked-told (now (a .args .file)) (now (a .args .table)) (a .args .l) (a .args .v) (own-told (lineOf _ _) (a .fits .v) (c .before .line-of .ensures)) (c .line-measure .ensures) in
+    (w .0, λ k. w .1)
+
+pub line-measure-spec : {M : Type 1} → statement M
+line-measure-spec =
+    tie.close
+    (tie.spec
+    names-line-requires
+    returns
+    size-requires
+    sub-i
+    mul-possible
+    shared-slice-copy-out-possible
+    possible-requires
+    returns-2
+    line-of-requires
+    line-measure-requires
+    returns-3)

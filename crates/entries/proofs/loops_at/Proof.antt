@@ -1,0 +1,20 @@
+-- `entries::loops_at` meets its contract: a number of width 4 is at most 9999. Assumes nothing.
+use denote.Ref.{now}
+use borrow.Author.Needs.{needs}
+use Rattle.entries.specs.Entries.{loopsAt}
+use Rattle.entries.proofs.Slots.{four-told}
+use Rattle.entries.proofs.loops_at.Statement.{statement}
+use Rattle.entries.proofs.loops_at.Tie as tie
+
+number-at-requires : tie.Need-number-at-requires
+number-at-requires c κs = search needs
+
+size-requires : tie.Need-size-requires
+size-requires c κs = search needs
+
+returns : tie.Need-returns
+unfolding loopsAt
+returns c = four-told (now (c .before .before .before .args .file)) (c .before .before .before .args .a) 25 (c .before .number-at .ok) (c .before .number-at .ensures) (c .size .ensures)
+
+pub loops-at-spec : {M : Type 1} → statement M
+loops-at-spec = tie.close (tie.spec number-at-requires size-requires returns)

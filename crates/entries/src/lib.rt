@@ -1,0 +1,142 @@
+// The entries of loops and areas, and the measures of loops (document 01, "Loop" and "Measures"). Every
+// public function takes every file, table and record number.
+//
+// The contracts cite `specs/`: `Entries` says which entries a loop and an area have, `Loops` what their
+// measures are.
+use layers::Layer;
+ghost use mathlib.Core.Path.{_≡_};
+ghost use Prim.Native.Nat.{_≤_};
+ghost use lib.ListN.{length, take};
+ghost use Rattle.rules.specs.Permitted.{size};
+ghost use Rattle.measures.specs.Walks.{Small};
+ghost use Rattle.entries.specs.Entries.{slotOf, recordsFor, countAt, loopsAt, slotsOf};
+ghost use Rattle.entries.specs.Loops.{measureOf, slotMeasure, loopMeasureIn};
+ghost use Rattle.entries.specs.Keeping.{Kept};
+
+// ---- slots
+
+// Slot `e` of the loop records from record `f` on.
+pub fn slot_of(file: &[u8], f: usize, e: usize) -> i32
+    ensures { λ r. ⌜ r ≡ slotOf (now (file .entry)) f e ⌝ }
+{
+    if file.len() / 74 < f {
+        return 0;
+    }
+    records::number_at(file, f + e / 12, 10 + 5 * (e % 12), 5)
+}
+
+// The records of a loop of `n` lines.
+fn records_for(n: usize) -> usize
+    ensures { λ r. ⌜ r ≡ recordsFor n ⌝ }
+{
+    if n == 0 {
+        return 1;
+    }
+    (n - 1) / 12 + 1
+}
+
+// The line count of the loop whose first record is `f`.
+pub fn count_at(file: &[u8], f: usize) -> usize
+    ensures { λ r. ⌜ (r ≡ countAt (now (file .entry)) f) × (r ≤ 9999) ⌝ }
+{
+    rules::size(records::number_at(file, f, 6, 4))
+}
+
+// The records of the loop whose first one is `f`.
+pub fn loop_records(file: &[u8], f: usize) -> usize
+    ensures { λ r. ⌜ (r ≡ recordsFor (countAt (now (file .entry)) f)) × (r ≤ 834) ⌝ }
+{
+    records_for(count_at(file, f))
+}
+
+// The loops of the A at record `a`.
+pub fn loops_at(file: &[u8], a: usize) -> usize
+    ensures { λ r. ⌜ (r ≡ loopsAt (now (file .entry)) a) × (r ≤ 9999) ⌝ }
+{
+    rules::size(records::number_at(file, a, 25, 4))
+}
+
+// The slots of the area whose A is record `a`.
+pub fn area_slots(file: &[u8], a: usize) -> usize
+    ensures { λ r. ⌜ (r ≡ slotsOf (now (file .entry)) a) × (r ≤ 100069992) ⌝ }
+{
+    if file.len() / 74 < a {
+        return 0;
+    }
+    let n = loops_at(file, a);
+    let mut records: usize = 0;
+    let mut i: usize = 0;
+    while i < n {
+        records += loop_records(file, a + 1 + records);
+        i += 1;
+    }
+    12 * records
+}
+
+// ---- measures
+
+// Measures the first lines of a layer, as many as there is room for, and says how many.
+pub fn keep_measures(file: &[u8], table: &[u32], l: Layer, kept: &mut [i64]) -> usize
+    ensures { λ r. ⌜ (r ≤ length (now (kept .exit))) × (length (now (kept .exit)) ≡ length (now (kept .entry))) × Kept (now (file .entry)) (now (table .entry)) l (take r (now (kept .exit))) ⌝ }
+{
+    let n = l.lines as usize;
+    let mut i: usize = 0;
+    while (i < n) & (i < kept.len()) {
+        kept[i] = measures::line_measure(file, layers::line_word(table, l, i));
+        i += 1;
+    }
+    i
+}
+
+// A kept measure. One that no line can have counts as 0, so that no sum can grow too large.
+fn possible(m: i64) -> i64
+    ensures { λ r. ⌜ (Small 200000000000000 r) × (Small 200000000000000 m → r ≡ m) ⌝ }
+{
+    if m < -200000000000000 {
+        return 0;
+    }
+    if 200000000000000 < m {
+        return 0;
+    }
+    m
+}
+
+// The measure of the line that the entry `v` names: kept, or walked; 0 where it names none.
+pub fn line_measure(file: &[u8], table: &[u32], l: Layer, kept: &[i64], v: i32) -> i64
+    ensures { λ r. ⌜ (Small 200000000000000 r) × (Kept (now (file .entry)) (now (table .entry)) l (now (kept .entry)) → r ≡ measureOf (now (file .entry)) (now (table .entry)) l (size v)) ⌝ }
+{
+    if !layers::names_line(l.lines, v) {
+        return 0;
+    }
+    let i = rules::size(v) - 1;
+    if i < kept.len() {
+        return possible(kept[i]);
+    }
+    measures::line_measure(file, layers::line_of(table, l, v))
+}
+
+// The measure of an entry: its line's, taken away for a line that is walked backwards.
+fn entry_measure(file: &[u8], table: &[u32], l: Layer, kept: &[i64], v: i32) -> i64
+    ensures { λ r. ⌜ (Small 200000000000000 r) × (Kept (now (file .entry)) (now (table .entry)) l (now (kept .entry)) → r ≡ slotMeasure (now (file .entry)) (now (table .entry)) l v) ⌝ }
+{
+    let m = line_measure(file, table, l, kept, v);
+    if rules::natural(v) {
+        return m;
+    }
+    -m
+}
+
+// The measure of the loop whose first record is `f`, by the measures that were kept of its layer's lines.
+pub fn loop_measure(file: &[u8], table: &[u32], l: Layer, kept: &[i64], f: usize) -> i64
+    ensures { λ r. ⌜ (Kept (now (file .entry)) (now (table .entry)) l (now (kept .entry)) → r ≡ loopMeasureIn (now (file .entry)) (now (table .entry)) l f) ⌝ }
+{
+    let n = 12 * loop_records(file, f);
+    let mut sum: i64 = 0;
+    let mut e: usize = 0;
+    while e < n {
+        let v = slot_of(file, f, e);
+        sum += entry_measure(file, table, l, kept, v);
+        e += 1;
+    }
+    sum
+}
