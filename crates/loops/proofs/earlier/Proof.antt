@@ -1,0 +1,18 @@
+-- `loops::earlier` meets its contract: 0 where the number is 0, else e. Assumes nothing.
+use borrow.Author.Needs.{needs}
+use Rattle.links.specs.Links.{isZero}
+use Rattle.rules.proofs.Signs.{own-asked}
+use Rattle.loops.proofs.earlier.Statement.{statement}
+use Rattle.loops.proofs.earlier.Tie as tie
+
+is-zero-requires : tie.Need-is-zero-requires
+is-zero-requires c κs = search needs
+
+returns : tie.Need-returns
+returns c = rw (own-asked isZero (c .before .before .fits .v) (c .before .is-zero .ensures) (c .if1 .taken))
+
+returns-2 : tie.Need-returns-2
+returns-2 c = rw (own-asked isZero (c .before .before .fits .v) (c .before .is-zero .ensures) (c .if1 .left))
+
+pub earlier-spec : {M : Type 1} → statement M
+earlier-spec = tie.close (tie.spec is-zero-requires returns returns-2)

@@ -1,0 +1,102 @@
+-- Stage 5 (document 01, refusals 13 in an area, 15, 16 and 17): whether an area's loops close, turn the right way round and have the area
+-- on their right hand. The table t says where lines and areas stand; l is the layer of the loop record r. Assumes nothing.
+--   repeatsArea file a e   slot e of the area whose A is record a repeats an earlier one
+--   joins ..               an entry begins where the one before it ends
+--   winds serial m         a loop's measure m has the sign that its serial asks for
+--   rightArea ..           the area on an entry's right hand
+--   loopChecks ..          all of them, of a loop record
+--   stageFive file t b     of all loop records, in 01's order
+use mathlib.Core.Bool.{Bool, cond, _||_, not}
+use mathlib.Core.List.{List, [], _∷_, _++_}
+use Prim.Native.Nat.{ℕ, _+_, _*_, _-_, _/_}
+use lib.Dec.{eqb, ltb}
+use lib.IntN.{ℤ, pos}
+use lib.ListN.{getD}
+use lib.Signed.{ltZ}
+use Rattle.records.specs.View.{numberIn}
+use Rattle.verdict.specs.Rules.{Rule, Check, check, block, rows, spread}
+use Rattle.rules.specs.Permitted.{natural, is}
+use Rattle.rules.specs.declared.Due.{Due}
+use Rattle.rules.specs.declared.Due.the-variants.{Mesh, Layer, Node, Line, Coordinates, Area, Loop}
+use Rattle.walk.specs.States.{dueOf, stateAt}
+use Rattle.walk.specs.Stages.{recordsOf}
+use Rattle.layers.specs.declared.Bases.{Bases}
+use Rattle.layers.specs.declared.Layer as layers
+use Rattle.layers.specs.Naming.{lineOf}
+use Rattle.layers.specs.Passing.{layerAt}
+use Rattle.links.specs.Links.{isZero, equal, some, endNode, loopEntry}
+use Rattle.entries.specs.Entries.{slotOf, countAt}
+use Rattle.entries.specs.Loops.{loopMeasureIn}
+
+-- ---- slots
+
+-- "13: an entry repeats an earlier one of .. the same area"
+unfoldable pub repeatsArea : List ℕ → ℕ → ℕ → Bool
+repeatsArea file a e = some e (λ j. equal (slotOf file (a + 1) e) (slotOf file (a + 1) j))
+
+-- the node where line v ends or, backwards, starts
+unfoldable pub lastNode : List ℕ → List ℕ → layers.Layer → ℤ → ℤ
+lastNode file t l v = numberIn file (lineOf t l v) (cond (natural v) 24 18) 5
+
+-- "the entry before it (for the first: .. the loop's last)"; f is the loop's first record
+unfoldable pub entryBefore : List ℕ → ℕ → ℕ → ℤ
+entryBefore file f e = slotOf file f (cond (eqb e 0) (countAt file f - 1) (e - 1))
+
+-- "15: an entry's first node is not the last node of the entry before it"
+unfoldable pub joins : List ℕ → List ℕ → layers.Layer → ℕ → ℕ → ℤ → Bool
+joins file t l f e v = equal (endNode file t l v) (lastNode file t l (entryBefore file f e))
+
+-- "17: +n in an area that is not n's right, -n in one that is not its left": "left area 35-39", "right area 45-49"
+unfoldable pub rightArea : List ℕ → List ℕ → layers.Layer → ℤ → ℤ
+rightArea file t l v = numberIn file (lineOf t l v) (cond (natural v) 45 35) 5
+
+-- slot i of the loop record r, of the area `area` whose A is record a, in the loop whose first record is f. A slot that is 0 is no entry
+unfoldable pub loopSlot : List ℕ → List ℕ → layers.Layer → ℕ → ℕ → ℕ → ℕ → ℕ → List Check
+loopSlot file t l a area f r i =
+    check (10 + 5 * i) 13 (isZero (loopEntry file r i) || not (repeatsArea file a (12 * (r - (a + 1)) + i)))
+    ∷ check (10 + 5 * i) 15 (isZero (loopEntry file r i) || joins file t l f (12 * (r - f) + i) (loopEntry file r i))
+    ∷ check (10 + 5 * i) 17 (isZero (loopEntry file r i) || is area (rightArea file t l (loopEntry file r i)))
+    ∷ []
+
+-- ---- the loop
+
+-- "the first clockwise, the others counterclockwise"; "clockwise is above 0"
+unfoldable pub winds : ℤ → ℤ → Bool
+winds serial m = cond (natural serial) (ltZ (pos 0) m) (ltZ m (pos 0))
+
+-- "16: loop measure 0, or its sign unlike the serial's (loop's first record)". Entries are left of a loop that has begun
+unfoldable pub windChecks : List ℕ → List ℕ → layers.Layer → ℕ → ℕ → List Check
+windChecks file t l r left = cond (ltb 0 left) [] (check 1 16 (winds (numberIn file r 1 5) (loopMeasureIn file t l r)) ∷ [])
+
+-- the loop's first record: of its `count` entries `left` are left, twelve a record
+unfoldable pub firstRecord : ℕ → ℕ → ℕ → ℕ
+firstRecord r count left = cond (ltb 0 left) (r - (count - left) / 12) r
+
+-- the A of the layer's area `area`
+unfoldable pub areaRecord : List ℕ → layers.Layer → ℕ → ℕ
+areaRecord t l area = getD t (l .area + (area - 1)) 0
+
+unfoldable pub loopChecks : List ℕ → List ℕ → layers.Layer → ℕ → ℕ → ℕ → ℕ → List Check
+loopChecks file t l area count left r =
+    windChecks file t l r left
+    ++ spread 12 (loopSlot file t l (areaRecord t l area) area (firstRecord r count left) r)
+
+-- ---- the stage
+
+-- record r, due as d, in the layer l; its last area is `area`
+abbrev pub areaChecks : Due → List ℕ → List ℕ → layers.Layer → ℕ → ℕ → List Check
+areaChecks (Mesh last) file t l area r = []
+areaChecks (Layer last) file t l area r = []
+areaChecks (Node layer last) file t l area r = []
+areaChecks (Line layer last) file t l area r = []
+areaChecks (Coordinates left) file t l area r = []
+areaChecks (Area layer last) file t l area r = []
+areaChecks (Loop last count left) file t l area r = loopChecks file t l area count left r
+
+-- stage 5 is judged sixth
+abbrev pub sixth : ℕ
+sixth = 6
+
+unfoldable pub stageFive : List ℕ → List ℕ → Bases → List Rule
+stageFive file t b =
+    rows (recordsOf file) (λ k. block sixth (k + 1) (areaChecks (dueOf (stateAt file k)) file t (layerAt file t b k) (stateAt file k .area) (k + 1)))

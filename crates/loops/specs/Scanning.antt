@@ -1,0 +1,57 @@
+-- What the scan for a repeated entry finds, and what is known of an area without it. It serves the code and is no part of a promise.
+-- Assumes nothing.
+use mathlib.Core.Bool.{Bool, true, false, cond, _||_, not}
+use mathlib.Core.List.{List}
+use mathlib.Core.Path.{_≡_}
+use Prim.Native.Nat.{ℕ, _+_, _*_, _-_, _≤_, _<_}
+use lib.IntN.{ℤ}
+use lib.ListN as ListN
+use lib.ListN.{getD, take}
+use Rattle.rules.specs.Permitted.{natural, size}
+use Rattle.rules.specs.declared.Due.{Due}
+use Rattle.rules.specs.declared.Due.the-variants as due
+use Rattle.layers.specs.declared.Layer.{Layer}
+use Rattle.entries.specs.Keeping.{Kept}
+use Rattle.links.specs.Links.{isZero, loopEntry}
+use Rattle.entries.specs.Entries.{slotOf}
+use Rattle.loops.specs.Loops.{repeatsArea, areaRecord}
+
+-- slot i of the loop record r, of the area whose A is record a, is no entry or repeats none
+unfoldable pub clean : List ℕ → ℕ → ℕ → ℕ → Bool
+clean file a r i = isZero (loopEntry file r i) || not (repeatsArea file a (12 * (r - (a + 1)) + i))
+
+-- x is the first slot that is not clean, or 12
+pub record FirstRepeat (file : List ℕ) (a r x : ℕ) : Type 0 where
+  pub within : x ≤ 12
+  pub before : (i : ℕ) → i < x → clean file a r i ≡ true
+  pub found : x < 12 → clean file a r x ≡ false
+
+-- where an entry leaves its mark: two places for each line
+abbrev pub markOf : ℤ → ℕ
+markOf v = 2 * size v + cond (natural v) 0 1
+
+-- the first n slots of the area are no entries or repeat none
+pub record Unrepeated (file : List ℕ) (a n : ℕ) : Type 0 where
+  pub unrepeated : (e : ℕ) → e < n → (isZero (slotOf file (a + 1) e) || not (repeatsArea file a e)) ≡ true
+
+-- what marking the entry v with a shows and does: true only where v is no entry, or didn't bear that mark and bears it now
+pub record Marking (before : List ℕ) (v : ℤ) (a : ℕ) (r : Bool) (after : List ℕ) : Type 0 where
+  pub length : ListN.length after ≡ ListN.length before
+  pub fresh : r ≡ true → isZero v ≡ false → (getD before (markOf v) 0 ≡ a → ⊥) × (getD after (markOf v) 0 ≡ a)
+  pub kept : r ≡ true → (i : ℕ) → getD before i 0 ≡ a → getD after i 0 ≡ a
+
+-- what is kept behind a record: another layer's line measures behind an H, else what was
+pub record KeptBehind (another : Bool) (file t : List ℕ) (l : Layer) (have : ℕ) (before : List ℤ) (r : ℕ) (after : List ℤ) : Type 0 where
+  pub room : r ≤ ListN.length after
+  pub new : another ≡ true → Kept file t l (take r after)
+  pub old : another ≡ false → (r ≡ have) × (after ≡ before)
+
+-- what is known behind a record: of the next area behind an A, of the same one behind a loop record
+abbrev pub KnownBehind : Due → List ℕ → List ℕ → Layer → ℕ → ℕ → Type 0
+KnownBehind (due.Mesh last) file t l area r = r ≡ 0
+KnownBehind (due.Layer last) file t l area r = r ≡ 0
+KnownBehind (due.Node layer last) file t l area r = r ≡ 0
+KnownBehind (due.Line layer last) file t l area r = r ≡ 0
+KnownBehind (due.Coordinates left) file t l area r = r ≡ 0
+KnownBehind (due.Area layer last) file t l area r = Unrepeated file (areaRecord t l (area + 1)) r
+KnownBehind (due.Loop last count left) file t l area r = Unrepeated file (areaRecord t l area) r

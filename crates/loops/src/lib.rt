@@ -1,0 +1,449 @@
+// Stage 5 of the judge (document 01, refusals 13 in an area, 15, 16 and 17): whether an area's loops
+// close, turn the right way round and have the area on their right hand. Every public function takes
+// every file and every table.
+//
+// The contracts cite `specs/Loops.antt`.
+use layers::Bases;
+use layers::Layer;
+use rules::Due;
+use verdict::Verdict;
+ghost use mathlib.Core.Path.{_≡_};
+ghost use mathlib.Core.Bool.{cond, not};
+ghost use Prim.Native.Nat.{_+_, _*_, _-_, _≤_, _<_};
+ghost use lib.ListN.{length};
+ghost use Rattle.verdict.specs.declared.Verdict.the-variants.{Broken};
+ghost use Rattle.verdict.specs.Rules.{firstBroken, block, spread};
+ghost use Rattle.rules.specs.Permitted.{is};
+ghost use Rattle.layers.specs.Passing.{isLayer};
+ghost use Rattle.links.specs.Links.{isZero, loopEntry};
+ghost use Rattle.entries.specs.Keeping.{Kept};
+ghost use Rattle.loops.specs.Loops.{lastNode, entryBefore, joins, rightArea, loopSlot, winds, windChecks, firstRecord, areaRecord, loopChecks, areaChecks, sixth, stageFive};
+ghost use Rattle.loops.specs.Scanning.{clean, FirstRepeat, markOf, Unrepeated, Marking, KeptBehind, KnownBehind};
+
+// ---- numbers
+
+// What is left of `n` when `by` are taken.
+fn less(n: usize, by: usize) -> usize
+    ensures { λ r. ⌜ r ≡ n - by ⌝ }
+{
+    if n < by {
+        return 0;
+    }
+    n - by
+}
+
+// Slot `i` of a loop record.
+fn loop_entry(file: &[u8], r: usize, i: usize) -> i32
+    requires { ⌜ i < 12 ⌝ }
+    ensures { λ x. ⌜ x ≡ loopEntry (now (file .entry)) r i ⌝ }
+{
+    records::number_at(file, r, 10 + 5 * i, 5)
+}
+
+// ---- repeated entries
+
+// Where an entry leaves its mark.
+fn mark_of(v: i32) -> usize
+    ensures { λ r. ⌜ r ≡ markOf v ⌝ }
+{
+    if rules::natural(v) {
+        return 2 * rules::size(v);
+    }
+    2 * rules::size(v) + 1
+}
+
+// Marks the entry `v` with `a`, the record of its A. False where it bears that mark already, or where no
+// mark is kept of its line.
+fn mark(marks: &mut [usize], v: i32, a: usize) -> bool
+    ensures { λ r. ⌜ Marking (now (marks .entry)) v a r (now (marks .exit)) ⌝ }
+{
+    if links::is_zero(v) {
+        return true;
+    }
+    let i = mark_of(v);
+    if marks.len() <= i {
+        return false;
+    }
+    if marks[i] == a {
+        return false;
+    }
+    marks[i] = a;
+    true
+}
+
+// How many slots of the area whose A is record `a` are known to repeat none: all, or 0 where one of them
+// may. What `marks` held doesn't matter.
+fn unrepeated(file: &[u8], a: usize, marks: &mut [usize]) -> usize
+    requires { ⌜ a ≤ 4294967295 ⌝ }
+    ensures { λ r. ⌜ Unrepeated (now (file .entry)) a r ⌝ }
+{
+    let n = entries::area_slots(file, a);
+    let mut e: usize = 0;
+    while e < n {
+        let v = entries::slot_of(file, a + 1, e);
+        if !mark(marks, v, a) {
+            return 0;
+        }
+        e += 1;
+    }
+    n
+}
+
+// How many earlier slots the entry `v` of slot `e` is compared with: none where it is no entry.
+fn earlier(v: i32, e: usize) -> usize
+    ensures { λ x. ⌜ x ≡ cond (isZero v) 0 e ⌝ }
+{
+    if links::is_zero(v) {
+        return 0;
+    }
+    e
+}
+
+// The first slot of the loop record `r` that repeats an earlier one of the area whose A is record `a`, or
+// 12.
+fn first_repeat(file: &[u8], a: usize, r: usize) -> usize
+    requires { ⌜ (a ≤ 4294967295) × (r ≤ 6399936) ⌝ }
+    ensures { λ x. ⌜ FirstRepeat (now (file .entry)) a r x ⌝ }
+{
+    let from = 12 * less(r, a + 1);
+    let mut at: usize = 12;
+    let mut i: usize = 0;
+    'scan: while i < 12 {
+        let stop = earlier(loop_entry(file, r, i), from + i);
+        let v = entries::slot_of(file, a + 1, from + i);
+        let mut j: usize = 0;
+        while j < stop {
+            let w = entries::slot_of(file, a + 1, j);
+            if links::equal(v, w) {
+                at = i;
+                break 'scan;
+            }
+            j += 1;
+        }
+        i += 1;
+    }
+    at
+}
+
+// The same, without a scan where the first `known` slots of the area are known to repeat none.
+fn repeat_in(file: &[u8], a: usize, r: usize, known: usize) -> usize
+    requires { ⌜ (a ≤ 4294967295) × (r ≤ 6399936) × Unrepeated (now file) a known ⌝ }
+    ensures { λ x. ⌜ FirstRepeat (now (file .entry)) a r x ⌝ }
+{
+    if (a < r) & (12 * less(r, a) <= known) {
+        return 12;
+    }
+    first_repeat(file, a, r)
+}
+
+// ---- slots
+
+// The node where a line ends or, backwards, starts.
+fn last_node(file: &[u8], table: &[u32], l: Layer, v: i32) -> i32
+    ensures { λ x. ⌜ x ≡ lastNode (now (file .entry)) (now (table .entry)) l v ⌝ }
+{
+    let r = layers::line_of(table, l, v);
+    if rules::natural(v) {
+        return records::number_at(file, r, 24, 5);
+    }
+    records::number_at(file, r, 18, 5)
+}
+
+// The entry before slot `e` of the loop whose first record is `f`; before the first one, the last.
+fn entry_before(file: &[u8], f: usize, e: usize) -> i32
+    ensures { λ x. ⌜ x ≡ entryBefore (now (file .entry)) f e ⌝ }
+{
+    if e == 0 {
+        return entries::slot_of(file, f, less(entries::count_at(file, f), 1));
+    }
+    entries::slot_of(file, f, e - 1)
+}
+
+// Whether the entry `v` in slot `e` begins where the one before it ends.
+fn joins(file: &[u8], table: &[u32], l: Layer, f: usize, e: usize, v: i32) -> bool
+    ensures { λ x. ⌜ x ≡ joins (now (file .entry)) (now (table .entry)) l f e v ⌝ }
+{
+    let w = entry_before(file, f, e);
+    let last = last_node(file, table, l, w);
+    links::equal(links::end_node(file, table, l, v), last)
+}
+
+// The area on an entry's right hand.
+fn right_area(file: &[u8], table: &[u32], l: Layer, v: i32) -> i32
+    ensures { λ x. ⌜ x ≡ rightArea (now (file .entry)) (now (table .entry)) l v ⌝ }
+{
+    let r = layers::line_of(table, l, v);
+    if rules::natural(v) {
+        return records::number_at(file, r, 45, 5);
+    }
+    records::number_at(file, r, 35, 5)
+}
+
+// Whether a number is `n`.
+fn is(v: i32, n: usize) -> bool
+    ensures { λ r. ⌜ r ≡ is n v ⌝ }
+{
+    rules::natural(v) & (rules::size(v) == n)
+}
+
+// A refusal of slot `i`.
+fn broken(number: u32, r: usize, i: usize) -> Verdict
+    requires { ⌜ (r ≤ 6399936) × (i < 12) ⌝ }
+    ensures { λ x. ⌜ x ≡ Broken number r (10 + 5 * i) ⌝ }
+{
+    Verdict::Broken {
+        number,
+        record: r as u32,
+        column: (10 + 5 * i) as u32,
+    }
+}
+
+// Slot `i` of the loop record `r`, of the area `area`, in the loop whose first record is `f`; `again` says
+// that it repeats an earlier one of the area, whose A is record `a`.
+fn judge_slot(
+    file: &[u8],
+    table: &[u32],
+    l: Layer,
+    a: usize,
+    area: usize,
+    f: usize,
+    r: usize,
+    i: usize,
+    again: bool,
+) -> Verdict
+    requires { ⌜ (i < 12) × (r ≤ 6399936) × (again ≡ not (clean (now file) a r i)) ⌝ }
+    ensures { λ x. ⌜ x ≡ firstBroken (block sixth r (loopSlot (now (file .entry)) (now (table .entry)) l a area f r i)) ⌝ }
+{
+    let v = loop_entry(file, r, i);
+    if links::is_zero(v) {
+        return Verdict::Fine;
+    }
+    if again {
+        return broken(13, r, i);
+    }
+    if !joins(file, table, l, f, 12 * less(r, f) + i, v) {
+        return broken(15, r, i);
+    }
+    if !is(right_area(file, table, l, v), area) {
+        return broken(17, r, i);
+    }
+    Verdict::Fine
+}
+
+// The slots of the loop record `r`; slot `at` is the first that repeats an earlier one.
+fn judge_slots(
+    file: &[u8],
+    table: &[u32],
+    l: Layer,
+    a: usize,
+    area: usize,
+    f: usize,
+    r: usize,
+    at: usize,
+) -> Verdict
+    requires { ⌜ (r ≤ 6399936) × FirstRepeat (now file) a r at ⌝ }
+    ensures { λ x. ⌜ x ≡ firstBroken (block sixth r (spread 12 (loopSlot (now (file .entry)) (now (table .entry)) l a area f r))) ⌝ }
+{
+    let mut i: usize = 0;
+    while i < 12 {
+        let v = judge_slot(file, table, l, a, area, f, r, i, i == at);
+        if let Verdict::Broken {
+            number: _,
+            record: _,
+            column: _,
+        } = v {
+            return v;
+        }
+        i += 1;
+    }
+    Verdict::Fine
+}
+
+// ---- loops
+
+// Whether a measure has the sign that the serial asks for.
+fn winds(serial: i32, m: i64) -> bool
+    ensures { λ r. ⌜ r ≡ winds serial m ⌝ }
+{
+    if rules::natural(serial) {
+        return 0 < m;
+    }
+    m < 0
+}
+
+// The way round of the loop that begins at record `r`; nothing of a later record. `kept` has the first line
+// measures of the layer.
+fn judge_winding(
+    file: &[u8],
+    table: &[u32],
+    l: Layer,
+    kept: &[i64],
+    left: usize,
+    r: usize,
+) -> Verdict
+    requires { ⌜ (r ≤ 6399936) × Kept (now file) (now table) l (now kept) ⌝ }
+    ensures { λ x. ⌜ x ≡ firstBroken (block sixth r (windChecks (now (file .entry)) (now (table .entry)) l r left)) ⌝ }
+{
+    if 0 < left {
+        return Verdict::Fine;
+    }
+    let serial = records::number_at(file, r, 1, 5);
+    let m = entries::loop_measure(file, table, l, kept, r);
+    if !winds(serial, m) {
+        return Verdict::Broken {
+            number: 16,
+            record: r as u32,
+            column: 1,
+        };
+    }
+    Verdict::Fine
+}
+
+// The first record of a loop: of its `count` entries `left` are left.
+fn first_record(r: usize, count: usize, left: usize) -> usize
+    ensures { λ x. ⌜ x ≡ firstRecord r count left ⌝ }
+{
+    if 0 < left {
+        return less(r, less(count, left) / 12);
+    }
+    r
+}
+
+// The A of the layer's area `area`.
+fn area_record(table: &[u32], l: Layer, area: usize) -> usize
+    ensures { λ x. ⌜ (x ≡ areaRecord (now (table .entry)) l area) × (x ≤ 4294967295) ⌝ }
+{
+    layers::area_word(table, l, less(area, 1))
+}
+
+// The loop record `r` of the area `area`, of which the first `known` slots are known to repeat none.
+fn judge_loop(
+    file: &[u8],
+    table: &[u32],
+    l: Layer,
+    kept: &[i64],
+    area: usize,
+    known: usize,
+    count: usize,
+    left: usize,
+    r: usize,
+) -> Verdict
+    requires { ⌜ (r ≤ 6399936) × Kept (now file) (now table) l (now kept) × Unrepeated (now file) (areaRecord (now table) l area) known ⌝ }
+    ensures { λ x. ⌜ x ≡ firstBroken (block sixth r (loopChecks (now (file .entry)) (now (table .entry)) l area count left r)) ⌝ }
+{
+    let v = judge_winding(file, table, l, kept, left, r);
+    if let Verdict::Broken {
+        number: _,
+        record: _,
+        column: _,
+    } = v {
+        return v;
+    }
+    let a = area_record(table, l, area);
+    let at = repeat_in(file, a, r, known);
+    judge_slots(file, table, l, a, area, first_record(r, count, left), r, at)
+}
+
+// ---- the stage
+
+// Record `r`, due as `d`, in the layer `l`; its last area is `area`.
+fn judge_record(
+    d: Due,
+    file: &[u8],
+    table: &[u32],
+    l: Layer,
+    kept: &[i64],
+    area: usize,
+    known: usize,
+    r: usize,
+) -> Verdict
+    requires { ⌜ (r ≤ 6399936) × Kept (now file) (now table) l (now kept) × Unrepeated (now file) (areaRecord (now table) l area) known ⌝ }
+    ensures { λ x. ⌜ x ≡ firstBroken (block sixth r (areaChecks d (now (file .entry)) (now (table .entry)) l area r)) ⌝ }
+{
+    match d {
+        Due::Mesh(_) => Verdict::Fine,
+        Due::Layer(_) => Verdict::Fine,
+        Due::Node(_, _) => Verdict::Fine,
+        Due::Line(_, _) => Verdict::Fine,
+        Due::Coordinates(_) => Verdict::Fine,
+        Due::Area(_, _) => Verdict::Fine,
+        Due::Loop(_, count, left) => {
+            judge_loop(file, table, l, kept, area, known, count, left, r)
+        }
+    }
+}
+
+// The line measures that are kept behind a record that was due as `d`, and how many: behind an H those of
+// its layer `l`, else the `have` that were.
+fn kept_behind(d: Due, file: &[u8], table: &[u32], l: Layer, have: usize, kept: &mut [i64]) -> usize
+    requires { ⌜ have ≤ length (now kept) ⌝ }
+    ensures { λ r. ⌜ KeptBehind (isLayer d) (now (file .entry)) (now (table .entry)) l have (now (kept .entry)) r (now (kept .exit)) ⌝ }
+{
+    match d {
+        Due::Mesh(_) => have,
+        Due::Layer(_) => entries::keep_measures(file, table, l, kept),
+        Due::Node(_, _) => have,
+        Due::Line(_, _) => have,
+        Due::Coordinates(_) => have,
+        Due::Area(_, _) => have,
+        Due::Loop(_, _, _) => have,
+    }
+}
+
+// How many slots of the layer's last area are known to repeat none, behind a record that was due as `d`:
+// behind an A, the one behind the first `area`, they are looked at; a loop record leaves them as they were.
+fn known_behind(
+    d: Due,
+    file: &[u8],
+    table: &[u32],
+    l: Layer,
+    area: usize,
+    known: usize,
+    marks: &mut [usize],
+) -> usize
+    requires { ⌜ Unrepeated (now file) (areaRecord (now table) l area) known ⌝ }
+    ensures { λ r. ⌜ KnownBehind d (now (file .entry)) (now (table .entry)) l area r ⌝ }
+{
+    match d {
+        Due::Mesh(_) => 0,
+        Due::Layer(_) => 0,
+        Due::Node(_, _) => 0,
+        Due::Line(_, _) => 0,
+        Due::Coordinates(_) => 0,
+        Due::Area(_, _) => unrepeated(file, layers::area_word(table, l, area), marks),
+        Due::Loop(_, _, _) => known,
+    }
+}
+
+// Stage 5: every loop record.
+pub fn stage_five(file: &[u8], table: &[u32], b: Bases) -> Verdict
+    ensures { λ r. ⌜ r ≡ firstBroken (stageFive (now (file .entry)) (now (table .entry)) b) ⌝ }
+{
+    let n = walk::records_of(file);
+    let mut kept = [0i64; 9999];
+    let mut marks = [0usize; 20000];
+    let mut have: usize = 0;
+    let mut known: usize = 0;
+    let mut s = walk::at_start();
+    let mut rows: usize = 0;
+    let mut l = layers::layer_in(table, b, 0);
+    let mut k: usize = 0;
+    while k < n {
+        let d = walk::due(s);
+        let v = judge_record(d, file, table, l, &kept[..have], s.area, known, k + 1);
+        if let Verdict::Broken {
+            number: _,
+            record: _,
+            column: _,
+        } = v {
+            return v;
+        }
+        known = known_behind(d, file, table, l, s.area, known, &mut marks);
+        rows += layers::rows_of(d);
+        l = layers::layer_behind(d, table, b, rows, l);
+        have = kept_behind(d, file, table, l, have, &mut kept);
+        s = walk::next(s, records::record_view(file, k + 1));
+        k += 1;
+    }
+    Verdict::Fine
+}
