@@ -1,0 +1,3 @@
+-- What the contracts of `sides` cite: document 01, stage 6.
+pub mod Sides
+pub mod Marking
