@@ -1,0 +1,209 @@
+-- What a file that keeps stages 2, 4, 5 and 6 says of each line and each area of a layer: of rules that are fine every one holds, and the
+-- walk meets each L, each A and each loop record that the table and the counts tell of, in its layer. Assumes nothing.
+use mathlib.Core.Bool.{Bool, true, false, _&&_, _||_, not, false≢true}
+use mathlib.Core.List.{List}
+use mathlib.Core.Path.{_≡_, refl, _∙_, ap, subst}
+use Prim.Native.Nat.{ℕ, suc, _+_, _*_, _-_, _/_, _%_, _≤_, _<_}
+use native.Mathlib.Numerals.{add-one}
+use native.Mathlib.Omega.{arith}
+use lib.Dec.{eqb, leb}
+use lib.IntN.{ℤ, pos, negsuc}
+use lib.ListN.{getD}
+use borrow.Author.Tests.{leb-true, eqb-true}
+use Rattle.records.specs.View.{recordOf, numberIn}
+use Rattle.records.specs.Layout.{layoutOf}
+use Rattle.verdict.specs.declared.Verdict.the-variants.{Fine}
+use Rattle.verdict.specs.Rules.{firstBroken}
+use Rattle.verdict.proofs.Parts.{both-fine}
+use Rattle.verdict.proofs.Holding.{row-fine, Holding, all-hold, both-hold, slot-holds}
+use Rattle.verdict.proofs.Orders.{and-both}
+use Rattle.rules.specs.declared.Due.{Due}
+use Rattle.rules.specs.declared.Due.the-variants.{Mesh, Layer, Node, Line, Coordinates, Area, Loop}
+use Rattle.rules.specs.Permitted.{natural, size, within, is}
+use Rattle.rules.specs.Asks.{layerAsks, asksOf, askedOf}
+use Rattle.rules.specs.Checks.{formChecks, valueChecks, along, checksOf}
+use Rattle.walk.specs.States.{sizeIn, dueOf, stateAt, countsAt}
+use Rattle.walk.specs.Stages.{recordsOf, stageTwo}
+use Rattle.walk.specs.Table.{tableOf}
+use Rattle.walk.proofs.Judging.{rulesOf, ended}
+use Rattle.layers.specs.declared.Layer as layers
+use Rattle.layers.specs.Naming.{layerIn, names, namesLine, lineOf, areaOf}
+use Rattle.layers.specs.Passing.{isLayer, layerAt, basesIn, layerOf}
+use Rattle.layers.proofs.Rows.{row-laid}
+use Rattle.layers.proofs.Laid.{area-due, area-word, LineAt, AreaAt}
+use Rattle.links.specs.Links.{isZero, lineEndChecks, sideChecks, lineChecks, loopEntry, entryChecks, linkChecks, fifth, stageFour}
+use Rattle.entries.specs.Entries.{slotOf, loopsAt, recordsTo, slotsOf}
+use Rattle.entries.proofs.Owning.{inside, complete}
+use Rattle.loops.specs.Loops.{repeatsArea, rightArea, loopSlot, windChecks, firstRecord, areaRecord, loopChecks, areaChecks, sixth, stageFive}
+use Rattle.sides.specs.Sides.{lists, sideListed, listChecks, lineListChecks, seventh, stageSix}
+use Rattle.ground.specs.Layers.{leftOf, rightOf}
+
+-- ---- the stages
+
+-- a file that keeps stages 2, 4, 5 and 6
+pub record Passed (file : List ℕ) : Type 0 where
+  pub two : firstBroken (stageTwo file) ≡ Fine
+  pub four : firstBroken (stageFour file (tableOf file) (basesIn file)) ≡ Fine
+  pub five : firstBroken (stageFive file (tableOf file) (basesIn file)) ≡ Fine
+  pub six : firstBroken (stageSix file (tableOf file) (basesIn file)) ≡ Fine
+
+-- of record k + 1, due as d, all checks of each stage hold
+module _ (file : List ℕ) (p : Passed file) (k : ℕ) (l : k < recordsOf file) {d : Due} (e : dueOf (stateAt file k) ≡ d) where
+  abbrev here : layers.Layer
+  here = layerAt file (tableOf file) (basesIn file) k
+
+  two-holds : Holding (checksOf d (recordOf file (k + 1)))
+  unfolding stageTwo
+  two-holds = rw (← e) (all-hold 2 (k + 1) _ (row-fine (rulesOf file) (recordsOf file) (both-fine _ _ (p .two) .0) k l))
+
+  four-holds : Holding (linkChecks d file (tableOf file) here (stateAt file k .line) (k + 1))
+  unfolding stageFour
+  four-holds = rw (← e) (all-hold fifth (k + 1) _ (row-fine _ (recordsOf file) (p .four) k l))
+
+  five-holds : Holding (areaChecks d file (tableOf file) here (stateAt file k .area) (k + 1))
+  unfolding stageFive
+  five-holds = rw (← e) (all-hold sixth (k + 1) _ (row-fine _ (recordsOf file) (p .five) k l))
+
+  six-holds : Holding (lineListChecks d file (tableOf file) here (k + 1))
+  unfolding stageSix
+  six-holds = rw (← e) (all-hold seventh (k + 1) _ (row-fine _ (recordsOf file) (p .six) k l))
+
+-- ---- a layer's counts
+
+within-most : (low high : ℕ) (v : ℤ) → within low high v ≡ true → size v ≤ high
+unfolding within
+within-most low high v h =
+    let b = and-both (natural v) (leb low (size v) && leb (size v) high) h in
+    leb-true _ _ (and-both (leb low (size v)) (leb (size v) high) (b .1) .1)
+
+-- the check on columns 10-14 of an H
+head-lines : (last : ℕ) (t : List ℕ) → Holding (checksOf (Layer last) t) → sizeIn t 10 5 ≤ 9999
+unfolding layoutOf layerAsks asksOf askedOf formChecks valueChecks along checksOf sizeIn
+head-lines last t h = within-most 0 9999 _ (h .1 .1 .1 .1 .1 .1 .1 .1 .0)
+
+an-h : (d : Due) → isLayer d ≡ true → (last : ℕ) × (d ≡ Layer last)
+an-h (Mesh last) h = absurd (false≢true h)
+an-h (Layer last) h = (last, refl)
+an-h (Node layer last) h = absurd (false≢true h)
+an-h (Line layer last) h = absurd (false≢true h)
+an-h (Coordinates left) h = absurd (false≢true h)
+an-h (Area layer last) h = absurd (false≢true h)
+an-h (Loop last count left) h = absurd (false≢true h)
+
+-- "H lines at most 9999"
+pub lines-limit : (file : List ℕ) → Passed file → (i : ℕ) → i < countsAt file (recordsOf file) .layers → layerOf file i .lines ≤ 9999
+lines-limit file p i l =
+    let q = row-laid file i l in
+    let k = q .0 in
+    let r = q .1 in
+    let d = an-h (dueOf (stateAt file k)) (r .due) in
+    let h : sizeIn (recordOf file (k + 1)) 10 5 ≤ 9999 = head-lines (d .0) (recordOf file (k + 1)) (two-holds file p k (r .within) (d .1)) in
+    rw (r .lines) (rw add-one at h)
+
+-- ---- a line
+
+-- a side's number v where 11 is kept: 0 or one of 1 to n
+names-most : (n : ℕ) (v : ℤ) → (isZero v || names n v) ≡ true → size v ≤ n
+unfolding names
+names-most n v h = by (isZero v) refl h
+  where
+    by : (t : Bool) → isZero v ≡ t → (t || within 1 n v) ≡ true → size v ≤ n
+    by true e h = omega (arith, eqb-true (size v) 0 e)
+    by false e h = within-most 1 n v h
+
+-- it has no sign
+names-natural : (n : ℕ) (v : ℤ) → (isZero v || names n v) ≡ true → v ≡ pos (size v)
+unfolding names within
+names-natural n (pos i) h = refl
+names-natural n (negsuc i) h = absurd (by (eqb (suc i) 0) refl h)
+  where
+    by : (t : Bool) → eqb (suc i) 0 ≡ t → (t || false) ≡ true → ⊥
+    by true e h = omega (arith, eqb-true (suc i) 0 e)
+    by false e h = false≢true h
+
+-- an L's two sides, in their places
+sides-named : (file t : List ℕ) (l : layers.Layer) (r : ℕ) → Holding (lineChecks file t l r)
+    → ((isZero (numberIn file r 35 5) || names (l .areas) (numberIn file r 35 5)) ≡ true)
+    × ((isZero (numberIn file r 45 5) || names (l .areas) (numberIn file r 45 5)) ≡ true)
+unfolding lineEndChecks sideChecks lineChecks
+sides-named file t l r h =
+    let b = h .1 .1 .1 .1 .1 .1 .1 in
+    (b .0, b .1 .1 .0)
+
+-- what stages 4 and 6 say of the layer's line n: its sides' areas are there (11) and list it (18)
+pub record LineKept (file t : List ℕ) (l : layers.Layer) (n : ℕ) : Type 0 where
+  pub left : leftOf file t l n ≤ l .areas
+  pub right : rightOf file t l n ≤ l .areas
+  pub leftLists : 0 < leftOf file t l n → lists file (areaOf t l (pos (leftOf file t l n))) true n ≡ true
+  pub rightLists : 0 < rightOf file t l n → lists file (areaOf t l (pos (rightOf file t l n))) false n ≡ true
+
+-- 18 of the side whose area, not 0, stands at column c
+side-lists : (file t : List ℕ) (l : layers.Layer) (r c : ℕ) (back : Bool) (n : ℕ) → (isZero (numberIn file r c 5) || names (l .areas) (numberIn file r c 5)) ≡ true
+    → sideListed file t l r c back n ≡ true → 0 < size (numberIn file r c 5) → lists file (areaOf t l (pos (size (numberIn file r c 5)))) back n ≡ true
+unfolding sideListed
+side-lists file t l r c back n e h a = by (numberIn file r c 5) (isZero (numberIn file r c 5)) refl e h a
+  where
+    by : (v : ℤ) (b : Bool) → isZero v ≡ b → (isZero v || names (l .areas) v) ≡ true → (b || lists file (areaOf t l v) back n) ≡ true → 0 < size v
+        → lists file (areaOf t l (pos (size v))) back n ≡ true
+    by v true z e h a = absurd (omega (arith, eqb-true (size v) 0 z))
+    by v false z e h a = subst (λ (w : ℤ). lists file (areaOf t l w) back n ≡ true) (names-natural (l .areas) v e) h
+
+kept-by : (file t : List ℕ) (l : layers.Layer) (r n : ℕ) → lineOf t l (pos n) ≡ r → Holding (lineChecks file t l r) → Holding (listChecks file t l r n) → LineKept file t l n
+unfolding leftOf rightOf listChecks
+kept-by file t l r n e four six =
+    let s = sides-named file t l r four in
+    record {
+      left = rw e (names-most (l .areas) (numberIn file r 35 5) (s .0));
+      right = rw e (names-most (l .areas) (numberIn file r 45 5) (s .1));
+      leftLists = rw e (side-lists file t l r 35 true n (s .0) (six .0));
+      rightLists = rw e (side-lists file t l r 45 false n (s .1) (six .1 .0));
+    }
+
+pub line-kept : (file : List ℕ) → Passed file → (i m k : ℕ) → LineAt file i m k → LineKept file (tableOf file) (layerOf file i) (suc m)
+line-kept file p i m k x =
+    let t = tableOf file in
+    let four : Holding (lineChecks file t (layerOf file i) (k + 1)) = rw (x .layer) at (four-holds file p k (x .within) (x .due)) in
+    let six : Holding (listChecks file t (layerOf file i) (k + 1) (m + 1)) = rw (x .layer) at (six-holds file p k (x .within) (x .due)) in
+    kept-by file t (layerOf file i) (suc k) (suc m) (x .word) (rw (add-one k) at four) (rw (add-one k, add-one m) at six)
+
+-- ---- an area's slots
+
+-- what stages 4 and 5 say of a slot of the layer's area a, whose A is record x: it names a line (11), repeats none before it (13), and
+-- has the area on its right hand (17)
+pub record SlotKept (file t : List ℕ) (l : layers.Layer) (a x e : ℕ) : Type 0 where
+  pub known : (isZero (slotOf file (x + 1) e) || namesLine (l .lines) (slotOf file (x + 1) e)) ≡ true
+  pub once : (isZero (slotOf file (x + 1) e) || not (repeatsArea file x e)) ≡ true
+  pub own : (isZero (slotOf file (x + 1) e) || is a (rightArea file t l (slotOf file (x + 1) e))) ≡ true
+
+-- from the checks of slot i of the loop record r
+slot-by : (file t : List ℕ) (l : layers.Layer) (a x f r i e : ℕ) → r ≡ x + 1 + e / 12 → i ≡ e % 12 → areaRecord t l a ≡ x
+    → (isZero (loopEntry file r i) || namesLine (l .lines) (loopEntry file r i)) ≡ true → Holding (loopSlot file t l (areaRecord t l a) a f r i) → SlotKept file t l a x e
+unfolding slotOf loopSlot
+slot-by file t l a x f r i e p q z four five =
+    let y : 12 * (r - (x + 1)) + i ≡ e = omega arith in
+    record {
+      known = rw (← p, ← q) four;
+      once = rw (← p, ← q) (rw (z, y) at (five .0));
+      own = rw (← p, ← q) (five .1 .1 .0);
+    }
+
+pub slot-kept : (file : List ℕ) → Passed file → (i a k : ℕ) → AreaAt file i a k → (e : ℕ) → e < slotsOf file (suc k) → SlotKept file (tableOf file) (layerOf file i) (suc a) (suc k) e
+unfolding slotsOf layerAt areaRecord loopChecks entryChecks
+slot-kept file p i a k x e m =
+    let t = tableOf file in
+    let b = basesIn file in
+    let q = e / 12 in
+    let j = suc k + q in
+    let o : q < recordsTo file (suc k) (loopsAt file (suc k)) = omega arith in
+    let v = inside file k (x .due) q o in
+    let w = complete file k (recordsOf file) (x .within) (ended file (p .two)) (x .due) q o in
+    let n : stateAt file j .area ≡ suc a = omega (arith, v .area, area-due (stateAt file k) (x .due) .0) in
+    let f : layerAt file t b j ≡ layerOf file i = ap (λ (c : ℕ). layerIn t b (c - 1)) (v .layers) ∙ x .layer in
+    let four = rw f at (four-holds file p j w (v .due)) in
+    let five = rw (f, n) at (five-holds file p j w (v .due)) in
+    let y : suc a - 1 ≡ a = omega arith in
+    let z : getD t (layerOf file i .area + (suc a - 1)) 0 ≡ suc k = rw y (rw (x .layer) at (area-word file k (x .within) (x .due))) in
+    let g = firstRecord (j + 1) (v .count) (v .left) in
+    slot-by file t (layerOf file i) (suc a) (suc k) g (j + 1) (e % 12) e (omega arith) refl z
+    (slot-holds _ 12 four (e % 12) (omega arith) .0)
+    (slot-holds _ 12 (both-hold (windChecks file t (layerOf file i) (j + 1) (v .left)) _ five .1) (e % 12) (omega arith))

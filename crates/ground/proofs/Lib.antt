@@ -1,0 +1,5 @@
+-- Laws of the ground. `Grounds` has that no ground is lost; `Limits` that all sums are small; `Kept` what the stages say of each line and
+-- each area.
+pub mod Kept
+pub mod Grounds
+pub mod Limits

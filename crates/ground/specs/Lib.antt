@@ -1,0 +1,2 @@
+-- What a layer and a file measure: document 01, "Measures".
+pub mod Layers
