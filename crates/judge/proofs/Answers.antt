@@ -1,39 +1,114 @@
--- The theorem of the judge, as far as stage 4: the answer is the least broken rule in 01's order, Fine exactly where none is broken, and no
--- second answer fits. The rules stand in that order, so the first broken one is the least. Assumes nothing.
-use mathlib.Core.List.{List, _++_, append-assoc}
-use mathlib.Core.Path.{_≡_}
-use Prim.Native.Nat.{ℕ}
-use lib.Dec.{lit<, lit≤}
+-- THE THEOREM OF DEMAND 2: a file is accepted exactly when no rule is broken; otherwise the answer is the least broken rule in 01's order;
+-- no second answer fits, and the answer settles what the call tells and what each lent buffer holds. The rules stand in 01's order, so
+-- the first broken one is the least. Assumes nothing.
+use mathlib.Core.Bool.{true, _&&_}
+use mathlib.Core.List.{List, [], _∷_, _++_, append-assoc}
+use mathlib.Core.Path.{_≡_, refl, subst, sym, _∙_, ap}
+use Prim.Native.Nat.{ℕ, _<_}
+use native.Mathlib.Omega.{arith}
+use lib.Dec.{leb, lit<}
+use lib.IntN.{ℤ}
+use lib.ListN.{length}
 use Rattle.verdict.specs.declared.Verdict.{Verdict}
-use Rattle.verdict.specs.Order.{Answer, Sorted}
-use Rattle.verdict.proofs.Orders.{answers, only, stage-sorted, stage-up}
+use Rattle.verdict.specs.declared.Verdict.the-variants.{Fine}
+use Rattle.verdict.specs.Rules.{Rule, check}
+use Rattle.verdict.specs.Order.{In, Answer, Sorted}
+use Rattle.verdict.proofs.Orders.{answers, only, block-sorted, block-in, UpTo, Of, stage-sorted, stage-up}
 use Rattle.walk.specs.States.{countsAt}
-use Rattle.walk.specs.Stages.{recordsOf, third, early}
+use Rattle.walk.specs.Stages.{recordsOf, third, early, needOf}
 use Rattle.walk.specs.Table.{tableOf}
 use Rattle.walk.proofs.InOrder.{early-sorted, early-up}
 use Rattle.totals.specs.Totals.{fourth, stageThree}
 use Rattle.totals.proofs.Summing.{three-sorted, three-of}
 use Rattle.layers.specs.declared.Bases.{Bases}
+use Rattle.layers.specs.Passing.{basesIn}
 use Rattle.links.specs.Links.{fifth, stageFour}
 use Rattle.links.proofs.InOrder.{four-sorted, four-of}
-use Rattle.layers.specs.Passing.{basesOf}
-use Rattle.judge.specs.Rulebook.{late, rulesOf, verdictOf}
+use Rattle.loops.specs.Loops.{sixth, stageFive}
+use Rattle.loops.proofs.InOrder.{five-sorted, five-of}
+use Rattle.sides.specs.Sides.{seventh, stageSix}
+use Rattle.sides.proofs.InOrder.{six-sorted, six-of}
+use Rattle.judge.specs.Rulebook.{late, rulesOf, eighth, measureRule, layerRule, judgeRules, sumsRules, verdictOf, sumsVerdict}
+use Rattle.judge.specs.Outcomes.{outcomeBy, outcomeOf, tableBy, tableAfter, measuresBy, measuresAfter, sumsBy, sumsOf, tableAfterSums}
 
-pub rules-sorted : (file : List ℕ) (room : ℕ) → Sorted (rulesOf file room)
+-- ---- the rules stand in order
+
+-- rules up to turn s, in order
+record Turns (s : ℕ) (rs : List Rule) : Type 0 where
+  up : UpTo s rs
+  sorted : Sorted rs
+
+-- one turn more
+turn : (s u : ℕ) (xs ys : List Rule) → s < u → Turns s xs → Of u ys → Sorted ys → Turns u (xs ++ ys)
+turn s u xs ys l t g q = record { up = stage-up s u xs ys (omega (arith, l)) (t .up) g; sorted = stage-sorted s u xs ys l (t .up) g (t .sorted) q }
+
+five-parts : {A : Type 0} (e a b c d : List A) → (((e ++ a) ++ b) ++ c) ++ d ≡ e ++ (a ++ (b ++ (c ++ d)))
+five-parts e a b c d = append-assoc ((e ++ a) ++ b) c d ∙ append-assoc (e ++ a) b (c ++ d) ∙ append-assoc e a (b ++ (c ++ d))
+
+stages-turn : (file : List ℕ) (room : ℕ) → Turns seventh (rulesOf file room)
 unfolding rulesOf late
-rules-sorted file room =
+stages-turn file room =
     let t : List ℕ = tableOf file in
-    let b : Bases = basesOf (countsAt file (recordsOf file)) in
-    rw (← append-assoc (early file room) (stageThree file) (stageFour file t b))
-    (stage-sorted fourth fifth (early file room ++ stageThree file) (stageFour file t b) (lit< tt)
-    (stage-up third fourth (early file room) (stageThree file) (lit≤ tt) (early-up file room) (three-of file))
-    (four-of file t b)
-    (stage-sorted third fourth (early file room) (stageThree file) (lit< tt) (early-up file room) (three-of file) (early-sorted file room) (three-sorted file))
-    (four-sorted file t b))
+    let b : Bases = basesIn file in
+    let early-turns : Turns third (early file room) = record { up = early-up file room; sorted = early-sorted file room } in
+    subst (Turns seventh) (five-parts (early file room) (stageThree file) (stageFour file t b) (stageFive file t b) (stageSix file t b))
+    (turn sixth seventh _ _ (lit< tt)
+    (turn fifth sixth _ _ (lit< tt)
+    (turn fourth fifth _ _ (lit< tt)
+    (turn third fourth _ _ (lit< tt) early-turns (three-of file) (three-sorted file))
+    (four-of file t b) (four-sorted file t b))
+    (five-of file t b) (five-sorted file t b))
+    (six-of file t b) (six-sorted file t b))
 
-pub verdict-answers : (file : List ℕ) (room : ℕ) → Answer (rulesOf file room) (verdictOf file room)
+judge-sorted : (file : List ℕ) (room places : ℕ) → Sorted (judgeRules file room places)
+unfolding measureRule
+judge-sorted file room places =
+    let cs = check 0 19 (leb (countsAt file (recordsOf file) .areas) places) ∷ [] in
+    turn seventh eighth _ _ (lit< tt) (stages-turn file room) (λ a i. block-in eighth 0 cs a i .0) (block-sorted eighth 0 cs refl) .sorted
+
+sums-sorted : (file : List ℕ) (room i : ℕ) → Sorted (sumsRules file room i)
+unfolding layerRule
+sums-sorted file room i =
+    let cs = check 0 22 (leb 1 i && leb i (countsAt file (recordsOf file) .layers)) ∷ [] in
+    turn seventh eighth _ _ (lit< tt) (stages-turn file room) (λ a j. block-in eighth 0 cs a j .0) (block-sorted eighth 0 cs refl) .sorted
+
+-- ---- the judge
+
+-- the verdict is the answer to the rules: Fine, and all are kept, or the least broken one
+pub verdict-answers : (file : List ℕ) (room places : ℕ) → Answer (judgeRules file room places) (verdictOf file room places)
 unfolding verdictOf
-verdict-answers file room = answers (rulesOf file room) (rules-sorted file room)
+verdict-answers file room places = answers (judgeRules file room places) (judge-sorted file room places)
 
-pub verdict-only : (file : List ℕ) (room : ℕ) (v : Verdict) → Answer (rulesOf file room) v → v ≡ verdictOf file room
-verdict-only file room v a = only (rulesOf file room) v (verdictOf file room) a (verdict-answers file room)
+-- no second one fits
+pub verdict-only : (file : List ℕ) (room places : ℕ) (v : Verdict) → Answer (judgeRules file room places) v → v ≡ verdictOf file room places
+verdict-only file room places v a = only (judgeRules file room places) v (verdictOf file room places) a (verdict-answers file room places)
+
+-- "A file is accepted exactly when it keeps the published layouts and the rules of document 01, the room lent included"
+pub accepted-keeps : (file : List ℕ) (room places : ℕ) → verdictOf file room places ≡ Fine → (r : Rule) → In r (judgeRules file room places) → r .holds ≡ true
+accepted-keeps file room places e = subst (Answer (judgeRules file room places)) e (verdict-answers file room places)
+
+pub kept-accepted : (file : List ℕ) (room places : ℕ) → ((r : Rule) → In r (judgeRules file room places) → r .holds ≡ true) → verdictOf file room places ≡ Fine
+kept-accepted file room places h = sym (verdict-only file room places Fine h)
+
+-- whoever finds the answer v to the rules has no choice left: what is told, the table and the measures are settled
+pub load-only : (file words : List ℕ) (ms : List ℤ) (v : Verdict) → Answer (judgeRules file (length words) (length ms)) v
+    → (outcomeBy v (countsAt file (recordsOf file)) (recordsOf file) (needOf file) ≡ outcomeOf file (length words) (length ms))
+    × (tableBy v file words ≡ tableAfter file (length ms) words)
+    × (measuresBy v file ms ≡ measuresAfter file (length words) ms)
+unfolding outcomeOf tableAfter measuresAfter
+load-only file words ms v a =
+    let e : v ≡ verdictOf file (length words) (length ms) = verdict-only file (length words) (length ms) v a in
+    (ap (λ v. outcomeBy v (countsAt file (recordsOf file)) (recordsOf file) (needOf file)) e, ap (λ v. tableBy v file words) e, ap (λ v. measuresBy v file ms) e)
+
+-- ---- the layer sums
+
+pub sums-answers : (file : List ℕ) (room i : ℕ) → Answer (sumsRules file room i) (sumsVerdict file room i)
+unfolding sumsVerdict
+sums-answers file room i = answers (sumsRules file room i) (sums-sorted file room i)
+
+pub sums-only : (file words : List ℕ) (i : ℕ) (v : Verdict) → Answer (sumsRules file (length words) i) v
+    → (sumsBy v file i ≡ sumsOf file (length words) i) × (tableBy v file words ≡ tableAfterSums file i words)
+unfolding sumsOf tableAfterSums
+sums-only file words i v a =
+    let e : v ≡ sumsVerdict file (length words) i = only (sumsRules file (length words) i) v (sumsVerdict file (length words) i) a (sums-answers file (length words) i) in
+    (ap (λ v. sumsBy v file i) e, ap (λ v. tableBy v file words) e)

@@ -1,5 +1,8 @@
--- `Answers` has that the answer is the least broken rule and the only one that fits; `Sheets` has 01's smallest sheet and its neighbours;
--- `Loading` serves the proofs.
+-- `Answers` is the theorem of demand 2, that the answer is the least broken rule and the only one that fits; `NoGroundLost` the theorem of
+-- demand 3; `Sheets` has 01's smallest sheet and its neighbours. `Loading`, `Calling` and `Adding` serve the proofs.
 pub mod Loading
+pub mod Adding
+pub mod Calling
 pub mod Answers
+pub mod NoGroundLost
 pub mod Sheets

@@ -1,7 +1,8 @@
--- What stages 1 to 4 say of sheet S and its neighbours, computed. Assumes nothing.
+-- What is answered to sheet S and its neighbours, computed. Assumes nothing.
 use mathlib.Core.List.{List, [], _∷_, map}
 use mathlib.Core.Path.{_≡_, refl}
 use Prim.Native.Nat.{ℕ}
+use lib.IntN.{pos, negsuc}
 use lib.ListN.{length, replicate}
 use Rattle.fields.specs.Place.{isInside, bytesAt, put}
 use Rattle.fields.specs.Number.{afterBlanks, digitsOf, plainOf, signedOf, numberOf, numberAt}
@@ -24,11 +25,20 @@ use Rattle.totals.specs.Totals.{sumsFrom, sumsBehind, meshTotals, layerTotals, 
 use Rattle.layers.specs.Naming.{wordsBefore, layerIn, names, namesLine, nodeOf, lineOf as lineNamed, areaOf}
 use Rattle.links.specs.Links.{equal, entryIs, some, nodeEntry, endNode, meets, repeatsNode, nodeSlot, nodeChecks, listed, linkFits, lineEndChecks, sideChecks, lineChecks, atNode, firstPointChecks, lastPointChecks, pointChecks, loopEntry, entryChecks, stageFour}
 use Rattle.layers.specs.Passing.{basesOf, layerAt}
-use Rattle.judge.specs.Rulebook.{late, rulesOf, verdictOf}
-use Rattle.judge.specs.Outcomes.{outcomeOf, tableAfter}
-use Rattle.judge.specs.Sheets.{written, mRecord, hRecord, nRecord, lRecord, points, aRecord, loopRecord, sheetS, changed, withMesh, cases, twoMeshes}
+use Rattle.measures.specs.Sum.{sum, upTo}
+use Rattle.measures.specs.Measures.{steps, lineMeasure, loopMeasure, areaMeasure}
+use Rattle.measures.specs.Points.{coordinateIn, pointIn, pointAt, pointCount, firstOf, linePoints, measureIn}
+use Rattle.entries.specs.Entries.{slotOf, entriesTo, recordsFor, countAt, loopsAt, recordsTo, slotsOf, loopAt, loopsTo}
+use Rattle.entries.specs.Loops.{measureOf, loopMeasureIn, areaMeasureIn}
+use Rattle.loops.specs.Loops.{repeatsArea, lastNode, entryBefore, joins, rightArea, loopSlot, winds, windChecks, firstRecord, areaRecord, loopChecks, stageFive}
+use Rattle.sides.specs.Sides.{lists, sideListed, listChecks, stageSix}
+use Rattle.ground.specs.Layers.{areaOfLayer, areasSum, leftOf, rightOf, outsideSum, measuresTo}
+use Rattle.judge.specs.Rulebook.{late, rulesOf, measureRule, layerRule, verdictOf, sumsVerdict}
+use Rattle.judge.specs.Outcomes.{outcomeOf, tableAfter, measuresOf, measuresAfter, sumsOf}
+use Rattle.judge.specs.declared.Outcome.{Outcome}
+use Rattle.judge.specs.Sheets.{written, mRecord, hRecord, nRecord, lRecord, points, aRecord, loopRecord, sheetS, changed, withMesh, Case, sheet, field, cases, twoMeshes, node, line, coordinates, area, loop, heads, sheetT, shore, sheetU, withoutHole, further}
 
--- what has to compute, under three names: a line that names one of them opens all that its own line names
+-- what has to compute, under four names: a line that names one of them opens all that its own line names
 
 -- how a sheet is written
 writing : Unit {0}
@@ -42,35 +52,78 @@ walking = tt
 
 -- the rules
 judging : Unit {0}
-unfolding walking isName isBlanks textAt layoutOf faultOf within isMeshCode followsMesh isLayerCode followsLayer isDate isNodeItem isFrame isLineItem isLineKind isLink isCode isSide isAreaCode isSlot isPoint isNext isLoopSerial from meshAsks layerAsks nodeAsks lineAsks coordinateAsks areaAsks loopAsks asksOf askedOf formChecks valueChecks along checksOf firstBroken block rows endChecks lengthChecks stageOne lastChecks stageTwo wordsOf roomRule early sumsFrom sumsBehind meshTotals layerTotals areaTotals stageThree gather tableOf numberIn spread wordsBefore layerIn names namesLine nodeOf lineNamed areaOf equal entryIs some nodeEntry endNode meets repeatsNode nodeSlot nodeChecks listed linkFits lineEndChecks sideChecks lineChecks atNode firstPointChecks lastPointChecks pointChecks loopEntry entryChecks layerAt stageFour basesOf late rulesOf verdictOf
+unfolding walking isName isBlanks textAt layoutOf faultOf within isMeshCode followsMesh isLayerCode followsLayer isDate isNodeItem isFrame isLineItem isLineKind isLink isCode isSide isAreaCode isSlot isPoint isNext isLoopSerial from meshAsks layerAsks nodeAsks lineAsks coordinateAsks areaAsks loopAsks asksOf askedOf formChecks valueChecks along checksOf firstBroken block rows endChecks lengthChecks stageOne lastChecks stageTwo wordsOf roomRule early sumsFrom sumsBehind meshTotals layerTotals areaTotals stageThree gather tableOf numberIn spread wordsBefore layerIn names namesLine nodeOf lineNamed areaOf equal entryIs some nodeEntry endNode meets repeatsNode nodeSlot nodeChecks listed linkFits lineEndChecks sideChecks lineChecks atNode firstPointChecks lastPointChecks pointChecks loopEntry entryChecks layerAt stageFour coordinateIn pointIn pointAt pointCount firstOf linePoints measureIn sum steps lineMeasure loopMeasure slotOf entriesTo recordsFor countAt loopsAt recordsTo slotsOf loopAt measureOf loopMeasureIn repeatsArea lastNode entryBefore joins rightArea loopSlot winds windChecks firstRecord areaRecord loopChecks stageFive lists sideListed listChecks stageSix basesOf late rulesOf measureRule verdictOf
 judging = tt
 
--- each file has the verdict that stands beside it, where the table has the six words that S needs
-pub sheets-judged : map (λ (c : List ℕ × Verdict). verdictOf (c .0) 6) cases ≡ map (λ (c : List ℕ × Verdict). c .1) cases
-unfolding writing judging cases
-sheets-judged = refl
+-- the figures
+measuring : Unit {0}
+unfolding areaMeasure loopsTo areaMeasureIn upTo areaOfLayer areasSum leftOf rightOf outsideSum measuresTo measuresOf measuresAfter layerRule sumsVerdict sumsOf
+measuring = tt
 
--- "Table: 2 1 1 1 4 6."; "9: table too short; the need is told"
+-- a refusal without a place, and the need that it tells
+abbrev refusedWith : ℕ → ℕ → Outcome
+refusedWith n need = record { number = n; place = 0; column = 0; meshes = 0; layers = 0; nodes = 0; lines = 0; areas = 0; records = 0; need = need }
+
+-- what a case says
+abbrev pub Holds : Case → Type 0
+Holds (sheet file v) = verdictOf file 6 1 ≡ v
+Holds (field text a) = numberAt text 1 5 ≡ a
+
+abbrev pub All : List Case → Type 0
+All [] = Unit {0}
+All (c ∷ cs) = Holds c × All cs
+
+-- 01's proved cases
+pub cases-hold : All cases
+unfolding writing judging cases
+cases-hold = (refl, (refl, (refl, (refl, (refl, (refl, (refl, (refl, (refl, (refl, (refl, (refl, (refl, (refl, (refl, tt)))))))))))))))
+
+-- each further file has the verdict that stands beside it
+pub further-judged : map (λ (c : List ℕ × Verdict). verdictOf (c .0) 12 2) further ≡ map (λ (c : List ℕ × Verdict). c .1) further
+unfolding writing judging further twoMeshes node line coordinates area loop heads sheetT shore sheetU withoutHole
+further-judged = refl
+
+-- "Table: 2 1 1 1 4 6."; the table of two meshes
 pub sheet-table :
     (length sheetS ≡ 518)
-    × (tableOf sheetS ≡ 2 ∷ 1 ∷ 1 ∷ 1 ∷ 4 ∷ 6 ∷ [])
     × (needOf sheetS ≡ 6)
-    × (outcomeOf sheetS 5 ≡ record { number = 9; place = 0; column = 0; need = 6 })
-unfolding writing judging walkedOf needOf outcomeOf
+    × (tableOf sheetS ≡ 2 ∷ 1 ∷ 1 ∷ 1 ∷ 4 ∷ 6 ∷ [])
+    × (tableOf twoMeshes ≡ 2 ∷ 1 ∷ 1 ∷ 1 ∷ 9 ∷ 1 ∷ 1 ∷ 1 ∷ 4 ∷ 11 ∷ 6 ∷ 13 ∷ [])
+unfolding writing judging walkedOf needOf twoMeshes
 sheet-table = (refl, refl, refl, refl)
+
+-- S is answered with its counts; with 9 and the need where the table is too short, with 19 where there is no place for the measure; a
+-- refused call counts nothing
+pub sheet-outcomes :
+    (outcomeOf sheetS 6 1 ≡ record { number = 0; place = 0; column = 0; meshes = 1; layers = 1; nodes = 1; lines = 1; areas = 1; records = 7; need = 0 })
+    × (outcomeOf sheetS 5 1 ≡ refusedWith 9 6)
+    × (outcomeOf sheetS 6 0 ≡ refusedWith 19 0)
+unfolding writing judging walkedOf needOf outcomeOf
+sheet-outcomes = (refl, refl, refl)
 
 -- "Refused with 1 to 9: untouched. Refused later, or accepted: the table stands in its first words, the rest untouched."
 pub sheet-words :
-    (tableAfter sheetS (replicate 5 99) ≡ replicate 5 99)
-    × (tableAfter sheetS (replicate 8 99) ≡ 2 ∷ 1 ∷ 1 ∷ 1 ∷ 4 ∷ 6 ∷ 99 ∷ 99 ∷ [])
-    × (tableAfter (withMesh 533945 1 6) (replicate 8 99) ≡ 2 ∷ 1 ∷ 1 ∷ 1 ∷ 4 ∷ 6 ∷ 99 ∷ 99 ∷ [])
+    (tableAfter sheetS 1 (replicate 5 99) ≡ replicate 5 99)
+    × (tableAfter sheetS 1 (replicate 8 99) ≡ 2 ∷ 1 ∷ 1 ∷ 1 ∷ 4 ∷ 6 ∷ 99 ∷ 99 ∷ [])
+    × (tableAfter sheetS 0 (replicate 8 99) ≡ 2 ∷ 1 ∷ 1 ∷ 1 ∷ 4 ∷ 6 ∷ 99 ∷ 99 ∷ [])
+    × (tableAfter (withMesh 533945 1 6) 1 (replicate 8 99) ≡ 2 ∷ 1 ∷ 1 ∷ 1 ∷ 4 ∷ 6 ∷ 99 ∷ 99 ∷ [])
 unfolding writing judging tableAfter
-sheet-words = (refl, refl, refl)
+sheet-words = (refl, refl, refl, refl)
 
--- two meshes: "after all rows every line's L record; then every area's A record"
-pub two-meshes :
-    (verdictOf twoMeshes 12 ≡ Fine)
-    × (verdictOf twoMeshes 11 ≡ Broken 9 0 0)
-    × (tableOf twoMeshes ≡ 2 ∷ 1 ∷ 1 ∷ 1 ∷ 9 ∷ 1 ∷ 1 ∷ 1 ∷ 4 ∷ 11 ∷ 6 ∷ 13 ∷ [])
-unfolding writing judging twoMeshes
-two-meshes = (refl, refl, refl)
+-- "Measure 200000000"; "only on acceptance; otherwise, and past them, it is untouched"; an area with a hole, and the one in it
+pub sheet-measures :
+    (measuresAfter sheetS 6 (pos 5 ∷ pos 6 ∷ []) ≡ pos 200000000 ∷ pos 6 ∷ [])
+    × (measuresAfter sheetS 5 (pos 5 ∷ pos 6 ∷ []) ≡ pos 5 ∷ pos 6 ∷ [])
+    × (measuresOf (sheetU 2 (negsuc 1 ∷ []) (pos 2 ∷ [])) ≡ pos 198000000 ∷ pos 2000000 ∷ [])
+unfolding writing judging measuring node line coordinates area loop heads shore sheetU
+sheet-measures = (refl, refl, refl)
+
+-- "and so are both sums"; "22: no such layer (1 is the file's first)"; no ground is lost in a hole
+pub sheet-sums :
+    (sumsOf sheetS 6 1 ≡ record { number = 0; place = 0; column = 0; areas = pos 200000000; outside = pos 200000000 })
+    × (sumsOf sheetS 6 0 ≡ record { number = 22; place = 0; column = 0; areas = pos 0; outside = pos 0 })
+    × (sumsOf sheetS 6 2 ≡ record { number = 22; place = 0; column = 0; areas = pos 0; outside = pos 0 })
+    × (sumsOf sheetS 5 1 ≡ record { number = 9; place = 0; column = 0; areas = pos 0; outside = pos 0 })
+    × (sumsOf (sheetU 2 (negsuc 1 ∷ []) (pos 2 ∷ [])) 8 1 ≡ record { number = 0; place = 0; column = 0; areas = pos 200000000; outside = pos 200000000 })
+unfolding writing judging measuring node line coordinates area loop heads shore sheetU
+sheet-sums = (refl, refl, refl, refl, refl)

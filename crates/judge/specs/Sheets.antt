@@ -1,13 +1,16 @@
--- The smallest sheet and its neighbours (document 01, the section of that name), and what stages 1 to 4 say of each. Assumes nothing.
+-- The smallest sheet and its neighbours (document 01, the section of that name), and what is answered to each. Assumes nothing.
 --   mRecord, .., loopRecord   a record of sheet S, as a function of what its neighbours change
 --   sheetS                    sheet S, 518 bytes
 --   changed k c bytes         S with these bytes in record k, from column c on; withMesh: with another M
---   cases                     S and its neighbours, each with its verdict
---   twoMeshes                 an accepted file of two meshes
+--   cases                     01's proved cases, each with its answer
+--   further                   more files, of each refusal
+--   twoMeshes, sheetT, sheetU accepted files: two meshes; two lines round one area; a lake in an area, with a hole for it
 use mathlib.Core.List.{List, [], _∷_, _++_}
 use Prim.Native.Nat.{ℕ, zero, suc, _+_, _-_, _*_}
 use lib.IntN.{ℤ, pos, negsuc}
-use lib.ListN.{take}
+use lib.ListN.{length, take}
+use Rattle.fields.specs.declared.Number.{Number}
+use Rattle.fields.specs.declared.Number.the-variants.{Value, Refused}
 use Rattle.fields.specs.Place.{put}
 use Rattle.fields.specs.Spelling.{spell}
 use Rattle.records.specs.declared.Kind.{Kind}
@@ -84,20 +87,119 @@ number n = spell 5 (pos n)
 abbrev pub withMesh : ℕ → ℕ → ℕ → List ℕ
 withMesh code layers records = changed 1 1 (mRecord code layers records)
 
--- 01's, in its order; where it names 16 or 17, stages 1 to 4 pass the file. Then further ones, by number
-unfoldable pub cases : List (List ℕ × Verdict)
+-- "Proved: ..": a sheet and the judge's verdict, where the lent buffers are long enough; or a field of width 5 and what it says
+pub data Case : Type 0 where
+  sheet : List ℕ → Verdict → Case
+  field : List ℕ → Number → Case
+
+-- in 01's order
+unfoldable pub cases : List Case
 cases =
-    (sheetS, Fine)  -- "S accepted"
-    ∷ (withMesh 533945 1 6, Broken 10 1 52)  -- "S with M records 6: 10 at 1,52"
-    ∷ (changed 3 1 (nRecord 1 0 2 (negsuc 0)), Broken 6 3 22)  -- "frame 0: 6 at 3,22"
-    ∷ (changed 3 1 (nRecord 1 1 1 (pos 0)), Broken 14 4 24)  -- "count 1: 14 at 4,24 (slot two 0)"
-    ∷ (changed 5 1 (points 1 0), Broken 12 5 41)  -- "last point (0,1): 12 at 5,41"
-    ∷ (changed 5 1 (points 0 7), Broken 6 5 51)  -- "sixth X 7: 6 at 5,51"
-    ∷ (changed 7 1 (loopRecord 1 (negsuc 0)), Fine)  -- "loop entry -1: 16 at 7,1"
-    ∷ (changed 4 1 (lRecord 13101 1 88888 0), Fine)  -- "left and right exchanged: 17 at 7,10"
-    ∷ (take (74 * 6) sheetS, Broken 4 7 1)  -- "without record 7: 4 at 7,1"
-    ∷ (changed 2 2 (49 ∷ []), Broken 7 2 1)  -- "H1: 7 at 2,1"
-    ∷ (withMesh 533985 1 7, Broken 6 1 3)  -- "mesh 533985: 6 at 1,3"
+    sheet sheetS Fine  -- "S accepted"
+    ∷ sheet (withMesh 533945 1 6) (Broken 10 1 52)  -- "S with M records 6: 10 at 1,52"
+    ∷ sheet (changed 3 1 (nRecord 1 0 2 (negsuc 0))) (Broken 6 3 22)  -- "frame 0: 6 at 3,22"
+    ∷ sheet (changed 3 1 (nRecord 1 1 1 (pos 0))) (Broken 14 4 24)  -- "count 1: 14 at 4,24 (slot two 0)"
+    ∷ sheet (changed 5 1 (points 1 0)) (Broken 12 5 41)  -- "last point (0,1): 12 at 5,41"
+    ∷ sheet (changed 5 1 (points 0 7)) (Broken 6 5 51)  -- "sixth X 7: 6 at 5,51"
+    ∷ sheet (changed 7 1 (loopRecord 1 (negsuc 0))) (Broken 16 7 1)  -- "loop entry -1: 16 at 7,1"
+    ∷ sheet (changed 4 1 (lRecord 13101 1 88888 0)) (Broken 17 7 10)  -- "left and right exchanged: 17 at 7,10"
+    ∷ sheet (take (74 * 6) sheetS) (Broken 4 7 1)  -- "without record 7: 4 at 7,1"
+    ∷ sheet (changed 2 2 (49 ∷ [])) (Broken 7 2 1)  -- "H1: 7 at 2,1"
+    ∷ sheet (withMesh 533985 1 7) (Broken 6 1 3)  -- "mesh 533985: 6 at 1,3"
+    ∷ field (32 ∷ 32 ∷ 32 ∷ 45 ∷ 49 ∷ []) (Value (negsuc 0))  -- width 5: "   -1" is -1
+    ∷ field (48 ∷ 48 ∷ 48 ∷ 48 ∷ 49 ∷ []) Refused  -- "00001" is 5
+    ∷ field (32 ∷ 32 ∷ 32 ∷ 45 ∷ 48 ∷ []) Refused  -- "   -0" is 5
+    ∷ field (32 ∷ 32 ∷ 32 ∷ 32 ∷ 32 ∷ []) Refused  -- five spaces are 5
+    ∷ []
+
+-- ---- further files
+
+-- "Meshes follow one another, codes strictly rising, first four digits all equal."
+unfoldable pub twoMeshes : List ℕ
+twoMeshes = sheetS ++ withMesh 533946 1 7
+
+-- a node: serial, X, Y, frame, and its two entries
+unfoldable pub node : ℕ → ℕ → ℕ → ℕ → ℤ → ℤ → List ℕ
+node serial x y frame first second = written Node (pos 1 ∷ pos 3 ∷ pos serial ∷ pos x ∷ pos y ∷ pos frame ∷ pos 2 ∷ first ∷ second ∷ [])
+
+-- a line of the layer's: item, serial, start node, end node, their link, left code and area, right code and area, points
+unfoldable pub line : ℕ → ℕ → ℕ → ℕ → ℕ → ℕ → ℕ → ℕ → ℕ → ℕ → List ℕ
+line item serial start end link leftCode left rightCode right count =
+    written Line (
+    pos 1 ∷ pos item ∷ pos serial ∷ pos item ∷ pos start ∷ pos link ∷ pos end ∷ pos link
+    ∷ pos leftCode ∷ pos left ∷ pos rightCode ∷ pos right ∷ pos count ∷ [])
+
+abbrev pub numbers : List ℕ → List ℤ
+numbers [] = []
+numbers (n ∷ ns) = pos n ∷ numbers ns
+
+unfoldable pub coordinates : List ℕ → List ℕ
+coordinates ns = written Coordinates (numbers ns)
+
+-- an area: code, serial, loops, lines
+unfoldable pub area : ℕ → ℕ → ℕ → ℕ → List ℕ
+area code serial loops lines = written Area (pos 1 ∷ pos code ∷ pos serial ∷ pos 5000 ∷ pos 5000 ∷ pos loops ∷ pos lines ∷ [])
+
+-- a loop record: serial, and its entries
+unfoldable pub loop : ℤ → List ℤ → List ℕ
+loop serial es = written Loop (serial ∷ pos (length es) ∷ es)
+
+-- a mesh and its layer: nodes, lines, areas, and the records behind the H
+unfoldable pub heads : ℕ → ℕ → ℕ → ℕ → List ℕ
+heads nodes lines areas behind =
+    written Mesh (pos 533945 ∷ pos 1 ∷ pos nodes ∷ pos lines ∷ pos areas ∷ pos 0 ∷ pos (2 + behind) ∷ [])
+    ++ written Layer (pos 1 ∷ pos nodes ∷ pos lines ∷ pos areas ∷ pos 0 ∷ pos (1 + behind) ∷ pos 0 ∷ pos 0 ∷ [])
+
+-- sheet T: the frame is cut at two corners into two lines, and the area's loop has the entries es
+unfoldable pub sheetT : List ℤ → List ℕ
+sheetT es =
+    heads 2 2 1 8
+    ++ (node 1 0 0 1 (pos 1) (negsuc 1)
+    ++ (node 2 10000 10000 1 (pos 2) (negsuc 0)
+    ++ (line 9 1 1 2 2 88888 0 13101 1 3
+    ++ (coordinates (0 ∷ 0 ∷ 0 ∷ 10000 ∷ 10000 ∷ 10000 ∷ [])
+    ++ (line 9 2 2 1 2 88888 0 13101 1 3
+    ++ (coordinates (10000 ∷ 10000 ∷ 10000 ∷ 0 ∷ 0 ∷ 0 ∷ [])
+    ++ (area 13101 1 1 (length es)
+    ++ loop (pos 1) es)))))))
+
+-- the frame as one line with area 1 on its right, and a shore within it with area 1 on its left; the shore's right area
+unfoldable pub shore : ℕ → List ℕ
+shore right =
+    node 1 0 0 1 (pos 1) (negsuc 0)
+    ++ (node 2 1000 1000 0 (pos 2) (negsuc 1)
+    ++ (line 9 1 1 1 2 88888 0 13101 1 5
+    ++ (coordinates (0 ∷ 0 ∷ 0 ∷ 10000 ∷ 10000 ∷ 10000 ∷ 10000 ∷ 0 ∷ 0 ∷ 0 ∷ [])
+    ++ (line 1 2 2 2 0 13101 1 13102 right 5
+    ++ coordinates (1000 ∷ 1000 ∷ 1000 ∷ 2000 ∷ 2000 ∷ 2000 ∷ 2000 ∷ 1000 ∷ 1000 ∷ 1000 ∷ [])))))
+
+-- sheet U: an area with a hole, and the area in the hole, with the entries of the hole's loop and of the inner area's
+unfoldable pub sheetU : ℕ → List ℤ → List ℤ → List ℕ
+sheetU right hole inner =
+    heads 2 2 2 11
+    ++ (shore right
+    ++ (area 13101 1 2 (1 + length hole)
+    ++ (loop (pos 1) (pos 1 ∷ [])
+    ++ (loop (negsuc 1) hole
+    ++ (area 13102 2 1 (length inner)
+    ++ loop (pos 1) inner)))))
+
+-- U without its hole: the ground in it is counted double
+unfoldable pub withoutHole : List ℕ
+withoutHole =
+    heads 2 2 2 10
+    ++ (shore 2
+    ++ (area 13101 1 1 1
+    ++ (loop (pos 1) (pos 1 ∷ [])
+    ++ (area 13102 2 1 1
+    ++ loop (pos 1) (pos 2 ∷ [])))))
+
+-- more files, by number; the buffers are long enough
+unfoldable pub further : List (List ℕ × Verdict)
+further =
+    (twoMeshes, Fine)
+    ∷ (sheetT (pos 1 ∷ pos 2 ∷ []), Fine)
+    ∷ (sheetU 2 (negsuc 1 ∷ []) (pos 2 ∷ []), Fine)
     ∷ ([], Broken 1 1 1)  -- no byte
     ∷ (sheetS ++ (32 ∷ []), Broken 1 8 1)  -- one byte more
     ∷ (changed 3 74 (32 ∷ []), Broken 2 3 74)  -- byte 74 of record 3 a space
@@ -119,8 +221,9 @@ cases =
     ∷ (changed 4 40 (number 13102), Broken 12 4 40)  -- a code unlike its area's
     ∷ (changed 5 1 (number 1), Broken 12 5 1)  -- the first point (1,0)
     ∷ (changed 3 31 (number 1), Broken 13 3 31)  -- the same entry twice
+    ∷ (sheetU 2 (pos 1 ∷ negsuc 1 ∷ negsuc 1 ∷ negsuc 0 ∷ []) (pos 2 ∷ []), Broken 13 11 10)  -- an entry of the area's first loop again in its second
+    ∷ (sheetT (pos 1 ∷ pos 1 ∷ []), Broken 15 10 10)  -- line 1 doesn't begin where line 1 ends
+    ∷ (sheetU 1 (negsuc 1 ∷ []) (pos 2 ∷ []), Broken 12 7 40)  -- the shore's right area has another code
+    ∷ (sheetU 2 (negsuc 1 ∷ []) (pos 1 ∷ []), Broken 17 13 10)  -- the frame in the inner area, which is not its right
+    ∷ (withoutHole, Broken 18 7 35)  -- the shore's left area doesn't list it
     ∷ []
-
--- "Meshes follow one another, codes strictly rising, first four digits all equal."
-unfoldable pub twoMeshes : List ℕ
-twoMeshes = sheetS ++ withMesh 533946 1 7

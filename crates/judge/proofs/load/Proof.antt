@@ -1,60 +1,86 @@
--- `judge::load` meets its contract: a refusal up to 9 stands, and behind none of them the later stages speak. Assumes nothing.
+-- `judge::load` meets its contract: a refusal of the stages stands, then too few places are refused, and else the measures are filled in.
+-- Assumes nothing.
 use mathlib.Core.Path.{refl, sym}
 use lib.Seq.{length-take-le}
-use Rattle.judge.proofs.Loading.{early-outcome, early-table, all-counts, words-fit, words-are, late-outcome, late-table}
+use Rattle.judge.proofs.Loading.{counts-few}
+use Rattle.judge.proofs.Calling.{judged-countable, outcome-refused, table-refused, measures-refused, judged-counts, judged-fit, judged-words, outcome-short, table-short, measures-short, fillable, outcome-kept, table-kept, measures-kept}
 use borrow.Author.Needs.{needs}
 use Rattle.judge.proofs.load.Statement.{statement}
 use Rattle.judge.proofs.load.Tie as tie
 
-fill-table-requires : tie.Need-fill-table-requires
-fill-table-requires c κs = search needs
+judge-file-requires : tie.Need-judge-file-requires
+judge-file-requires c κs = search needs
+
+records-of-requires : tie.Need-records-of-requires
+records-of-requires c κs = search needs
 
 enum-told : tie.Need-enum-told
 enum-told c = search needs
 
 outcome-of-requires : tie.Need-outcome-of-requires
-outcome-of-requires c κs = search needs
+outcome-of-requires c κs = (judged-countable _ _ (c .before .before .before .before .before .before .judge-file .ensures .0), c .before .before .records-of .ensures .1)
 
 same-length : tie.Need-same-length
 same-length c = search needs
 
 returns : tie.Need-returns
-returns c = (early-outcome _ _ (c .before .before .before .before .before .before .fill-table .ensures .0) (c .before .enum-told .given .1) (c .outcome-of .ensures), early-table _ _ (c .before .before .before .before .before .before .fill-table .ensures .0) (c .before .enum-told .given .1) _ _ refl (c .before .before .before .before .before .before .fill-table .ensures .1))
+returns c = (outcome-refused _ _ (c .before .before .before .before .before .before .before .judge-file .ensures .0) (c .before .enum-told .given .1) _ _ (c .outcome-of .ensures), table-refused _ _ (c .before .before .before .before .before .before .before .judge-file .ensures .0) (c .before .enum-told .given .1) _ _ refl (c .before .before .before .before .before .before .before .judge-file .ensures .1), measures-refused _ _ (c .before .before .before .before .before .before .before .judge-file .ensures .0) (c .before .enum-told .given .1) _ _ refl)
 
 enum-told-2 : tie.Need-enum-told-2
 enum-told-2 c = search needs
 
-slice-reshare-prefix-judge-late : tie.Need-slice-reshare-prefix-judge-late
-slice-reshare-prefix-judge-late c = words-fit _ _ (c .before .before .before .before .before .fill-table .ensures .0) (c .enum-told2 .given .1) _ _ (c .before .before .before .before .before .fill-table .ensures .1)
-
-slice-aggregate-judge-late : tie.Need-slice-aggregate-judge-late
-slice-aggregate-judge-late c = sym (length-take-le _ _ (words-fit _ _ (c .before .before .before .before .before .before .fill-table .ensures .0) (c .before .enum-told2 .given .1) _ _ (c .before .before .before .before .before .before .fill-table .ensures .1)))
-
-judge-late-requires : tie.Need-judge-late-requires
-judge-late-requires c κs = (words-are _ _ (c .before .before .before .before .before .before .fill-table .ensures .0) (c .before .enum-told2 .given .1) _ _ (c .before .before .before .before .before .before .fill-table .ensures .1), all-counts _ _ (c .before .before .before .before .before .before .fill-table .ensures .0) (c .before .enum-told2 .given .1))
-
 outcome-of-requires-2 : tie.Need-outcome-of-requires-2
-outcome-of-requires-2 c κs = search needs
+outcome-of-requires-2 c κs = (judged-countable _ _ (c .before .before .before .before .before .before .before .before .judge-file .ensures .0), c .before .before .before .before .records-of .ensures .1)
 
 same-length-2 : tie.Need-same-length-2
 same-length-2 c = search needs
 
 returns-2 : tie.Need-returns-2
-returns-2 c = (late-outcome _ _ (c .before .before .before .before .before .before .before .before .fill-table .ensures .0) (c .before .before .before .enum-told2 .given .1) (c .before .judge-late .ensures) (c .outcome-of2 .ensures), late-table _ _ (c .before .before .before .before .before .before .before .before .fill-table .ensures .0) (c .before .before .before .enum-told2 .given .1) (c .before .judge-late .ensures) _ _ refl (c .before .before .before .before .before .before .before .before .fill-table .ensures .1))
+returns-2 c = (outcome-short _ _ (c .before .before .before .before .before .before .before .before .before .judge-file .ensures .0) (c .before .before .before .enum-told2 .given .1) _ (c .before .if1 .taken) 0 refl (c .outcome-of2 .ensures), table-short _ _ (c .before .before .before .before .before .before .before .before .before .judge-file .ensures .0) (c .before .before .before .enum-told2 .given .1) _ (c .before .if1 .taken) _ refl (c .before .before .before .before .before .before .before .before .before .judge-file .ensures .1), measures-short _ _ (c .before .before .before .before .before .before .before .before .before .judge-file .ensures .0) (c .before .before .before .enum-told2 .given .1) _ (c .before .if1 .taken) _ refl)
+
+slice-reshare-prefix-fill-measures : tie.Need-slice-reshare-prefix-fill-measures
+slice-reshare-prefix-fill-measures c = judged-fit _ _ (c .before .before .before .before .before .before .before .before .judge-file .ensures .0) (c .before .before .enum-told2 .given .1) _ refl (c .before .before .before .before .before .before .before .before .judge-file .ensures .1)
+
+slice-aggregate-fill-measures : tie.Need-slice-aggregate-fill-measures
+slice-aggregate-fill-measures c = sym (length-take-le _ _ (judged-fit _ _ (c .before .before .before .before .before .before .before .before .before .judge-file .ensures .0) (c .before .before .before .enum-told2 .given .1) _ refl (c .before .before .before .before .before .before .before .before .before .judge-file .ensures .1)))
+
+bases-of-requires : tie.Need-bases-of-requires
+bases-of-requires c κs = counts-few _ (judged-counts _ _ (c .before .before .before .before .before .before .before .before .before .judge-file .ensures .0) (c .before .before .before .enum-told2 .given .1))
+
+fill-measures-requires : tie.Need-fill-measures-requires
+fill-measures-requires c κs = fillable _ _ (c .before .before .before .before .before .before .before .before .before .before .before .judge-file .ensures .0) (c .before .before .before .before .before .enum-told2 .given .1) _ (c .before .before .before .if1 .left) (judged-words _ _ (c .before .before .before .before .before .before .before .before .before .before .before .judge-file .ensures .0) (c .before .before .before .before .before .enum-told2 .given .1) _ refl (c .before .before .before .before .before .before .before .before .before .before .before .judge-file .ensures .1)) (c .before .bases-of .ensures)
+
+outcome-of-requires-3 : tie.Need-outcome-of-requires-3
+outcome-of-requires-3 c κs = (judged-countable _ _ (c .before .before .before .before .before .before .before .before .before .before .before .before .before .judge-file .ensures .0), c .before .before .before .before .before .before .before .before .before .records-of .ensures .1)
+
+same-length-3 : tie.Need-same-length-3
+same-length-3 c = search needs
+
+same-length-4 : tie.Need-same-length-4
+same-length-4 c = search needs
+
+returns-3 : tie.Need-returns-3
+returns-3 c = (outcome-kept _ _ (c .before .before .before .before .before .before .before .before .before .before .before .before .before .before .judge-file .ensures .0) (c .before .before .before .before .before .before .before .before .enum-told2 .given .1) _ (c .before .before .before .before .before .before .if1 .left) (c .before .before .before .before .before .before .before .before .before .before .records-of .ensures .0) (c .outcome-of3 .ensures), table-kept _ _ (c .before .before .before .before .before .before .before .before .before .before .before .before .before .before .judge-file .ensures .0) (c .before .before .before .before .before .before .before .before .enum-told2 .given .1) _ (c .before .before .before .before .before .before .if1 .left) _ refl (c .before .before .before .before .before .before .before .before .before .before .before .before .before .before .judge-file .ensures .1), measures-kept _ _ (c .before .before .before .before .before .before .before .before .before .before .before .before .before .before .judge-file .ensures .0) (c .before .before .before .before .before .before .before .before .enum-told2 .given .1) _ (c .before .before .before .before .before .before .if1 .left) (judged-words _ _ (c .before .before .before .before .before .before .before .before .before .before .before .before .before .before .judge-file .ensures .0) (c .before .before .before .before .before .before .before .before .enum-told2 .given .1) _ refl (c .before .before .before .before .before .before .before .before .before .before .before .before .before .before .judge-file .ensures .1)) (c .before .before .before .before .bases-of .ensures) _ refl (c .before .before .fill-measures .ensures))
 
 pub load-spec : {M : Type 1} → statement M
 load-spec =
     tie.close
     (tie.spec
-    fill-table-requires
+    judge-file-requires
+    records-of-requires
     enum-told
     outcome-of-requires
     same-length
     returns
     enum-told-2
-    slice-reshare-prefix-judge-late
-    slice-aggregate-judge-late
-    judge-late-requires
     outcome-of-requires-2
     same-length-2
-    returns-2)
+    returns-2
+    slice-reshare-prefix-fill-measures
+    slice-aggregate-fill-measures
+    bases-of-requires
+    fill-measures-requires
+    outcome-of-requires-3
+    same-length-3
+    same-length-4
+    returns-3)

@@ -1,0 +1,220 @@
+-- Measures added up one by one, and stored one behind the other. What the machine adds is the sum, since each of the partial sums fits.
+-- Assumes nothing.
+use mathlib.Core.Bool.{Bool, true, false, cond, false≢true}
+use mathlib.Core.List.{List, [], _∷_}
+use mathlib.Core.Logic.{⊎-elim}
+use mathlib.Core.Path.{_≡_, refl, sym, _∙_, ap, ap₂}
+use Prim.Native.Nat.{ℕ, zero, suc, _+_, _^_, _≤_, _<_}
+use native.Mathlib.Nat.{eq-or-lt-of-le}
+use native.Mathlib.Numerals.{add-one}
+use native.Mathlib.Omega.{arith}
+use lib.Dec.{eqb}
+use lib.IntN.{ℤ, pos, negℤ, _+ℤ_, _-ℤ_, +ℤ-idr}
+use lib.ListN.{length, getD, set, length-append}
+use lib.Seq.{sets}
+use lib.Signed.{mag}
+use mir.Facts.{toZ-ofZ, toZ-pos}
+use mir.Syntax.{w32, w64}
+use mir.Val.{SFits, toZ, ofZ, hbits}
+use borrow.Author.Tests.{le-leb}
+use Rattle.records.specs.View.{numberIn}
+use Rattle.records.proofs.Along.{sets-append}
+use Rattle.rules.specs.Permitted.{size, same}
+use Rattle.walk.proofs.Stores.{more-filled, filled-length}
+use Rattle.links.specs.Links.{isZero}
+use Rattle.links.proofs.Numbers.{told}
+use Rattle.measures.specs.Sum.{sum, sumTo}
+use Rattle.measures.specs.Walks.{Small}
+use Rattle.measures.specs.Measures.{areaMeasure}
+use Rattle.measures.specs.Points.{firstOf}
+use Rattle.measures.proofs.SumLaws.{sum-append, sumTo-more}
+use Rattle.measures.proofs.Bounds.{fits-by, read-back, zero-minus}
+use Rattle.layers.specs.declared.Bases.{Bases}
+use Rattle.layers.specs.declared.Layer.{Layer}
+use Rattle.layers.specs.Naming.{rowWord, wordsBefore, layerIn, lineOf, areaOf}
+use Rattle.layers.proofs.Laid.{words-more, area-named}
+use Rattle.entries.specs.Entries.{loopsAt, loopsTo, recordsTo}
+use Rattle.entries.specs.Loops.{measureOf, loopMeasureIn, areaMeasureIn}
+use Rattle.entries.specs.Keeping.{Kept}
+use Rattle.entries.proofs.Summing.{most, turned-fits}
+use Rattle.ground.specs.Layers.{areaOfLayer, leftOf, rightOf, measuresTo}
+use Rattle.judge.specs.Measuring.{Fits, Measurable, outsideAt, Summable, Fillable, filledTo}
+
+-- ---- lists
+
+first-many : {A : Type 0} (g : ℕ → A) (n : ℕ) → length (firstOf g n) ≡ n
+unfolding firstOf
+first-many g zero = refl
+first-many g (suc n) = rw (length-append, first-many g n) (omega arith)
+
+first-stored : (g : ℕ → ℤ) (ms : List ℤ) (at a : ℕ) → set (sets ms at (firstOf g a)) (at + a) (g a) ≡ sets ms at (firstOf g (a + 1))
+unfolding firstOf
+first-stored g ms at a =
+    let e = sets-append ms at (firstOf g a) (g a ∷ []) in
+    rw (add-one, e, first-many g a)
+
+-- ---- the two sides of a line
+
+both-or-none : (a b : Bool) (z : ℤ) → same a b ≡ true → pos 0 ≡ cond a (cond b (pos 0) z) (cond b (negℤ z) (pos 0))
+both-or-none true true z h = refl
+both-or-none true false z h = absurd (false≢true h)
+both-or-none false true z h = absurd (false≢true h)
+both-or-none false false z h = refl
+
+left-alone : (a b : Bool) (z : ℤ) → same a b ≡ false → a ≡ true → z ≡ cond a (cond b (pos 0) z) (cond b (negℤ z) (pos 0))
+left-alone true true z h p = absurd (false≢true (sym h))
+left-alone true false z h p = refl
+left-alone false b z h p = absurd (false≢true p)
+
+right-alone : (a b : Bool) (z : ℤ) → same a b ≡ false → a ≡ false → negℤ z ≡ cond a (cond b (pos 0) z) (cond b (negℤ z) (pos 0))
+right-alone true b z h p = absurd (false≢true (sym p))
+right-alone false true z h p = refl
+right-alone false false z h p = absurd (false≢true (sym h))
+
+-- ---- a sum that goes on
+
+-- the answer z, added to the sum x, fits, and n is the sum then
+pub record Added (x z n : ℤ) : Type 0 where
+  pub fits : SFits w64 (x +ℤ toZ w64 (ofZ w64 z))
+  pub is : toZ w64 (ofZ w64 (x +ℤ toZ w64 (ofZ w64 z))) ≡ n
+
+added : {x z n s y : ℤ} → mag z < 2 ^ hbits w64 → z ≡ y → x ≡ s → n ≡ s +ℤ y → Fits n → Added x z n
+added {x} {z} {n} g e p t f =
+    let b : x +ℤ toZ w64 (ofZ w64 z) ≡ n = ap₂ _+ℤ_ p (toZ-ofZ {w = w64} (record { sfits = g }) ∙ e) ∙ sym t in
+    let h : SFits w64 (x +ℤ toZ w64 (ofZ w64 z)) = rw b (fits-by f tt) in
+    record { fits = h; is = toZ-ofZ h ∙ b }
+
+-- f (i + 1) behind the first i
+pub sum-added : (f : ℕ → ℤ) (n i : ℕ) {x z : ℤ} → ((j : ℕ) → j ≤ n → Fits (sumTo j f)) → i < n → x ≡ sumTo i f → mag z < 2 ^ hbits w64 → z ≡ f (suc i) → Added x z (sumTo (i + 1) f)
+sum-added f n i h l p g e = added g e p (rw add-one (sumTo-more i f)) (h (i + 1) (omega arith))
+
+module _ (file t : List ℕ) (l : Layer) where
+  -- ---- loops
+
+  area-more : (a i : ℕ) → areaMeasure (measureOf file t l) (loopsTo file a (i + 1)) ≡ areaMeasure (measureOf file t l) (loopsTo file a i) +ℤ loopMeasureIn file t l (a + 1 + recordsTo file a i)
+  unfolding areaMeasure loopsTo loopMeasureIn sum
+  area-more a i = rw (add-one, sum-append, +ℤ-idr)
+
+  -- the measure z of the loop whose first record is f, behind the first i loops
+  pub loop-added : (a i : ℕ) {f : ℕ} {x z : ℤ} → Measurable file t l a → i < loopsAt file a → f ≡ a + 1 + recordsTo file a i → x ≡ areaMeasure (measureOf file t l) (loopsTo file a i)
+      → mag z < 2 ^ hbits w64 → z ≡ loopMeasureIn file t l f
+      → Added x z (areaMeasure (measureOf file t l) (loopsTo file a (i + 1)))
+  loop-added a i m h q p g e = added g (e ∙ ap (loopMeasureIn file t l) q) p (area-more a i) (m .fits (i + 1) (omega arith))
+
+  -- ---- areas
+
+  -- area a, counted from 0, whose A is record r
+  module _ {a r : ℕ} (h : a < l .areas) (e : r ≡ getD t (l .area + a) 0) where
+    record-is : r ≡ areaOf t l (pos (suc a))
+    record-is = e ∙ sym (area-named t l a h)
+
+    pub area-measurable : Summable file t l → Measurable file t l r
+    area-measurable s = rw record-is (s .each (suc a) (omega arith) h)
+
+    pub area-told : {z : ℤ} → z ≡ areaMeasureIn file t l r → z ≡ areaOfLayer file t l (suc a)
+    unfolding areaOfLayer
+    area-told p = p ∙ ap (areaMeasureIn file t l) record-is
+
+    -- the area's measure z, stored behind those of the areas before it
+    pub area-stored : (entry : List ℤ) (at : ℕ) {ms : List ℤ} {z : ℤ} → ms ≡ sets entry at (firstOf (λ a. areaOfLayer file t l (suc a)) a) → mag z < 2 ^ hbits w64 → z ≡ areaMeasureIn file t l r
+        → set ms (at + a) (toZ w64 (ofZ w64 z)) ≡ sets entry at (firstOf (λ a. areaOfLayer file t l (suc a)) (a + 1))
+    area-stored entry at p g q =
+        ap₂ (λ (ms : List ℤ) (z : ℤ). set ms (at + a) z) p (toZ-ofZ {w = w64} (record { sfits = g }) ∙ area-told q)
+        ∙ first-stored (λ a. areaOfLayer file t l (suc a)) entry at a
+
+  -- ---- the outside
+
+  -- whether line n's left and right area are 0
+  pub record Sided (n : ℕ) (a b : Bool) : Type 0 where
+    pub left : a ≡ eqb (leftOf file t l n) 0
+    pub right : b ≡ eqb (rightOf file t l n) 0
+
+  pub sided : (n : ℕ) {r : ℕ} {x y : ℤ} {a b : Bool} → n ≤ 9999 → r ≡ lineOf t l (toZ w32 n) → mag x < 2 ^ hbits w32 → x ≡ numberIn file r 35 5 → a ≡ isZero (toZ w32 (ofZ w32 x))
+      → mag y < 2 ^ hbits w32 → y ≡ numberIn file r 45 5 → b ≡ isZero (toZ w32 (ofZ w32 y))
+      → Sided n a b
+  unfolding leftOf rightOf
+  sided n h e f p u g q v =
+      let w = e ∙ ap (lineOf t l) (toZ-pos w32 {n = n} (omega arith)) in
+      record { left = told isZero f (p ∙ ap (λ r. numberIn file r 35 5) w) u; right = told isZero g (q ∙ ap (λ r. numberIn file r 45 5) w) v }
+
+  -- the answer s says whether both are 0, or neither
+  module _ (n : ℕ) {a b s : Bool} (d : Sided n a b) (e : s ≡ same a b) where
+    pub outside-none : s ≡ true → pos 0 ≡ outsideAt file t l n
+    unfolding outsideAt
+    outside-none h = rw (← d .left, ← d .right) (both-or-none a b _ (sym e ∙ h))
+
+    pub outside-left : {m : ℤ} → s ≡ false → a ≡ true → m ≡ measureOf file t l n → m ≡ outsideAt file t l n
+    unfolding outsideAt
+    outside-left h p q = q ∙ rw (← d .left, ← d .right) (left-alone a b _ (sym e ∙ h) p)
+
+    pub outside-right : {m : ℤ} → s ≡ false → a ≡ false → m ≡ negℤ (measureOf file t l n) → m ≡ outsideAt file t l n
+    unfolding outsideAt
+    outside-right h p q = q ∙ rw (← d .left, ← d .right) (right-alone a b _ (sym e ∙ h) p)
+
+  -- the answer m of `line_measure` about line n, passed on, or taken away
+  module _ (n : ℕ) {ms : List ℤ} {m : ℤ} (h : n ≤ 9999) (k : Kept file t l ms) (p : (Small most m) × (Kept file t l ms → m ≡ measureOf file t l (size (toZ w32 n)))) where
+    measure-is : m ≡ measureOf file t l n
+    measure-is = p .1 k ∙ ap (λ v. measureOf file t l (size v)) (toZ-pos w32 {n = n} (omega arith))
+
+    pub measure-passed : toZ w64 (ofZ w64 m) ≡ measureOf file t l n
+    measure-passed = read-back w64 (p .0) tt ∙ measure-is
+
+    pub measure-turned : toZ w64 (ofZ w64 (pos 0 -ℤ toZ w64 (ofZ w64 m))) ≡ negℤ (measureOf file t l n)
+    measure-turned = toZ-ofZ (turned-fits (p .0)) ∙ rw measure-passed (zero-minus (measureOf file t l n))
+
+-- ---- layers
+
+module _ (t : List ℕ) (b : Bases) where
+  -- a row that a file can have is a layer
+  row-areas : (i : ℕ) → i ≤ 6399936 → layerIn t b i .areas ≡ rowWord t i 3
+  unfolding layerIn
+  row-areas i h = rw (le-leb i 6399936 h)
+
+  -- the areas of the layers before row i and its own are some of those of n rows
+  areas-more : (i n : ℕ) → i < n → n ≤ 6399936 → wordsBefore t 3 i + layerIn t b i .areas ≤ wordsBefore t 3 n
+  areas-more i n h f = rw (row-areas i (omega arith)) (words-more t 3 i n h)
+
+  words-up : (i n : ℕ) → i ≤ n → n ≤ 6399936 → wordsBefore t 3 i ≤ wordsBefore t 3 n
+  words-up i n h f = ⊎-elim (λ e. rw e (omega arith)) (λ l. omega (arith, areas-more i n l f)) (eq-or-lt-of-le h)
+
+  module _ (file : List ℕ) where
+    measures-many : (n : ℕ) → n ≤ 6399936 → length (measuresTo file t b n) ≡ wordsBefore t 3 n
+    unfolding measuresTo wordsBefore
+    measures-many zero h = refl
+    measures-many (suc n) h = rw (length-append, measures-many n (omega arith), first-many, row-areas n (omega arith))
+
+    filled-many : (n : ℕ) (ms : List ℤ) → n ≤ 6399936 → wordsBefore t 3 n ≤ length ms → length (filledTo file t b n ms) ≡ length ms
+    unfolding filledTo
+    filled-many n ms h f = filled-length (measuresTo file t b n) ms (rw (measures-many n h) f)
+
+    -- a layer's measures behind those of the layers before it
+    layer-filled : (i : ℕ) (ms : List ℤ) → i < 6399936 → wordsBefore t 3 i + layerIn t b i .areas ≤ length ms
+        → sets (filledTo file t b i ms) (wordsBefore t 3 i) (firstOf (λ a. areaOfLayer file t (layerIn t b i) (suc a)) (layerIn t b i .areas)) ≡ filledTo file t b (i + 1) ms
+    unfolding filledTo measuresTo
+    layer-filled i ms h f =
+        rw (add-one, ← measures-many i (omega arith))
+        (more-filled (measuresTo file t b i) (firstOf (λ a. areaOfLayer file t (layerIn t b i) (suc a)) (layerIn t b i .areas)) ms
+        (rw (measures-many i (omega arith), first-many) f))
+
+    pub none-filled : (ms : List ℤ) → ms ≡ filledTo file t b 0 ms
+    unfolding filledTo measuresTo
+    none-filled ms = refl
+
+    -- the first i of n layers are filled into what held `entry`; l is the next one
+    module _ (n i : ℕ) (entry : List ℤ) {at : ℕ} {ms : List ℤ} (f : Fillable file t b n (length entry)) (p : at ≡ wordsBefore t 3 i) (q : ms ≡ filledTo file t b i entry) where
+      pub same-many : i ≤ n → length ms ≡ length entry
+      same-many h = rw q (filled-many i entry (omega (arith, f .few)) (omega (arith, words-up i n h (f .few), f .places)))
+
+      module _ {l : Layer} (h : i < n) (e : l ≡ layerIn t b i) where
+        pub room : at + l .areas ≤ length ms
+        room = rw (p, e, same-many (omega arith)) (omega (arith, areas-more i n h (f .few), f .places))
+
+        pub layer-summable : Summable file t l
+        layer-summable = rw e (f .sums i h)
+
+        pub at-more : at + l .areas ≡ wordsBefore t 3 (i + 1)
+        unfolding wordsBefore
+        at-more = rw (add-one, p, e, row-areas i (omega (arith, f .few)))
+
+        pub layer-put : {out : List ℤ} → out ≡ sets ms at (firstOf (λ a. areaOfLayer file t l (suc a)) (l .areas)) → out ≡ filledTo file t b (i + 1) entry
+        layer-put o = o ∙ rw (q, p, e) (layer-filled i entry (omega (arith, f .few)) (omega (arith, areas-more i n h (f .few), f .places)))

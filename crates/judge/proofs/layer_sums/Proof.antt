@@ -1,0 +1,82 @@
+-- `judge::layer_sums` meets its contract: a refusal of the stages stands, then a layer that is not there is refused, and else its sums are
+-- told. Assumes nothing.
+use mathlib.Core.Path.{refl, sym}
+use lib.Seq.{length-take-le}
+use Rattle.judge.proofs.Loading.{counts-few}
+use Rattle.judge.proofs.Calling.{sums-refused, table-sums-refused, judged-counts, judged-fit, judged-words, sums-none, table-none, layer-there, table-there, layer-summable, sums-there}
+use borrow.Author.Needs.{needs}
+use Rattle.judge.proofs.layer_sums.Statement.{statement}
+use Rattle.judge.proofs.layer_sums.Tie as tie
+
+judge-file-requires : tie.Need-judge-file-requires
+judge-file-requires c κs = search needs
+
+enum-told : tie.Need-enum-told
+enum-told c = search needs
+
+no-sums-requires : tie.Need-no-sums-requires
+no-sums-requires c κs = search needs
+
+same-length : tie.Need-same-length
+same-length c = search needs
+
+returns : tie.Need-returns
+returns c = (sums-refused _ _ (c .before .before .before .before .before .before .judge-file .ensures .0) (c .before .enum-told .given .1) _ (c .no-sums .ensures), table-sums-refused _ _ (c .before .before .before .before .before .before .judge-file .ensures .0) (c .before .enum-told .given .1) _ _ refl (c .before .before .before .before .before .before .judge-file .ensures .1))
+
+enum-told-2 : tie.Need-enum-told-2
+enum-told-2 c = search needs
+
+no-sums-requires-2 : tie.Need-no-sums-requires-2
+no-sums-requires-2 c κs = search needs
+
+same-length-2 : tie.Need-same-length-2
+same-length-2 c = search needs
+
+returns-2 : tie.Need-returns-2
+returns-2 c = (sums-none _ _ (c .before .before .before .before .before .before .before .before .judge-file .ensures .0) (c .before .before .before .enum-told2 .given .1) _ (c .before .if1 .taken) refl (c .no-sums2 .ensures), table-none _ _ (c .before .before .before .before .before .before .before .before .judge-file .ensures .0) (c .before .before .before .enum-told2 .given .1) _ (c .before .if1 .taken) _ refl (c .before .before .before .before .before .before .before .before .judge-file .ensures .1))
+
+slice-reshare-prefix-words : tie.Need-slice-reshare-prefix-words
+slice-reshare-prefix-words c = judged-fit _ _ (c .before .before .before .before .before .before .before .judge-file .ensures .0) (c .before .before .enum-told2 .given .1) _ refl (c .before .before .before .before .before .before .before .judge-file .ensures .1)
+
+slice-aggregate-words : tie.Need-slice-aggregate-words
+slice-aggregate-words c = sym (length-take-le _ _ (judged-fit _ _ (c .before .before .before .before .before .before .before .before .judge-file .ensures .0) (c .before .before .before .enum-told2 .given .1) _ refl (c .before .before .before .before .before .before .before .before .judge-file .ensures .1)))
+
+bases-of-requires : tie.Need-bases-of-requires
+bases-of-requires c κs = counts-few _ (judged-counts _ _ (c .before .before .before .before .before .before .before .before .judge-file .ensures .0) (c .before .before .before .enum-told2 .given .1))
+
+sub-layer-in : tie.Need-sub-layer-in
+sub-layer-in c = layer-there _ _ (c .before .before .before .before .before .before .before .before .before .judge-file .ensures .0) (c .before .before .before .before .enum-told2 .given .1) _ (c .before .before .if1 .left) .0
+
+layer-in-requires : tie.Need-layer-in-requires
+layer-in-requires c κs = search needs
+
+sums-in-requires : tie.Need-sums-in-requires
+sums-in-requires c κs = layer-summable _ _ (c .before .before .before .before .before .before .before .before .before .before .judge-file .ensures .0) (c .before .before .before .before .before .enum-told2 .given .1) _ (c .before .before .before .if1 .left) (judged-words _ _ (c .before .before .before .before .before .before .before .before .before .before .judge-file .ensures .0) (c .before .before .before .before .before .enum-told2 .given .1) _ refl (c .before .before .before .before .before .before .before .before .before .before .judge-file .ensures .1)) (c .before .bases-of .ensures) (c .layer-in .ensures)
+
+same-length-3 : tie.Need-same-length-3
+same-length-3 c = search needs
+
+returns-3 : tie.Need-returns-3
+returns-3 c = (sums-there _ _ (c .before .before .before .before .before .before .before .before .before .before .before .judge-file .ensures .0) (c .before .before .before .before .before .before .enum-told2 .given .1) _ (c .before .before .before .before .if1 .left) (judged-words _ _ (c .before .before .before .before .before .before .before .before .before .before .before .judge-file .ensures .0) (c .before .before .before .before .before .before .enum-told2 .given .1) _ refl (c .before .before .before .before .before .before .before .before .before .before .before .judge-file .ensures .1)) (c .before .before .bases-of .ensures) (c .before .layer-in .ensures) (c .sums-in .ensures), table-there _ _ (c .before .before .before .before .before .before .before .before .before .before .before .judge-file .ensures .0) (c .before .before .before .before .before .before .enum-told2 .given .1) _ (c .before .before .before .before .if1 .left) _ refl (c .before .before .before .before .before .before .before .before .before .before .before .judge-file .ensures .1))
+
+pub layer-sums-spec : {M : Type 1} → statement M
+layer-sums-spec =
+    tie.close
+    (tie.spec
+    judge-file-requires
+    enum-told
+    no-sums-requires
+    same-length
+    returns
+    enum-told-2
+    no-sums-requires-2
+    same-length-2
+    returns-2
+    slice-reshare-prefix-words
+    slice-aggregate-words
+    bases-of-requires
+    sub-layer-in
+    layer-in-requires
+    sums-in-requires
+    same-length-3
+    returns-3)

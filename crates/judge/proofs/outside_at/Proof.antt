@@ -1,0 +1,67 @@
+-- `judge::outside_at` meets its contract: by the line's left and right area, its measure is added, or taken away, or does not count.
+-- Assumes nothing.
+use denote.Ref.{now}
+use borrow.Author.Needs.{needs}
+use Rattle.entries.proofs.Summing.{turned-fits}
+use Rattle.judge.proofs.Adding.{Sided, sided, outside-none, outside-left, outside-right, measure-passed, measure-turned}
+use Rattle.judge.proofs.outside_at.Statement.{statement}
+use Rattle.judge.proofs.outside_at.Tie as tie
+
+-- which of the line's two areas are 0
+sides : (c : tie.After-same) → Sided (now (c .before .before .before .before .before .before .before .before .args .file)) (now (c .before .before .before .before .before .before .before .before .args .table)) (c .before .before .before .before .before .before .before .before .args .l) (c .before .before .before .before .before .before .before .before .args .n) (c .before .before .before .is-zero .result) (c .before .is-zero2 .result)
+sides c =
+    let s = c .before .before .before .before in
+    sided _ _ _ _ (c .before .before .before .before .before .before .before .before .pre .0) (s .before .line-of .ensures) (s .number-at .ok) (s .number-at .ensures) (c .before .before .before .is-zero .ensures) (c .before .before .number-at2 .ok) (c .before .before .number-at2 .ensures) (c .before .is-zero2 .ensures)
+
+cast-v : tie.Need-cast-v
+cast-v c = search needs
+
+line-of-requires : tie.Need-line-of-requires
+line-of-requires c κs = search needs
+
+number-at-requires : tie.Need-number-at-requires
+number-at-requires c κs = search needs
+
+is-zero-requires : tie.Need-is-zero-requires
+is-zero-requires c κs = search needs
+
+number-at-requires-2 : tie.Need-number-at-requires-2
+number-at-requires-2 c κs = search needs
+
+is-zero-requires-2 : tie.Need-is-zero-requires-2
+is-zero-requires-2 c κs = search needs
+
+same-requires : tie.Need-same-requires
+same-requires c κs = search needs
+
+returns : tie.Need-returns
+returns c = outside-none _ _ _ _ (sides (c .before)) (c .before .same .ensures) (c .if1 .taken)
+
+line-measure-requires : tie.Need-line-measure-requires
+line-measure-requires c κs = search needs
+
+returns-2 : tie.Need-returns-2
+returns-2 c = outside-left _ _ _ _ (sides (c .before .before .before)) (c .before .before .before .same .ensures) (c .before .before .if1 .left) (c .if2 .taken) (measure-passed _ _ _ _ (c .before .before .before .before .before .before .before .before .before .before .before .pre .0) (c .before .before .before .before .before .before .before .before .before .before .before .pre .1) (c .before .line-measure .ensures))
+
+sub-result : tie.Need-sub-result
+sub-result c = turned-fits (c .before .line-measure .ensures .0)
+
+returns-3 : tie.Need-returns-3
+returns-3 c = outside-right _ _ _ _ (sides (c .before .before .before)) (c .before .before .before .same .ensures) (c .before .before .if1 .left) (c .if2 .left) (measure-turned _ _ _ _ (c .before .before .before .before .before .before .before .before .before .before .before .pre .0) (c .before .before .before .before .before .before .before .before .before .before .before .pre .1) (c .before .line-measure .ensures))
+
+pub outside-at-spec : {M : Type 1} → statement M
+outside-at-spec =
+    tie.close
+    (tie.spec
+    cast-v
+    line-of-requires
+    number-at-requires
+    is-zero-requires
+    number-at-requires-2
+    is-zero-requires-2
+    same-requires
+    returns
+    line-measure-requires
+    returns-2
+    sub-result
+    returns-3)

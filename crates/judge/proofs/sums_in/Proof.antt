@@ -1,0 +1,43 @@
+-- `judge::sums_in` meets its contract: the lines' measures are kept once, for both sums. Assumes nothing.
+use mathlib.Core.Path.{sym, _∙_, ap₂}
+use lib.Seq.{length-take-le}
+use mir.Facts.{toZ-ofZ}
+use mir.Syntax.{w64}
+use borrow.Author.Needs.{needs}
+use Rattle.verdict.specs.declared.Verdict.the-variants.{Fine}
+use Rattle.judge.specs.Outcomes.{sumsWith}
+use Rattle.judge.proofs.sums_in.Statement.{statement}
+use Rattle.judge.proofs.sums_in.Tie as tie
+
+slice-aggregate-keep-measures : tie.Need-slice-aggregate-keep-measures
+slice-aggregate-keep-measures c = search needs
+
+keep-measures-requires : tie.Need-keep-measures-requires
+keep-measures-requires c κs = search needs
+
+array-share-prefix-measures : tie.Need-array-share-prefix-measures
+array-share-prefix-measures c = search needs
+
+slice-aggregate-kept : tie.Need-slice-aggregate-kept
+slice-aggregate-kept c = sym (length-take-le _ _ (c .before .before .keep-measures .ensures .0))
+
+areas-sum-requires : tie.Need-areas-sum-requires
+areas-sum-requires c κs = search needs
+
+outside-sum-requires : tie.Need-outside-sum-requires
+outside-sum-requires c κs = search needs
+
+returns : tie.Need-returns
+returns c = ap₂ (sumsWith Fine) (toZ-ofZ {w = w64} (record { sfits = c .before .areas-sum .ok }) ∙ c .before .areas-sum .ensures) (toZ-ofZ {w = w64} (record { sfits = c .outside-sum .ok }) ∙ c .outside-sum .ensures)
+
+pub sums-in-spec : {M : Type 1} → statement M
+sums-in-spec =
+    tie.close
+    (tie.spec
+    slice-aggregate-keep-measures
+    keep-measures-requires
+    array-share-prefix-measures
+    slice-aggregate-kept
+    areas-sum-requires
+    outside-sum-requires
+    returns)

@@ -1,0 +1,43 @@
+-- What the code needs to know of a layer before it adds up. It serves the code and is no part of a promise. Assumes nothing.
+use mathlib.Core.List.{List}
+use Prim.Native.Nat.{ℕ, suc, _≤_, _<_}
+use lib.IntN.{ℤ, pos}
+use Rattle.walk.specs.Table.{filled}
+use Rattle.measures.specs.Measures.{areaMeasure, outside}
+use Rattle.measures.specs.Sum.{sumTo}
+use Rattle.measures.specs.Walks.{Small}
+use Rattle.layers.specs.declared.Bases.{Bases}
+use Rattle.layers.specs.declared.Layer.{Layer}
+use Rattle.layers.specs.Naming.{wordsBefore, layerIn, areaOf}
+use Rattle.entries.specs.Entries.{loopsAt, loopsTo}
+use Rattle.entries.specs.Loops.{measureOf}
+use Rattle.ground.specs.Layers.{areaOfLayer, leftOf, rightOf, measuresTo}
+
+-- a sum that the machine can hold
+abbrev pub Fits : ℤ → Type 0
+Fits z = Small 4000000000000000000 z
+
+-- the first loops of the area whose A is record a, added up, however many
+pub record Measurable (file t : List ℕ) (l : Layer) (a : ℕ) : Type 0 where
+  pub fits : (j : ℕ) → j ≤ loopsAt file a → Fits (areaMeasure (measureOf file t l) (loopsTo file a j))
+
+-- what line n adds to the outside sum
+unfoldable pub outsideAt : List ℕ → List ℕ → Layer → ℕ → ℤ
+outsideAt file t l n = outside (leftOf file t l n) (rightOf file t l n) (measureOf file t l n)
+
+-- the layer's areas and lines, added up one by one
+pub record Summable (file t : List ℕ) (l : Layer) : Type 0 where
+  pub lines : l .lines ≤ 9999
+  pub each : (a : ℕ) → 0 < a → a ≤ l .areas → Measurable file t l (areaOf t l (pos a))
+  pub areas : (j : ℕ) → j ≤ l .areas → Fits (sumTo j (areaOfLayer file t l))
+  pub outside : (j : ℕ) → j ≤ l .lines → Fits (sumTo j (outsideAt file t l))
+
+-- the first n layers, whose areas have room in `room` places
+pub record Fillable (file t : List ℕ) (b : Bases) (n room : ℕ) : Type 0 where
+  pub few : n ≤ 6399936
+  pub sums : (i : ℕ) → i < n → Summable file t (layerIn t b i)
+  pub places : wordsBefore t 3 n ≤ room
+
+-- the measures of the first n layers in front, and what stood in ms behind them
+unfoldable pub filledTo : List ℕ → List ℕ → Bases → ℕ → List ℤ → List ℤ
+filledTo file t b n ms = filled (measuresTo file t b n) ms
