@@ -17,7 +17,7 @@ ghost use lib.Seq.{sets};
 ghost use Rattle.verdict.specs.declared.Verdict.the-variants.{Fine};
 ghost use Rattle.verdict.specs.Rules.{firstBroken};
 ghost use Rattle.walk.specs.States.{countsAt, Countable};
-ghost use Rattle.walk.specs.Stages.{recordsOf, needOf};
+ghost use Rattle.walk.specs.Stages.{recordsOf};
 ghost use Rattle.walk.specs.Table.{tableOf};
 ghost use Rattle.layers.specs.Passing.{basesOf};
 ghost use Rattle.measures.specs.Points.{firstOf};
@@ -54,14 +54,6 @@ pub struct Sums {
     pub column: u32,
     pub areas: i64,
     pub outside: i64,
-}
-
-// The words that a file needs; 0 for a file refused in stage 1 or 2.
-#[no_mangle]
-pub extern "C" fn sheet_need(file: &[u8]) -> u64
-    ensures { λ r. ⌜ r ≡ needOf (now (file .entry)) ⌝ }
-{
-    walk::need(file) as u64
 }
 
 // ---- the stages

@@ -1,0 +1,3 @@
+-- `ValueLaws` has the laws that readers go by: the kinds by number, and both round trips. `ByNumber` serves the proofs.
+pub mod ValueLaws
+pub mod ByNumber

@@ -1,0 +1,78 @@
+-- The records of C: a kind is a number there (document 01, "A single record", refusals 20 and 21). Assumes nothing.
+--   kindOf n         the kind that the number n stands for, if it stands for one: 1 M, 2 H, 3 N, 4 L, 5 coordinates, 6 A, 7 loop
+--   numberOf k       the number that stands for the kind k
+--   recordOf k v     the value v as a record of kind k, and valueOf r the record r with its kind as a number
+--   foundOf n s      the answer to the bytes s, read as a record of the kind that n stands for
+--   WrittenValue     the writer's answer and its buffer afterwards
+use mathlib.Core.Path.{_≡_}
+use mathlib.Core.Bool.{cond}
+use mathlib.Core.List.{List, [], _∷_}
+use Prim.Native.Nat.{ℕ}
+use lib.Dec.{leb}
+use lib.ListN.{length, getD}
+use Rattle.records.specs.declared.Kind.{Kind}
+use Rattle.records.specs.declared.Kind.the-variants.{Mesh, Layer, Node, Line, Coordinates, Area, Loop}
+use Rattle.records.specs.declared.Record.{Record}
+use Rattle.records.specs.declared.Reading.{Reading}
+use Rattle.records.specs.Reading.{zeros, noName, readingOf}
+use Rattle.records.specs.Writing.{Written}
+use Rattle.capi.specs.declared.Meant.{Meant}
+use Rattle.capi.specs.declared.Meant.the-variants.{A, Nothing}
+use Rattle.capi.specs.declared.Value.{Value}
+use Rattle.capi.specs.declared.Found.{Found}
+
+-- ---- the kinds by number
+
+-- in 01's order, from number 0 on, which stands for none
+abbrev pub kinds : List Meant
+kinds = Nothing ∷ A Mesh ∷ A Layer ∷ A Node ∷ A Line ∷ A Coordinates ∷ A Area ∷ A Loop ∷ []
+
+unfoldable pub kindOf : ℕ → Meant
+kindOf n = getD kinds n Nothing
+
+abbrev pub numberOf : Kind → ℕ
+numberOf Mesh = 1
+numberOf Layer = 2
+numberOf Node = 3
+numberOf Line = 4
+numberOf Coordinates = 5
+numberOf Area = 6
+numberOf Loop = 7
+
+-- "A record's value is its kind, its numbers in column order and its name bytes"
+abbrev pub recordOf : Kind → Value → Record
+recordOf k v = record { kind = k; numbers = v .numbers; name = v .name }
+
+abbrev pub valueOf : Record → Value
+valueOf r = record { kind = numberOf (r .kind); numbers = r .numbers; name = r .name }
+
+-- ---- reading
+
+abbrev pub foundIn : Reading → Found
+foundIn r = record { number = r .number; place = r .place; column = r .column; value = valueOf (r .value) }
+
+-- a number that stands for no kind is 3 at record 1, column 1, whatever the bytes: no letters are those of a kind that there isn't. All else is 0
+abbrev pub noKind : Found
+noKind = record { number = 3; place = 1; column = 1; value = record { kind = 0; numbers = zeros; name = noName } }
+
+abbrev pub foundBy : Meant → List ℕ → Found
+foundBy (A k) s = foundIn (readingOf k s)
+foundBy Nothing s = noKind
+
+-- "A single record, of the kind the caller names"
+unfoldable pub foundOf : ℕ → List ℕ → Found
+foundOf n s = foundBy (kindOf n) s
+
+-- ---- writing
+
+-- "21: buffer under 74 bytes, judged before 20"; a value of no kind doesn't fit, and the buffer is untouched
+pub record NotWritten (before : List ℕ) (number : ℕ) (after : List ℕ) : Type 0 where
+  pub answer : number ≡ cond (leb 74 (length before)) 20 21
+  pub buffer : after ≡ before
+
+abbrev pub WrittenBy : Meant → List ℕ → Value → ℕ → List ℕ → Type 0
+WrittenBy (A k) before v number after = Written before (recordOf k v) number after
+WrittenBy Nothing before v number after = NotWritten before number after
+
+unfoldable pub WrittenValue : List ℕ → Value → ℕ → List ℕ → Type 0
+WrittenValue before v number after = WrittenBy (kindOf (v .kind)) before v number after

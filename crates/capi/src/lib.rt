@@ -1,0 +1,177 @@
+// What C calls: the C library's functions, as `include/stragumella.h` declares them. Each takes every
+// input and hands it to the call below, whose contract it keeps in full; nothing is decided here but
+// what a record's kind is by number.
+//
+// The contracts cite the definitions of the calls below, and `specs/Values.antt` for the kinds.
+use judge::Outcome;
+use judge::Sums;
+use positions::Placed;
+use records::Kind;
+use records::Record;
+ghost use mathlib.Core.Path.{_≡_};
+ghost use lib.ListN.{length};
+ghost use Rattle.walk.specs.Stages.{needOf};
+ghost use Rattle.judge.specs.Outcomes.{outcomeOf, tableAfter, measuresAfter, sumsOf, tableAfterSums};
+ghost use Rattle.positions.specs.Degrees.{positionOf};
+ghost use Rattle.capi.specs.Values.{kindOf, numberOf, noKind, foundOf, WrittenValue};
+
+// What a kind's number stands for: a kind, or nothing.
+pub enum Meant {
+    A(Kind),
+    Nothing,
+}
+
+// A record's value with its kind as a number: 1 M, 2 H, 3 N, 4 L, 5 coordinates, 6 A, 7 loop.
+#[repr(C)]
+pub struct Value {
+    pub kind: u32,
+    pub numbers: [i32; 16],
+    pub name: [u8; 40],
+}
+
+// What reading finds: a refusal's number with its place, record and column, or 0 at 0, 0; and the
+// value.
+#[repr(C)]
+pub struct Found {
+    pub number: u32,
+    pub place: u32,
+    pub column: u32,
+    pub value: Value,
+}
+
+// ---- files
+
+// The words that a file needs; 0 for a file refused in stage 1 or 2.
+#[no_mangle]
+pub extern "C" fn stragumella_need(file: &[u8]) -> u64
+    ensures { λ r. ⌜ r ≡ needOf (now (file .entry)) ⌝ }
+{
+    walk::need(file) as u64
+}
+
+// Judges a file, with its table and its areas' measures left in the lent buffers.
+#[no_mangle]
+pub extern "C" fn stragumella_judge(file: &[u8], table: &mut [u32], measures: &mut [i64]) -> Outcome
+    ensures { λ r. ⌜ (r ≡ outcomeOf (now (file .entry)) (length (now (table .entry))) (length (now (measures .entry)))) × (now (table .exit) ≡ tableAfter (now (file .entry)) (length (now (measures .entry))) (now (table .entry))) × (now (measures .exit) ≡ measuresAfter (now (file .entry)) (length (now (table .entry))) (now (measures .entry))) ⌝ }
+{
+    judge::load(file, table, measures)
+}
+
+// Judges a file and gives the two sums of layer number `layer`, 1 being the file's first.
+#[no_mangle]
+pub extern "C" fn stragumella_layer_sums(file: &[u8], table: &mut [u32], layer: u32) -> Sums
+    ensures { λ r. ⌜ (r ≡ sumsOf (now (file .entry)) (length (now (table .entry))) layer) × (now (table .exit) ≡ tableAfterSums (now (file .entry)) layer (now (table .entry))) ⌝ }
+{
+    judge::layer_sums(file, table, layer)
+}
+
+// ---- positions
+
+// The position of the point (`x`, `y`) on the sheet with the code `mesh`.
+#[no_mangle]
+pub extern "C" fn stragumella_position(mesh: i32, x: i32, y: i32) -> Placed
+    ensures { λ r. ⌜ r ≡ positionOf mesh x y ⌝ }
+{
+    positions::position_of(mesh, x, y)
+}
+
+// ---- records
+
+// The kind that a number stands for.
+fn kind_of(n: u32) -> Meant
+    ensures { λ r. ⌜ r ≡ kindOf n ⌝ }
+{
+    match n {
+        1 => Meant::A(Kind::Mesh),
+        2 => Meant::A(Kind::Layer),
+        3 => Meant::A(Kind::Node),
+        4 => Meant::A(Kind::Line),
+        5 => Meant::A(Kind::Coordinates),
+        6 => Meant::A(Kind::Area),
+        7 => Meant::A(Kind::Loop),
+        _ => Meant::Nothing,
+    }
+}
+
+// The number that stands for a kind.
+fn number_of(k: Kind) -> u32
+    ensures { λ r. ⌜ r ≡ numberOf k ⌝ }
+{
+    match k {
+        Kind::Mesh => 1,
+        Kind::Layer => 2,
+        Kind::Node => 3,
+        Kind::Line => 4,
+        Kind::Coordinates => 5,
+        Kind::Area => 6,
+        Kind::Loop => 7,
+    }
+}
+
+// The answer where the number stands for no kind.
+fn no_kind() -> Found
+    ensures { λ r. ⌜ r ≡ noKind ⌝ }
+{
+    let numbers = [0i32; 16];
+    let name = [0u8; 40];
+    Found {
+        number: 3,
+        place: 1,
+        column: 1,
+        value: Value {
+            kind: 0,
+            numbers,
+            name,
+        },
+    }
+}
+
+// Reads one record of the kind that the number `kind` stands for.
+#[no_mangle]
+pub extern "C" fn stragumella_read_record(kind: u32, bytes: &[u8]) -> Found
+    ensures { λ r. ⌜ r ≡ foundOf kind (now (bytes .entry)) ⌝ }
+{
+    let meant = kind_of(kind);
+    let Meant::A(k) = meant else {
+        return no_kind();
+    };
+    let reading = records::read_record(k, bytes);
+    let value = reading.value;
+    let same = value.kind;
+    let numbers = value.numbers;
+    let name = value.name;
+    Found {
+        number: reading.number,
+        place: reading.place,
+        column: reading.column as u32,
+        value: Value {
+            kind: number_of(same),
+            numbers,
+            name,
+        },
+    }
+}
+
+// Writes a record into the first 74 bytes of `buffer` and answers 0, or 21 or 20 with `buffer` as it was.
+#[no_mangle]
+pub extern "C" fn stragumella_write_record(value: Value, buffer: &mut [u8]) -> u32
+    ensures { λ x. ⌜ WrittenValue (now (buffer .entry)) value x (now (buffer .exit)) ⌝ }
+{
+    let meant = kind_of(value.kind);
+    let Meant::A(kind) = meant else {
+        if buffer.len() < 74 {
+            return 21;
+        }
+        return 20;
+    };
+    let numbers = value.numbers;
+    let name = value.name;
+    records::write_record(
+        buffer,
+        Record {
+            kind,
+            numbers,
+            name,
+        },
+    )
+}
