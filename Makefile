@@ -1,0 +1,63 @@
+# make run    builds the proved library and the tool, and judges the sample sheets
+# make test   runs the gate, .ci/run
+# make tool   builds the library and the tool, target/host/stragumella
+# make clean  removes what make built; the library and the proofs stay
+#
+# The library is x86-64 on every machine. Elsewhere the tool is built for x86-64 too, by host/bare.sh.
+
+CC = cc
+CFLAGS = -std=c11 -O2 -Wall -Wextra -Wpedantic -Werror
+MACHINE := $(shell uname -m)
+
+LIBRARY = target/staticlib/libcapi.a
+TOOL = target/host/stragumella
+SOURCES = host/main.c host/input.c host/sheet.c host/record.c
+HEADERS = host/input.h host/sheet.h host/record.h host/system.h include/stragumella.h
+COMPILE = $(CC) $(CFLAGS) -D_POSIX_C_SOURCE=200809L -Iinclude
+
+.PHONY: run test tool clean
+
+# A refused sheet is among the samples, so status 1 is as it should be.
+run: $(TOOL)
+	$(TOOL) check samples/*.dat || test $$? -eq 1
+
+test:
+	bash .ci/run
+
+tool: $(TOOL)
+
+# rt knows what is proved already; make only asks it when a crate changed.
+$(LIBRARY): crates.txt $(shell find crates -type f -not -path '*/must-fail/*')
+	rt staticlib capi
+	@touch $@
+
+ifeq ($(MACHINE),x86_64)
+$(TOOL): $(SOURCES) $(HEADERS) $(LIBRARY)
+	@mkdir -p $(@D)
+	$(COMPILE) -o $@ $(SOURCES) $(LIBRARY)
+else
+$(TOOL): $(SOURCES) $(HEADERS) $(LIBRARY) host/bare.sh
+	host/bare.sh $@ $(LIBRARY) $(SOURCES)
+endif
+
+# The library's calls one by one, and both programs with the compiler's checks of the C side; x86-64 only.
+SANITIZE = -g -fsanitize=address,undefined -fno-sanitize-recover=all
+
+target/host/test_api: host/test_api.c include/stragumella.h $(LIBRARY)
+	@mkdir -p $(@D)
+	$(COMPILE) -o $@ host/test_api.c $(LIBRARY)
+
+target/host/test_api-sanitized: host/test_api.c include/stragumella.h $(LIBRARY)
+	@mkdir -p $(@D)
+	$(COMPILE) $(SANITIZE) -o $@ host/test_api.c $(LIBRARY)
+
+target/host/sanitized: $(SOURCES) $(HEADERS) $(LIBRARY)
+	@mkdir -p $(@D)
+	$(COMPILE) $(SANITIZE) -o $@ $(SOURCES) $(LIBRARY)
+
+# As on a machine that is not x86-64, to try that way here.
+target/host/bare: $(SOURCES) $(HEADERS) $(LIBRARY) host/bare.sh
+	host/bare.sh $@ $(LIBRARY) $(SOURCES)
+
+clean:
+	rm -rf target/host

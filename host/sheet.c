@@ -1,0 +1,82 @@
+/* A file with the library's answer. Nothing is judged here: the library tells how many words the file needs, and
+ * then judges it and fills the buffers.
+ */
+#include "sheet.h"
+
+#include "system.h"
+
+/* Room for one entry more than is lent, so that NULL always means that there is no memory. */
+static void *room(size_t count, size_t size)
+{
+    return calloc(count + 1, size);
+}
+
+/* Measures: a word of the table stands for each area (its A record), so as many as the words are enough. */
+int sheet_judge(Sheet *sheet, const Input *file)
+{
+    sheet->file = file;
+    sheet->words = (size_t)stragumella_need(file->bytes, file->length);
+    sheet->table = room(sheet->words, sizeof *sheet->table);
+    sheet->measures = room(sheet->words, sizeof *sheet->measures);
+    if (sheet->table == NULL || sheet->measures == NULL) {
+        fprintf(stderr, "stragumella: no memory for a table of %zu words\n", sheet->words);
+        sheet_free(sheet);
+        return -1;
+    }
+    sheet->outcome = stragumella_judge(file->bytes, file->length, sheet->table, sheet->words, sheet->measures,
+                                       sheet->words);
+    return 0;
+}
+
+void sheet_free(Sheet *sheet)
+{
+    free(sheet->table);
+    free(sheet->measures);
+}
+
+Row sheet_row(const Sheet *sheet, size_t layer)
+{
+    const uint32_t *w = sheet->table + 4 * layer;
+    return (Row){.header = w[0], .nodes = w[1], .lines = w[2], .areas = w[3]};
+}
+
+/* The words of a table are 4 + lines + areas for each row, so the rows end where they add up. */
+size_t sheet_rows(const Sheet *sheet)
+{
+    size_t rows = 0;
+    size_t words = 0;
+    while (words < sheet->words) {
+        Row row = sheet_row(sheet, rows);
+        words += (size_t)4 + row.lines + row.areas;
+        rows++;
+    }
+    return rows;
+}
+
+const uint32_t *sheet_lines(const Sheet *sheet)
+{
+    return sheet->table + 4 * sheet_rows(sheet);
+}
+
+/* A record that the file's end cuts is handed over as it is; the library refuses it. */
+stragumella_reading sheet_read(const Input *file, uint32_t kind, size_t number)
+{
+    size_t start = (number - 1) * RECORD;
+    size_t left = start < file->length ? file->length - start : 0;
+    if (left == 0) {
+        start = 0;
+    }
+    return stragumella_read_record(kind, file->bytes + start, left < RECORD ? left : RECORD);
+}
+
+/* An M stands right before its first layer's H, and says how many layers follow. */
+void mesh_next(Mesh *mesh, const Sheet *sheet, size_t layer)
+{
+    if (mesh->left == 0) {
+        mesh->record = sheet_row(sheet, layer).header - 1;
+        stragumella_reading m = sheet_read(sheet->file, MESH, mesh->record);
+        mesh->code = m.value.numbers[0];
+        mesh->left = m.value.numbers[1];
+    }
+    mesh->left--;
+}

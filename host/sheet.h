@@ -1,0 +1,60 @@
+/* A file with the library's answer, and its table read by rows.
+ *
+ * The table (document 01): one row a layer, in file order: H record, nodes, lines, areas; after all rows every
+ * line's L record; then every area's A record.
+ */
+#ifndef SHEET_H
+#define SHEET_H
+
+#include "input.h"
+#include "stragumella.h"
+
+/* Exit statuses. With several files the greatest one counts. */
+enum { ACCEPTED = 0, REFUSED = 1, UNREADABLE = 2 };
+
+/* The kinds of record, by the library's numbers. */
+enum { MESH = 1, LAYER, NODE, LINE, COORDINATES, AREA, LOOP };
+
+/* One layer's row of the table. */
+typedef struct {
+    uint32_t header;
+    uint32_t nodes;
+    uint32_t lines;
+    uint32_t areas;
+} Row;
+
+typedef struct {
+    const Input *file;
+    uint32_t *table;   /* lent to the library */
+    size_t words;      /* what the file needs; 0 if it is refused in stage 1 or 2, and then the table is empty */
+    int64_t *measures; /* lent to the library, one an area in file order */
+    stragumella_outcome outcome;
+} Sheet;
+
+/* Lends the buffers and has the file judged. Answers 0, or -1 after a message where there is no memory. */
+int sheet_judge(Sheet *sheet, const Input *file);
+
+void sheet_free(Sheet *sheet);
+
+Row sheet_row(const Sheet *sheet, size_t layer);
+
+/* How many rows the table has. */
+size_t sheet_rows(const Sheet *sheet);
+
+/* The L records, and behind them the A records. */
+const uint32_t *sheet_lines(const Sheet *sheet);
+
+/* Record `number`, counted from 1, read as one of the kind. */
+stragumella_reading sheet_read(const Input *file, uint32_t kind, size_t number);
+
+/* A mesh of the table: its M record, its code, and its layers not yet passed. */
+typedef struct {
+    uint32_t record;
+    int32_t code;
+    int32_t left;
+} Mesh;
+
+/* Goes on to the layer: to the next mesh where the last one's layers are passed. Start with {0}. */
+void mesh_next(Mesh *mesh, const Sheet *sheet, size_t layer);
+
+#endif

@@ -1,0 +1,459 @@
+/*
+ * Tries include/stragumella.h on every call: document 01's sheet S and its neighbours, with buffers of length 0, short
+ * by one, exact and longer, and every lent buffer held to what the header says of it, untouched parts too. Each lent
+ * buffer is a block of its own of just its length, so that a memory checker sees a step past it. Prints one line; the
+ * exit status is 0 or 1.
+ */
+#include "stragumella.h"
+
+#include <limits.h>
+#include <stdio.h>
+#include <stdlib.h>
+#include <string.h>
+
+/* the structs are laid out as the archive has them; `place` nests its degrees there, at the same offsets */
+_Static_assert(sizeof(stragumella_outcome) == 48 && offsetof(stragumella_outcome, need) == 40, "outcome");
+_Static_assert(offsetof(stragumella_outcome, records) == 32, "outcome");
+_Static_assert(sizeof(stragumella_sums) == 32 && offsetof(stragumella_sums, areas) == 16, "sums");
+_Static_assert(offsetof(stragumella_sums, outside) == 24, "sums");
+_Static_assert(sizeof(stragumella_place) == 24 && offsetof(stragumella_place, latitude) == 8, "place");
+_Static_assert(offsetof(stragumella_place, longitude) == 16, "place");
+_Static_assert(sizeof(stragumella_record) == 108 && offsetof(stragumella_record, numbers) == 4, "record");
+_Static_assert(offsetof(stragumella_record, name) == 68, "record");
+_Static_assert(sizeof(stragumella_reading) == 120 && offsetof(stragumella_reading, value) == 12, "reading");
+
+enum { RECORD = 74, SHEET = 7 * RECORD, TWO = 2 * SHEET };
+
+static unsigned tried, failed, first;
+
+static void hold(int ok, unsigned line)
+{
+    tried++;
+    if (!ok && failed++ == 0)
+        first = line;
+}
+
+#define HOLD(ok) hold((ok) != 0, __LINE__)
+
+/* ---- sheet S */
+
+/* the number v in the w columns from column c on of a record: right aligned, spaces in front */
+static void put(uint8_t *record, int c, int w, int v)
+{
+    char text[16];
+    snprintf(text, sizeof text, "%*d", w, v);
+    memcpy(record + c - 1, text, (size_t)w);
+}
+
+/* numbers of width w in a row, n of them, from column c on */
+static void row(uint8_t *record, int c, int w, int n, const int *vs)
+{
+    for (int i = 0; i < n; i++)
+        put(record, c + w * i, w, vs[i]);
+}
+
+/* 81 40, in the w columns from column c on */
+static void name(uint8_t *record, int c, int w)
+{
+    for (int i = 0; i < w; i++)
+        record[c - 1 + i] = i % 2 ? 0x40 : 0x81;
+}
+
+static const int S_POINTS[14] = { 0, 0, 0, 10000, 10000, 10000, 10000, 0, 0, 0, 0, 0, 0, 0 };
+
+/* S with the code `mesh` */
+static void sheet(uint8_t *s, int mesh)
+{
+    uint8_t *m = s, *h = s + RECORD, *n = s + 2 * RECORD, *l = s + 3 * RECORD, *c = s + 4 * RECORD,
+            *a = s + 5 * RECORD, *o = s + 6 * RECORD;
+    memset(s, ' ', SHEET);
+    for (int i = 0; i < 7; i++)
+        memcpy(s + i * RECORD + 72, "\r\n", 2);
+    memcpy(m, "M ", 2);
+    put(m, 3, 6, mesh);
+    name(m, 9, 20);
+    put(m, 29, 3, 1);
+    row(m, 32, 5, 5, (const int[]){ 1, 1, 1, 0, 7 });
+    memcpy(h, "H2", 2);
+    put(h, 3, 2, 1);
+    row(h, 5, 5, 5, (const int[]){ 1, 1, 1, 0, 6 });
+    put(h, 31, 4, 0);
+    put(h, 36, 4, 0);
+    memcpy(n, "N ", 2);
+    put(n, 3, 2, 1);
+    put(n, 5, 2, 3);
+    row(n, 7, 5, 3, (const int[]){ 1, 0, 0 });
+    put(n, 22, 2, 1);
+    put(n, 24, 2, 2);
+    row(n, 26, 5, 9, (const int[]){ 1, -1, 0, 0, 0, 0, 0, 0, 0 });
+    memcpy(l, "L ", 2);
+    put(l, 3, 2, 1);
+    put(l, 5, 2, 9);
+    put(l, 7, 5, 1);
+    put(l, 12, 6, 9);
+    put(l, 18, 5, 1);
+    put(l, 23, 1, 2);
+    put(l, 24, 5, 1);
+    put(l, 29, 1, 2);
+    row(l, 30, 5, 4, (const int[]){ 88888, 0, 13101, 1 });
+    put(l, 50, 6, 5);
+    put(l, 56, 2, 0);
+    put(l, 58, 3, 0);
+    row(c, 1, 5, 14, S_POINTS);
+    memcpy(a, "A ", 2);
+    put(a, 3, 2, 1);
+    row(a, 5, 5, 4, (const int[]){ 13101, 1, 5000, 5000 });
+    put(a, 25, 4, 1);
+    put(a, 29, 4, 1);
+    name(a, 33, 40);
+    put(o, 1, 5, 1);
+    put(o, 6, 4, 1);
+    row(o, 10, 5, 12, (const int[]){ 1, 0, 0, 0, 0, 0, 0, 0, 0, 0, 0, 0 });
+}
+
+/* ---- lent buffers: NULL for length 0 */
+
+static void *lent(const void *from, size_t bytes)
+{
+    if (bytes == 0)
+        return NULL;
+    void *p = malloc(bytes);
+    if (!p)
+        exit(1);
+    memcpy(p, from, bytes);
+    return p;
+}
+
+/* what a buffer holds before the call */
+static uint32_t word(size_t i) { return 0xA5000000u + (uint32_t)i; }
+static int64_t place(size_t i) { return INT64_MIN + (int64_t)i; }
+static uint8_t byte(size_t i) { return (uint8_t)(0xC1 + 7 * i); }
+
+static uint32_t *lent_words(size_t n)
+{
+    uint32_t *p = n ? malloc(n * sizeof *p) : NULL;
+    for (size_t i = 0; i < n; i++)
+        p[i] = word(i);
+    return p;
+}
+
+static int64_t *lent_places(size_t n)
+{
+    int64_t *p = n ? malloc(n * sizeof *p) : NULL;
+    for (size_t i = 0; i < n; i++)
+        p[i] = place(i);
+    return p;
+}
+
+static uint8_t *lent_bytes(size_t n)
+{
+    uint8_t *p = n ? malloc(n) : NULL;
+    for (size_t i = 0; i < n; i++)
+        p[i] = byte(i);
+    return p;
+}
+
+static int same_bytes(const uint8_t *a, const uint8_t *b, size_t n) { return n == 0 || memcmp(a, b, n) == 0; }
+
+/* ---- the judge and the sums */
+
+typedef struct {
+    uint32_t number, record, column;
+    const uint32_t *table; /* what stands in the table where the refusal is past 9 */
+    size_t need;
+} expected;
+
+static const uint32_t S_TABLE[6] = { 2, 1, 1, 1, 4, 6 };
+static const uint32_t TWO_TABLE[12] = { 2, 1, 1, 1, 9, 1, 1, 1, 4, 11, 6, 13 };
+
+static int table_is(const uint32_t *table, size_t words, uint32_t number, const expected *e)
+{
+    int stands = number == 0 || number > 9;
+    for (size_t i = 0; i < words; i++)
+        if (table[i] != (stands && i < e->need ? e->table[i] : word(i)))
+            return 0;
+    return 1;
+}
+
+/* the judge on a file with `n` meshes like S if it is accepted, `words` words and `places` places */
+static void judge(const uint8_t *bytes, size_t length, size_t words, size_t places, expected e, uint32_t n)
+{
+    uint8_t *file = lent(bytes, length);
+    uint32_t *table = lent_words(words);
+    int64_t *measures = lent_places(places);
+    uint64_t need = 0;
+    if (e.number == 0 || e.number > 9) {
+        if (words < e.need) {
+            e.number = 9, e.record = 0, e.column = 0;
+            need = e.need;
+        } else if (e.number == 0 && places < n)
+            e.number = 19;
+    }
+    uint32_t count = e.number == 0 ? n : 0;
+    stragumella_outcome o = stragumella_judge(file, length, table, words, measures, places);
+    HOLD(o.number == e.number && o.record == e.record && o.column == e.column);
+    HOLD(o.meshes == count && o.layers == count && o.nodes == count && o.lines == count && o.areas == count);
+    HOLD(o.records == 7 * count);
+    HOLD(o.need == need);
+    HOLD(table_is(table, words, e.number, &e));
+    int ok = 1;
+    for (size_t i = 0; i < places; i++)
+        ok &= measures[i] == (i < count ? 200000000 : place(i));
+    HOLD(ok);
+    HOLD(same_bytes(file, bytes, length));
+    free(file), free(table), free(measures);
+}
+
+/* the sums of layer number `layer` of a file that has `n` */
+static void sums(const uint8_t *bytes, size_t length, size_t words, uint32_t layer, expected e, uint32_t n)
+{
+    uint8_t *file = lent(bytes, length);
+    uint32_t *table = lent_words(words);
+    if (e.number == 0 || e.number > 9) {
+        if (words < e.need)
+            e.number = 9, e.record = 0, e.column = 0;
+        else if (e.number == 0 && (layer < 1 || layer > n))
+            e.number = 22;
+    }
+    int64_t sum = e.number == 0 ? 200000000 : 0;
+    stragumella_sums s = stragumella_layer_sums(file, length, table, words, layer);
+    HOLD(s.number == e.number && s.record == e.record && s.column == e.column);
+    HOLD(s.areas == sum && s.outside == sum);
+    HOLD(table_is(table, words, e.number, &e));
+    HOLD(same_bytes(file, bytes, length));
+    free(file), free(table);
+}
+
+static void need(const uint8_t *bytes, size_t length, uint64_t words)
+{
+    uint8_t *file = lent(bytes, length);
+    HOLD(stragumella_need(file, length) == words);
+    HOLD(same_bytes(file, bytes, length));
+    free(file);
+}
+
+/* all file calls on a file, with tables and measures of every length up to two more than are wanted */
+static void all(const uint8_t *bytes, size_t length, expected e, uint32_t n)
+{
+    int early = e.number != 0 && e.number <= 8;
+    need(bytes, length, early ? 0 : e.need);
+    for (size_t words = 0; words <= e.need + 2; words++) {
+        for (size_t places = 0; places <= n + 2u; places++)
+            judge(bytes, length, words, places, e, n);
+        for (uint32_t layer = 0; layer <= n + 1; layer++)
+            sums(bytes, length, words, layer, e, n);
+        sums(bytes, length, words, UINT32_MAX, e, n);
+    }
+}
+
+static expected at(uint32_t number, uint32_t record, uint32_t column)
+{
+    return (expected){ number, record, column, S_TABLE, 6 };
+}
+
+static void files(void)
+{
+    uint8_t s[SHEET + 1], t[TWO + 1];
+    memset(s, ' ', sizeof s);
+    memset(t, ' ', sizeof t);
+
+    /* lengths 0, short by one, exact, longer by one, a record short */
+    sheet(s, 533945);
+    all(s, 0, at(1, 1, 1), 1);
+    all(s, 1, at(1, 1, 1), 1);
+    all(s, SHEET - 1, at(1, 7, 1), 1);
+    all(s, SHEET, at(0, 0, 0), 1);
+    all(s, SHEET + 1, at(1, 8, 1), 1);
+    all(s, SHEET - RECORD, at(4, 7, 1), 1);
+
+    /* two meshes: a buffer that is short by one is not an empty one */
+    sheet(t, 533945);
+    sheet(t + SHEET, 533946);
+    all(t, TWO, (expected){ 0, 0, 0, TWO_TABLE, 12 }, 2);
+    all(t, TWO - 1, (expected){ 1, 14, 1, TWO_TABLE, 12 }, 2);
+    all(t, TWO + 1, (expected){ 1, 15, 1, TWO_TABLE, 12 }, 2);
+    put(t + SHEET, 3, 6, 533945);
+    all(t, TWO, (expected){ 8, 8, 3, TWO_TABLE, 12 }, 2);
+    put(t + SHEET, 3, 6, 533946);
+    put(t + SHEET, 52, 5, 8);
+    all(t, TWO, (expected){ 10, 8, 52, TWO_TABLE, 12 }, 2);
+
+    /* S's neighbours */
+    uint8_t *m = s, *h = s + RECORD, *n = s + 2 * RECORD, *l = s + 3 * RECORD, *c = s + 4 * RECORD,
+            *a = s + 5 * RECORD, *o = s + 6 * RECORD;
+#define NEIGHBOUR(change, ...)             \
+    do {                                   \
+        sheet(s, 533945);                  \
+        change;                            \
+        all(s, SHEET, at(__VA_ARGS__), 1); \
+    } while (0)
+    NEIGHBOUR(put(m, 52, 5, 6), 10, 1, 52);
+    NEIGHBOUR(put(n, 22, 2, 0), 6, 3, 22);
+    NEIGHBOUR((put(n, 24, 2, 1), put(n, 31, 5, 0)), 14, 4, 24);
+    NEIGHBOUR(put(c, 46, 5, 1), 12, 5, 41);
+    NEIGHBOUR(put(c, 51, 5, 7), 6, 5, 51);
+    NEIGHBOUR(put(o, 10, 5, -1), 16, 7, 1);
+    NEIGHBOUR(row(l, 30, 5, 4, ((const int[]){ 13101, 1, 88888, 0 })), 17, 7, 10);
+    NEIGHBOUR(h[1] = '1', 7, 2, 1);
+    NEIGHBOUR(h[1] = ' ', 3, 2, 1);
+    NEIGHBOUR(put(m, 3, 6, 533985), 6, 1, 3);
+    NEIGHBOUR(memcpy(m + 31, "00001", 5), 5, 1, 32);
+    NEIGHBOUR(memcpy(m + 31, "   -0", 5), 5, 1, 32);
+    NEIGHBOUR(memcpy(m + 31, "     ", 5), 5, 1, 32);
+    NEIGHBOUR(put(l, 18, 5, 2), 11, 4, 18);
+    NEIGHBOUR(put(a, 10, 5, 2), 8, 6, 10);
+    NEIGHBOUR(o[72] = ' ', 2, 7, 73);
+    NEIGHBOUR(a[73] = ' ', 2, 6, 74);
+}
+
+/* ---- positions */
+
+static void position(int32_t mesh, int32_t x, int32_t y, uint32_t number, double latitude, double longitude)
+{
+    stragumella_place p = stragumella_position(mesh, x, y);
+    HOLD(p.number == number && p.latitude == latitude && p.longitude == longitude);
+}
+
+static void positions(void)
+{
+    position(533945, 10000, 10000, 0, 35.75, 139.75);
+    position(533945, 0, 0, 0, (53 * 240000 + 4 * 30000) / 360000.0, 139.625);
+    position(100000, 1, 2, 0, (10 * 240000 + 6) / 360000.0, (100 * 720000 + 9) / 720000.0);
+    position(999977, 10000, 9999, 0, (99 * 240000 + 7 * 30000 + 29997) / 360000.0,
+             (199 * 720000 + 7 * 90000 + 90000) / 720000.0);
+    const int32_t refused[][3] = {
+        { 533985, 0, 0 },     { 533948, 0, 0 },  { 99977, 0, 0 },  { 1000000, 0, 0 },  { 0, 0, 0 },
+        { -533945, 0, 0 },    { INT32_MIN, 0, 0 }, { INT32_MAX, 0, 0 }, { 533945, 10001, 0 }, { 533945, -1, 0 },
+        { 533945, 0, 10001 }, { 533945, 0, -1 }, { 533945, INT32_MIN, 0 }, { 533945, 0, INT32_MAX },
+    };
+    for (size_t i = 0; i < sizeof refused / sizeof *refused; i++)
+        position(refused[i][0], refused[i][1], refused[i][2], 6, 0, 0);
+}
+
+/* ---- single records */
+
+static const int32_t S_NUMBERS[7][16] = {
+    { 533945, 1, 1, 1, 1, 0, 7 },
+    { 1, 1, 1, 1, 0, 6, 0, 0 },
+    { 1, 3, 1, 0, 0, 1, 2, 1, -1 },
+    { 1, 9, 1, 9, 1, 2, 1, 2, 88888, 0, 13101, 1, 5, 0, 0 },
+    { 0, 0, 0, 10000, 10000, 10000, 10000, 0, 0, 0 },
+    { 1, 13101, 1, 5000, 5000, 1, 1 },
+    { 1, 1, 1 },
+};
+
+static int value_is(stragumella_record v, uint32_t kind, const int32_t *numbers, const uint8_t *name40)
+{
+    return v.kind == kind && memcmp(v.numbers, numbers, sizeof v.numbers) == 0 && memcmp(v.name, name40, 40) == 0;
+}
+
+/* reads `length` bytes as a record of the kind and holds the answer to a refusal with an empty value of kind `told` */
+static void refuses(uint32_t kind, const uint8_t *from, size_t length, uint32_t number, uint32_t column, uint32_t told)
+{
+    static const int32_t zeros[16];
+    static const uint8_t none[40];
+    uint8_t *bytes = lent(from, length);
+    stragumella_reading r = stragumella_read_record(kind, bytes, length);
+    HOLD(r.number == number && r.record == 1 && r.column == column);
+    HOLD(value_is(r.value, told, zeros, none));
+    HOLD(same_bytes(bytes, from, length));
+    free(bytes);
+}
+
+/* writes v into a buffer of `length` bytes: `line` stands in its first 74 exactly if the answer is 0 */
+static void writes(stragumella_record v, size_t length, uint32_t number, const uint8_t *line)
+{
+    uint8_t *buffer = lent_bytes(length);
+    HOLD(stragumella_write_record(v, buffer, length) == number);
+    int ok = 1;
+    for (size_t i = 0; i < length; i++)
+        ok &= buffer[i] == (number == 0 && i < RECORD ? line[i] : byte(i));
+    HOLD(ok);
+    free(buffer);
+}
+
+static const size_t LENGTHS[] = { 0, 1, 73, 74, 75, 148 };
+enum { N_LENGTHS = sizeof LENGTHS / sizeof *LENGTHS };
+static const uint32_t NO_KINDS[] = { 0, 8, 9, 77, 256, 257, UINT32_MAX };
+enum { N_NO_KINDS = sizeof NO_KINDS / sizeof *NO_KINDS };
+
+static void records(void)
+{
+    uint8_t s[SHEET], line[2 * RECORD];
+    sheet(s, 533945);
+    for (uint32_t kind = 1; kind <= 7; kind++) {
+        uint8_t name40[40] = { 0 };
+        const uint8_t *own = s + (kind - 1) * RECORD;
+        for (size_t i = 0; i < (kind == 1 ? 20 : kind == 6 ? 40 : 0); i++)
+            name40[i] = i % 2 ? 0x40 : 0x81;
+        memset(line, ' ', sizeof line);
+        memcpy(line, own, RECORD);
+
+        uint8_t *bytes = lent(own, RECORD);
+        stragumella_reading r = stragumella_read_record(kind, bytes, RECORD);
+        HOLD(r.number == 0 && r.record == 0 && r.column == 0);
+        HOLD(value_is(r.value, kind, S_NUMBERS[kind - 1], name40));
+        HOLD(same_bytes(bytes, own, RECORD));
+        free(bytes);
+
+        for (size_t i = 0; i < N_LENGTHS; i++) {
+            if (LENGTHS[i] != RECORD)
+                refuses(kind, line, LENGTHS[i], 1, 1, kind);
+            writes(r.value, LENGTHS[i], LENGTHS[i] < RECORD ? 21 : 0, own);
+        }
+        /* a record of another kind: wrong letters, or an ill-formed field where there are none */
+        int lettered = kind != 5 && kind != 7;
+        refuses(kind, s + kind % 7 * RECORD, RECORD, lettered ? 3 : 5, 1, kind);
+        line[73] = '\r';
+        refuses(kind, line, RECORD, 2, 74, kind);
+        line[72] = '\n';
+        refuses(kind, line, RECORD, 2, 73, kind);
+
+        /* an ill-formed field, and a value that its field doesn't hold: the first number */
+        memcpy(line, own, RECORD);
+        int column = lettered ? 3 : 1;
+        line[column - 1] = 'x';
+        refuses(kind, line, RECORD, 5, (uint32_t)column, kind);
+        stragumella_record v = r.value;
+        v.numbers[0] = INT32_MAX;
+        stragumella_record w = r.value;
+        w.name[39] ^= 1; /* a trail byte of an A's name, and an entry that the others lack */
+        if (kind == 6)
+            w.name[39] = 0x7F;
+        stragumella_record u = r.value;
+        u.numbers[15] = 100000; /* too large for an N, and an entry that the others lack */
+        for (size_t i = 0; i < N_LENGTHS; i++) {
+            uint32_t number = LENGTHS[i] < RECORD ? 21 : 20;
+            writes(v, LENGTHS[i], number, own);
+            writes(w, LENGTHS[i], number, own);
+            writes(u, LENGTHS[i], number, own);
+        }
+        /* no kind: refused whatever the bytes and the value */
+        for (size_t k = 0; k < N_NO_KINDS; k++) {
+            stragumella_record x = r.value;
+            x.kind = NO_KINDS[k];
+            for (size_t i = 0; i < N_LENGTHS; i++) {
+                refuses(NO_KINDS[k], line, LENGTHS[i], 3, 1, 0);
+                writes(x, LENGTHS[i], LENGTHS[i] < RECORD ? 21 : 20, own);
+            }
+            refuses(NO_KINDS[k], own, RECORD, 3, 1, 0);
+        }
+    }
+    uint8_t h1[RECORD];
+    memcpy(h1, s + RECORD, RECORD);
+    h1[1] = '1';
+    refuses(2, h1, RECORD, 7, 1, 2);
+    refuses(1, h1, RECORD, 3, 1, 1);
+}
+
+int main(void)
+{
+    files();
+    positions();
+    records();
+    if (failed)
+        printf("test_api: %u of %u failed, the first at line %u\n", failed, tried, first);
+    else
+        printf("test_api: all %u hold\n", tried);
+    return failed != 0;
+}
