@@ -249,6 +249,10 @@ longest() {
 
 by_size() {
     local meshes=64 v
+    if [ "$(df -Pk "$work" | awk 'NR == 2 { print $4 }')" -lt 1048576 ]; then
+        skip "files of several hundred megabytes" "less than a gigabyte is free for them"
+        return
+    fi
     head -c 469999974 /dev/zero | tr '\0' ' ' >"$work/big"
     says_refused "470 MB of spaces" 2 1 73 check "$work/big"
     truncate -s 0 "$work/big" && truncate -s $most "$work/big"
