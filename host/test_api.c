@@ -3,6 +3,9 @@
  * by one, exact and longer, and every lent buffer held to what the header says of it, untouched parts too. Each lent
  * buffer is a block of its own of just its length, so that a memory checker sees a step past it. Prints one line; the
  * exit status is 0 or 1.
+ *
+ *     rt staticlib capi
+ *     gcc -std=c11 -Iinclude -o test_api host/test_api.c target/staticlib/libcapi.a
  */
 #include "stragumella.h"
 

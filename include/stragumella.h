@@ -2,8 +2,8 @@
  * stragumella.h: the C library for map sheets of 74-byte records (boundary and coastline, river and lake).
  *
  * This header is the authority for C callers. What each call answers, and what each lent buffer holds afterwards, is
- * proved of the library's code, for every input; docs/PROMISES.md leads from each promise to its theorem. What is not
- * proved: the compiler's back end, and the code that calls.
+ * proved of the library's code, for every input; docs/PROMISES.md leads from each of its three promises (Total, Exact,
+ * No ground lost) to the theorems. What is not proved: the compiler's back end, and the code that calls.
  *
  * The archive is for x86-64 with the System V calling convention (Linux), whatever machine built it.
  *
@@ -51,9 +51,9 @@
  *   22  -      layer sums: there is no such layer; judged after acceptance                 -
  *
  * How to call
- *   words = stragumella_need(file, length). Lend a table of so many words, and as many places for measures: there are
- *   never more areas than words. Then the judge answers neither 9 nor 19. If words is 0, the file is refused
- *   and the judge names the refusal, with no table at all.
+ *   words = stragumella_need(file, length). Lend a table of so many words, and as many places for measures: a file has
+ *   never more areas than its table has words. Then the judge answers neither 9 nor 19. If words is 0, the file is
+ *   refused in stage 1 or 2: the judge names the refusal, and no table has to be lent.
  */
 #ifndef STRAGUMELLA_H
 #define STRAGUMELLA_H
@@ -119,10 +119,10 @@ typedef struct {
 
 /*
  * The words of the table that a file needs: the sum of 4 + lines + areas over its layers. 0 for a file that is
- * refused in stage 1 or 2, and never 0 for another: a file with later faults has a need.
+ * refused in stage 1 or 2. A file with later faults has a need.
  *
  * file     length bytes, read.
- * Promises: total; exact: the table has as many words as the need says.
+ * Promises: Total. Exact: the table has as many words as the need says.
  */
 uint64_t stragumella_need(const uint8_t *file, size_t length);
 
@@ -137,7 +137,8 @@ uint64_t stragumella_need(const uint8_t *file, size_t length);
  *          record, then every area's A record.
  * measures areas places; what they hold before doesn't matter. Accepted: the first places, as many as the outcome's
  *          areas, hold the areas' measures in file order, and the rest is untouched. Refused: untouched.
- * Promises: total; exact: the answer is the least broken rule, and no second answer fits.
+ * Promises: Total. Exact: the answer is the least broken rule, and no second answer fits. No ground lost: the measures
+ * are those that the layer sums are made of.
  */
 stragumella_outcome stragumella_judge(const uint8_t *file, size_t length, uint32_t *table, size_t words,
                                       int64_t *measures, size_t areas);
@@ -150,7 +151,8 @@ stragumella_outcome stragumella_judge(const uint8_t *file, size_t length, uint32
  * file     length bytes, read.
  * table    words words. Refused with 1 to 9: untouched. Refused later, 22 included, or accepted: the table stands in
  *          its first words and the rest is untouched, as behind the judge.
- * Promises: total; exact; no ground lost: the two sums are equal, whatever the file, the table and the layer.
+ * Promises: Total. Exact, as the judge. No ground lost: the two sums are equal, whatever the file, the table and the
+ * layer.
  */
 stragumella_sums stragumella_layer_sums(const uint8_t *file, size_t length, uint32_t *table, size_t words,
                                         uint32_t layer);
@@ -159,7 +161,7 @@ stragumella_sums stragumella_layer_sums(const uint8_t *file, size_t length, uint
  * The latitude and longitude of the point (x, y) on the sheet with the code mesh, in degrees. Latitude is the whole
  * hundredths of a second divided once by 360000, longitude the whole 200ths divided once by 720000. 6 if mesh is no
  * permitted code or x or y is not 0 to 10000; a negative number is not permitted. No buffer is lent.
- * Promises: total; exact: the whole numbers are converted exactly.
+ * Promises: Total. Exact: the whole numbers are converted exactly.
  */
 stragumella_place stragumella_position(int32_t mesh, int32_t x, int32_t y);
 
@@ -171,7 +173,7 @@ stragumella_place stragumella_position(int32_t mesh, int32_t x, int32_t y);
  * A kind that is not 1 to 7 is 3 at record 1, column 1, whatever the bytes, and the value is all 0, its kind too.
  *
  * bytes    length bytes, read.
- * Promises: total; exact: what the writer wrote is read as the same value.
+ * Promises: Total. Exact: what the writer wrote is read as the same value.
  */
 stragumella_reading stragumella_read_record(uint32_t kind, const uint8_t *bytes, size_t length);
 
@@ -182,7 +184,7 @@ stragumella_reading stragumella_read_record(uint32_t kind, const uint8_t *bytes,
  *
  * buffer   length bytes; what they hold before doesn't matter. With 0 the record stands in the first 74 bytes and the
  *          rest is untouched. With 20 or 21 all of it is untouched.
- * Promises: total; exact: what the reader read is written as the same 74 bytes.
+ * Promises: Total. Exact: what the reader read is written as the same 74 bytes.
  */
 uint32_t stragumella_write_record(stragumella_record value, uint8_t *buffer, size_t length);
 
