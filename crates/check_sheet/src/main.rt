@@ -1,0 +1,4 @@
+// Document 01's program `check`, over standard input.
+fn main() {
+    report::check(0);
+}

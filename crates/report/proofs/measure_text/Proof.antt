@@ -1,0 +1,57 @@
+-- `report::measure_text` meets its contract: too long, accepted or refused. Assumes nothing.
+use native.Mathlib.Omega.{arith}
+use Rattle.report.proofs.Putting.{named}
+use Rattle.report.proofs.Areas.{few-records}
+use Rattle.report.proofs.Answers.{measure-long, measure-ok, measure-refused}
+use borrow.Author.Needs.{needs}
+use Rattle.report.proofs.measure_text.Statement.{statement}
+use Rattle.report.proofs.measure_text.Tie as tie
+
+slice-aggregate-put : tie.Need-slice-aggregate-put
+slice-aggregate-put c = search needs
+
+put-requires : tie.Need-put-requires
+put-requires c κs = search needs
+
+returns : tie.Need-returns
+returns c = (named (measure-long _ (c .before .before .before .if1 .taken)) (c .put .ensures), omega (arith, c .put .ensures .behind))
+
+slice-aggregate-load : tie.Need-slice-aggregate-load
+slice-aggregate-load c = search needs
+
+slice-aggregate-load-2 : tie.Need-slice-aggregate-load-2
+slice-aggregate-load-2 c = search needs
+
+load-requires : tie.Need-load-requires
+load-requires c κs = search needs
+
+slice-aggregate-put-areas : tie.Need-slice-aggregate-put-areas
+slice-aggregate-put-areas c = search needs
+
+put-areas-requires : tie.Need-put-areas-requires
+put-areas-requires c κs = few-records _ (c .before .before .before .before .before .before .before .before .before .if1 .left)
+
+returns-2 : tie.Need-returns-2
+returns-2 c = (named (measure-ok _ (c .before .before .before .before .before .before .before .before .before .before .if1 .left) (c .before .before .before .before .before .before .before .load .ensures .0) (c .before .before .before .if2 .taken) (c .before .before .before .before .before .before .before .load .ensures .2)) (c .put-areas .ensures .0), omega (arith, c .put-areas .ensures .1))
+
+put-refused-requires : tie.Need-put-refused-requires
+put-refused-requires c κs = search needs
+
+returns-3 : tie.Need-returns-3
+returns-3 c = (named (measure-refused _ (c .before .before .before .before .before .before .before .before .before .if1 .left) (c .before .before .before .before .before .before .load .ensures .0) (c .before .before .if2 .left)) (c .put-refused .ensures .0), omega (arith, c .put-refused .ensures .1))
+
+pub measure-text-spec : {M : Type 1} → statement M
+measure-text-spec =
+    tie.close
+    (tie.spec
+    slice-aggregate-put
+    put-requires
+    returns
+    slice-aggregate-load
+    slice-aggregate-load-2
+    load-requires
+    slice-aggregate-put-areas
+    put-areas-requires
+    returns-2
+    put-refused-requires
+    returns-3)

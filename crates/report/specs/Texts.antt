@@ -1,0 +1,197 @@
+-- What the programs `check` and `measure` print (document 01, "The smallest sheet and its neighbours"). Assumes nothing.
+--   decimal n          a number below 10^20: digits, no leading zeros
+--   signed z           a signed one: "-" before the digits where it is below 0
+--   lineOf name n      a line: the name, the number, a line feed
+--   refusedText, okText, outcomeText   what `check` prints of an outcome
+--   areasText file ms k   what `measure` prints of the areas of the first k records
+--   checkText, measureText   what the programs print of an input
+use mathlib.Core.Bool.{cond}
+use mathlib.Core.List.{List, [], _∷_, _++_}
+use Prim.Native.Nat.{ℕ, zero, suc, _+_, _/_, _%_}
+use lib.Dec.{eqb, ltb}
+use lib.IntN.{ℤ, pos, negsuc}
+use lib.ListN.{length, getD, replicate}
+use Rattle.records.specs.View.{recordOf}
+use Rattle.rules.specs.declared.Due.{Due}
+use Rattle.rules.specs.declared.Due.the-variants.{Mesh, Layer, Node, Line, Coordinates, Area, Loop}
+use Rattle.walk.specs.declared.State.{State}
+use Rattle.walk.specs.States.{sizeIn, dueOf, stateAt, countsAt}
+use Rattle.walk.specs.Stages.{recordsOf}
+use Rattle.judge.specs.declared.Outcome.{Outcome}
+use Rattle.judge.specs.Outcomes.{outcomeOf, measuresAfter}
+use Rattle.report.specs.declared.Shown.{Shown}
+
+-- the last digit, and those before it; w is more than the digits
+unfoldable pub digitsTo : ℕ → ℕ → List ℕ
+digitsTo zero n = []
+digitsTo (suc w) n = cond (ltb n 10) ((48 + n) ∷ []) (digitsTo w (n / 10) ++ ((48 + n % 10) ∷ []))
+
+unfoldable pub decimal : ℕ → List ℕ
+decimal n = digitsTo 20 n
+
+unfoldable pub signed : ℤ → List ℕ
+signed (pos n) = decimal n
+signed (negsuc n) = 45 ∷ decimal (suc n)
+
+abbrev pub lineFeed : List ℕ
+lineFeed = 10 ∷ []
+
+abbrev pub lineOf : List ℕ → ℕ → List ℕ
+lineOf name n = (name ++ decimal n) ++ lineFeed
+
+-- "status=ok\n"
+abbrev pub statusOk : List ℕ
+statusOk = 115 ∷ 116 ∷ 97 ∷ 116 ∷ 117 ∷ 115 ∷ 61 ∷ 111 ∷ 107 ∷ 10 ∷ []
+
+-- "meshes="
+abbrev pub meshesName : List ℕ
+meshesName = 109 ∷ 101 ∷ 115 ∷ 104 ∷ 101 ∷ 115 ∷ 61 ∷ []
+
+-- "layers="
+abbrev pub layersName : List ℕ
+layersName = 108 ∷ 97 ∷ 121 ∷ 101 ∷ 114 ∷ 115 ∷ 61 ∷ []
+
+-- "nodes="
+abbrev pub nodesName : List ℕ
+nodesName = 110 ∷ 111 ∷ 100 ∷ 101 ∷ 115 ∷ 61 ∷ []
+
+-- "lines="
+abbrev pub linesName : List ℕ
+linesName = 108 ∷ 105 ∷ 110 ∷ 101 ∷ 115 ∷ 61 ∷ []
+
+-- "areas="
+abbrev pub areasName : List ℕ
+areasName = 97 ∷ 114 ∷ 101 ∷ 97 ∷ 115 ∷ 61 ∷ []
+
+-- "records="
+abbrev pub recordsName : List ℕ
+recordsName = 114 ∷ 101 ∷ 99 ∷ 111 ∷ 114 ∷ 100 ∷ 115 ∷ 61 ∷ []
+
+-- "status=refused\n"
+abbrev pub statusRefused : List ℕ
+statusRefused = 115 ∷ 116 ∷ 97 ∷ 116 ∷ 117 ∷ 115 ∷ 61 ∷ 114 ∷ 101 ∷ 102 ∷ 117 ∷ 115 ∷ 101 ∷ 100 ∷ 10 ∷ []
+
+-- "number="
+abbrev pub numberName : List ℕ
+numberName = 110 ∷ 117 ∷ 109 ∷ 98 ∷ 101 ∷ 114 ∷ 61 ∷ []
+
+-- "record="
+abbrev pub recordName : List ℕ
+recordName = 114 ∷ 101 ∷ 99 ∷ 111 ∷ 114 ∷ 100 ∷ 61 ∷ []
+
+-- "column="
+abbrev pub columnName : List ℕ
+columnName = 99 ∷ 111 ∷ 108 ∷ 117 ∷ 109 ∷ 110 ∷ 61 ∷ []
+
+-- "status=toolong\n"
+abbrev pub statusTooLong : List ℕ
+statusTooLong = 115 ∷ 116 ∷ 97 ∷ 116 ∷ 117 ∷ 115 ∷ 61 ∷ 116 ∷ 111 ∷ 111 ∷ 108 ∷ 111 ∷ 110 ∷ 103 ∷ 10 ∷ []
+
+-- "mesh="
+abbrev pub meshName : List ℕ
+meshName = 109 ∷ 101 ∷ 115 ∷ 104 ∷ 61 ∷ []
+
+-- " layer="
+abbrev pub layerName : List ℕ
+layerName = 32 ∷ 108 ∷ 97 ∷ 121 ∷ 101 ∷ 114 ∷ 61 ∷ []
+
+-- " area="
+abbrev pub areaName : List ℕ
+areaName = 32 ∷ 97 ∷ 114 ∷ 101 ∷ 97 ∷ 61 ∷ []
+
+-- " code="
+abbrev pub codeName : List ℕ
+codeName = 32 ∷ 99 ∷ 111 ∷ 100 ∷ 101 ∷ 61 ∷ []
+
+-- " measure="
+abbrev pub measureName : List ℕ
+measureName = 32 ∷ 109 ∷ 101 ∷ 97 ∷ 115 ∷ 117 ∷ 114 ∷ 101 ∷ 61 ∷ []
+
+-- "A refused file gives four lines"
+unfoldable pub refusedText : Outcome → List ℕ
+refusedText o =
+    statusRefused
+    ++ (lineOf numberName (o .number)
+    ++ (lineOf recordName (o .place)
+    ++ lineOf columnName (o .column)))
+
+-- "For S it prints, whole": "Counts are over the whole file."
+unfoldable pub okText : Outcome → List ℕ
+okText o =
+    statusOk
+    ++ (lineOf meshesName (o .meshes)
+    ++ (lineOf layersName (o .layers)
+    ++ (lineOf nodesName (o .nodes)
+    ++ (lineOf linesName (o .lines)
+    ++ (lineOf areasName (o .areas)
+    ++ lineOf recordsName (o .records))))))
+
+unfoldable pub outcomeText : Outcome → List ℕ
+outcomeText o = cond (eqb (o .number) 0) (okText o) (refusedText o)
+
+-- ---- the areas
+
+-- "mesh=533945 layer=1 area=1 code=13101 measure=200000000", and a line feed
+unfoldable pub areaText : Shown → ℤ → List ℕ
+areaText x m =
+    (meshName ++ decimal (x .mesh))
+    ++ ((layerName ++ decimal (x .layer))
+    ++ ((areaName ++ decimal (x .area))
+    ++ ((codeName ++ decimal (x .code))
+    ++ (measureName
+    ++ (signed m
+    ++ lineFeed)))))
+
+-- of the A record t, due in the state s: "code 5-9; serial 10-14"; "layer being the layer code"
+unfoldable pub shownIn : State → List ℕ → Shown
+shownIn s t = record { mesh = s .mesh; layer = s .layer; area = sizeIn t 10 5; code = sizeIn t 5 5 }
+
+-- of the record t, due as d, where m is the measure: only an A has a line
+unfoldable pub recordText : Due → State → List ℕ → ℤ → List ℕ
+recordText (Mesh last) s t m = []
+recordText (Layer last) s t m = []
+recordText (Node layer last) s t m = []
+recordText (Line layer last) s t m = []
+recordText (Coordinates left) s t m = []
+recordText (Area layer last) s t m = areaText (shownIn s t) m
+recordText (Loop last count left) s t m = []
+
+-- how many areas the record begins
+abbrev pub areaCount : Due → ℕ
+areaCount (Mesh last) = 0
+areaCount (Layer last) = 0
+areaCount (Node layer last) = 0
+areaCount (Line layer last) = 0
+areaCount (Coordinates left) = 0
+areaCount (Area layer last) = 1
+areaCount (Loop last count left) = 0
+
+-- of the first k records, "one line an area in file order"; ms has the areas' measures
+unfoldable pub areasText : List ℕ → List ℤ → ℕ → List ℕ
+areasText file ms zero = []
+areasText file ms (suc k) =
+    areasText file ms k
+    ++ recordText (dueOf (stateAt file k)) (stateAt file k) (recordOf file (suc k)) (getD ms (countsAt file k .areas) (pos 0))
+
+-- ---- the programs
+
+-- "up to 65,490 bytes (885 records; beyond, it prints only `status=toolong`)"
+abbrev pub bounded : List ℕ → List ℕ → List ℕ
+bounded input text = cond (ltb 65490 (length input)) statusTooLong text
+
+-- the judge's answer, with buffers that are long enough for 885 records
+abbrev pub answerTo : List ℕ → Outcome
+answerTo file = outcomeOf file 3540 443
+
+-- the measures that the judge leaves
+abbrev pub measuresTold : List ℕ → List ℤ
+measuresTold file = measuresAfter file 3540 (replicate 443 (pos 0))
+
+-- "Program `check`"
+unfoldable pub checkText : List ℕ → List ℕ
+checkText input = bounded input (outcomeText (answerTo input))
+
+-- "Program `measure`, same input and bound, prints .. one line an area in file order ..; other outcomes as in `check`"
+unfoldable pub measureText : List ℕ → List ℕ
+measureText input =
+    bounded input (cond (eqb (answerTo input .number) 0) (areasText input (measuresTold input) (recordsOf input)) (refusedText (answerTo input)))
