@@ -1,12 +1,10 @@
 -- The fewest digits that hold a number are its decimal text: the last one is the remainder by 10, and the quotient has one digit fewer.
 -- Assumes nothing.
 use mathlib.Core.Path.{_≡_, _∙_, ap, subst, subst⁻¹}
-use mathlib.Core.Bool.{true, cond}
-use mathlib.Core.List.{List, [], _∷_, _++_}
-use Prim.Native.Nat.{ℕ, zero, suc, _+_, _-_, _*_, _/_, _%_, _^_, _≤_, _<_}
+use mathlib.Core.List.{[], _∷_, _++_}
+use Prim.Native.Nat.{ℕ, zero, suc, _+_, _-_, _/_, _%_, _^_, _≤_, _<_}
 use native.Mathlib.Nat.{pow-succ'}
 use native.Mathlib.Omega.{arith}
-use lib.Dec.{ltb}
 use borrow.Author.Tests.{lt-ltb, le-ltb}
 use Rattle.io.specs.Digits.{glyph, digits, Fewest}
 use Rattle.report.specs.Texts.{digitsTo, decimal}

@@ -4,3 +4,4 @@ pub mod Decimals
 pub mod Negated
 pub mod Areas
 pub mod Answers
+pub mod Accepted

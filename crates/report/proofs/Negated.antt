@@ -3,15 +3,15 @@
 use mathlib.Core.Path.{_≡_, refl, _∙_, ap, subst, subst⁻¹}
 use mathlib.Core.Bool.{true, false}
 use mathlib.Core.List.{_∷_}
-use Prim.Native.Nat.{ℕ, zero, suc, _+_, _<_, _≤_, _^_}
+use Prim.Native.Nat.{ℕ, zero, suc, _+_, _<_, _^_}
 use native.Mathlib.Numerals.{add-one}
 use native.Mathlib.Omega.{arith}
 use lib.Dec.{T}
 use lib.IntN.{ℤ, pos, negsuc, sucℤ, negℤ, natAbs, _+ℤ_, _-ℤ_, +ℤ-one, +ℤ-idl}
-use lib.Signed.{ltZ, nonNeg, mag}
+use lib.Signed.{ltZ, nonNeg}
 use borrow.Author.Tests.{ltb-true}
 use mir.Syntax.{w64}
-use mir.Val.{Fits, SFits, ofZ, toZ}
+use mir.Val.{SFits, ofZ, toZ}
 use mir.ValLaws.{toZ-ofZ}
 use Rattle.report.specs.Texts.{decimal, signed}
 
