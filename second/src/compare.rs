@@ -1,0 +1,393 @@
+//! The comparison: every answer of the other program against our own.
+
+use crate::damage::{damaged, interesting, set};
+use crate::generate::{assert_accepted, from_seed, long_loops, sheet, sheet_of};
+use crate::judge::{verdict, Verdict};
+use crate::layout::{layout, Kind, KINDS, RECORD};
+use crate::positions::position;
+use crate::product::{Product, RawValue, Second};
+use crate::random::Random;
+use crate::records::{read, Refusal};
+use crate::sheet::{joined, sheet_s, Records, Sheet};
+use crate::sums::answer;
+use crate::walk::record;
+use std::fmt::Debug;
+use std::path::PathBuf;
+
+/// The first answer on which the two programs differ.
+#[derive(Debug)]
+pub struct Disagreement {
+    pub what: String,
+    pub ours: String,
+    pub theirs: String,
+    /// The file or the record it is about.
+    pub bytes: Vec<u8>,
+}
+
+/// Everything compared so far.
+pub struct Compare<'a> {
+    product: &'a dyn Product,
+    /// Where each file is written before it is compared, in case the other program does not return.
+    pub before: Option<PathBuf>,
+    pub files: u64,
+    /// How often each number was the answer: of the judge, layer sums, reader, writer, position.
+    pub reached: [[u64; 23]; 5],
+}
+
+const JUDGE: usize = 0;
+const SUMS: usize = 1;
+const READER: usize = 2;
+const WRITER: usize = 3;
+const POSITION: usize = 4;
+
+type Agreed = Result<(), Disagreement>;
+
+fn agree<T: PartialEq + Debug>(what: &str, bytes: &[u8], ours: T, theirs: T) -> Agreed {
+    if ours == theirs {
+        return Ok(());
+    }
+    let (ours, theirs) = (format!("{ours:?}"), format!("{theirs:?}"));
+    Err(Disagreement { what: what.into(), ours, theirs, bytes: bytes.to_vec() })
+}
+
+/// A buffer with a pattern, longer than what is lent.
+const SPARE: usize = 2;
+
+fn words(length: usize) -> Vec<u32> {
+    (0..length + SPARE).map(|index| 0xA5A5_0000 ^ index as u32).collect()
+}
+
+fn longs(length: usize) -> Vec<i64> {
+    (0..length + SPARE).map(|index| -0x5A5A_5A5A_0000_0000 ^ index as i64).collect()
+}
+
+impl<'a> Compare<'a> {
+    pub fn new(product: &'a dyn Product) -> Compare<'a> {
+        Compare { product, before: None, files: 0, reached: [[0; 23]; 5] }
+    }
+
+    fn reach(&mut self, call: usize, number: u32) {
+        self.reached[call][number as usize] += 1;
+    }
+
+    /// Every answer about one file and about each of its records.
+    pub fn file(&mut self, file: &[u8]) -> Agreed {
+        let verdict = verdict(file);
+        self.whole_file(file, &verdict)?;
+        self.records(file, &verdict.kinds)
+    }
+
+    /// Every answer about one file.
+    fn whole_file(&mut self, file: &[u8], verdict: &Verdict) -> Agreed {
+        self.files += 1;
+        if let Some(path) = &self.before {
+            std::fs::write(path, file).expect("the file can be written");
+        }
+        agree("need", file, verdict.need(), self.product.need(file))?;
+        for (words, areas) in buffer_lengths(verdict.table.len(), verdict.measures.len()) {
+            self.judged(file, verdict, words, areas)?;
+        }
+        self.summed(file, verdict)
+    }
+
+    /// The judge's answer, and both buffers afterwards.
+    fn judged(&mut self, file: &[u8], verdict: &Verdict, length: usize, areas: usize) -> Agreed {
+        let ours = verdict.outcome(length, areas);
+        let mut table = words(length);
+        let mut measures = longs(areas);
+        let theirs = self.product.judge(file, &mut table[..length], &mut measures[..areas]);
+        let what = format!("judge, table of {length} words, {areas} measures");
+        agree(&what, file, ours, theirs)?;
+        agree(&format!("{what}: the table"), file, table_after(verdict, length), table)?;
+        let mut measured = longs(areas);
+        if ours.refusal.number == 0 {
+            measured[..verdict.measures.len()].copy_from_slice(&verdict.measures);
+        }
+        agree(&format!("{what}: the measures"), file, measured, measures)?;
+        self.reach(JUDGE, ours.refusal.number);
+        Ok(())
+    }
+
+    /// The sums of each layer, of layer 0 and of one layer too many.
+    fn summed(&mut self, file: &[u8], verdict: &Verdict) -> Agreed {
+        let layers = verdict.sums.len() as u32;
+        let need = verdict.table.len();
+        let asked: Vec<u32> = if file.len() > 1_000_000 {
+            vec![0, 1, layers, layers + 1]
+        } else {
+            (0..=layers + 1).collect()
+        };
+        for layer in asked {
+            self.summed_layer(file, verdict, need, layer)?;
+        }
+        if layers > 0 {
+            self.summed_layer(file, verdict, need + 3, 1)?;
+            self.summed_layer(file, verdict, need, u32::MAX)?;
+        }
+        self.summed_layer(file, verdict, need.saturating_sub(1), layers + 1)
+    }
+
+    fn summed_layer(&mut self, file: &[u8], verdict: &Verdict, length: usize, layer: u32) -> Agreed {
+        let ours = answer(verdict, length, layer);
+        let mut table = words(length);
+        let theirs = self.product.layer_sums(file, &mut table[..length], layer);
+        let what = format!("sums of layer {layer}, table of {length} words");
+        agree(&what, file, ours, theirs)?;
+        agree(&format!("{what}: the table"), file, table_after(verdict, length), table)?;
+        self.reach(SUMS, ours.0.number);
+        Ok(())
+    }
+
+    /// Every record, read by its kind and by another, and written back.
+    fn records(&mut self, file: &[u8], kinds: &[Kind]) -> Agreed {
+        let most = if file.len() > 1_000_000 { 20_000 } else { file.len() / RECORD };
+        for k in 1..=most {
+            let bytes = record(file, k);
+            let other = KINDS[(k + file.len()) % 7];
+            self.record(kinds.get(k - 1).copied().unwrap_or(other), bytes)?;
+            if k % 8 == 0 {
+                self.record(other, bytes)?;
+            }
+        }
+        Ok(())
+    }
+
+    /// One record, read and written back.
+    pub fn record(&mut self, kind: Kind, bytes: &[u8]) -> Agreed {
+        let what = format!("record of kind {kind:?}");
+        let ours = Second.read_record(kind as u32, bytes);
+        agree(&format!("{what}, read"), bytes, ours, self.product.read_record(kind as u32, bytes))?;
+        self.reach(READER, ours.0.number);
+        if ours.0 == Refusal::default() {
+            self.value(ours.1, RECORD)?;
+        }
+        Ok(())
+    }
+
+    /// One value, written to a buffer of this length.
+    pub fn value(&mut self, value: RawValue, length: usize) -> Agreed {
+        let pattern: Vec<u8> = (0..length + SPARE).map(|index| 0xC3 ^ index as u8).collect();
+        let (mut ours, mut theirs) = (pattern.clone(), pattern);
+        let our_number = Second.write_record(value, &mut ours[..length]);
+        let their_number = self.product.write_record(value, &mut theirs[..length]);
+        let what = format!("{value:?}, written to {length} bytes");
+        agree(&what, &ours, our_number, their_number)?;
+        agree(&format!("{what}: the buffer"), &ours, &ours, &theirs)?;
+        self.reach(WRITER, our_number);
+        Ok(())
+    }
+
+    pub fn position(&mut self, mesh: i32, x: i32, y: i32) -> Agreed {
+        let (number, latitude, longitude) = match position(mesh, x, y) {
+            Ok((latitude, longitude)) => (0, latitude, longitude),
+            Err(number) => (number, 0.0, 0.0),
+        };
+        let theirs = self.product.position(mesh, x, y);
+        let ours = (number, latitude.to_bits(), longitude.to_bits());
+        let theirs = (theirs.0, theirs.1.to_bits(), theirs.2.to_bits());
+        agree(&format!("position {mesh} {x} {y}, degrees as bits"), &[], ours, theirs)?;
+        self.reach(POSITION, number);
+        Ok(())
+    }
+}
+
+/// Tables of 0, need - 1, need and need + 3 words; measures for one area too few, for all, for two more, and none.
+fn buffer_lengths(need: usize, areas: usize) -> Vec<(usize, usize)> {
+    let fewer = areas.saturating_sub(1);
+    if need == 0 {
+        return vec![(0, 2), (3, 0)];
+    }
+    let mut lengths = vec![(0, areas + 2), (need - 1, fewer), (need, areas), (need + 3, areas + 2)];
+    lengths.push((need, 0));
+    if fewer > 0 {
+        lengths.push((need + 3, fewer));
+    }
+    lengths
+}
+
+/// The table buffer after a call.
+fn table_after(verdict: &Verdict, length: usize) -> Vec<u32> {
+    let mut table = words(length);
+    if verdict.table_stands(length) {
+        table[..verdict.table.len()].copy_from_slice(&verdict.table);
+    }
+    table
+}
+
+// The parts of the comparison.
+
+/// Part 1: every one-byte change of sheet S.
+pub fn one_byte_changes(compare: &mut Compare) -> Agreed {
+    let sheet = sheet_s().bytes();
+    compare.file(&sheet)?;
+    let mut changed = sheet.clone();
+    for index in 0..sheet.len() {
+        for step in 1..=255u8 {
+            changed[index] = sheet[index].wrapping_add(step);
+            compare.file(&changed)?;
+        }
+        changed[index] = sheet[index];
+    }
+    Ok(())
+}
+
+/// Part 2: every field of every kind set to each interesting value, in sheet S and in generated sheets.
+/// Every second sheet has loops over several records.
+pub fn every_field(compare: &mut Compare, seeds: std::ops::Range<u64>) -> Agreed {
+    every_field_of(compare, &sheet_s(), &mut Random::new(0))?;
+    for seed in seeds {
+        let random = &mut Random::new(seed);
+        let sheet = short_sheet(random, seed % 2 == 0);
+        every_field_of(compare, &sheet, random)?;
+    }
+    Ok(())
+}
+
+/// A generated sheet of 20 to 200 records.
+fn short_sheet(random: &mut Random, with_long_loops: bool) -> Sheet {
+    loop {
+        let sheet = if with_long_loops { long_loops(random) } else { sheet(random, 2, 3) };
+        let records: usize = sheet.meshes.iter().map(|mesh| mesh.length()).sum();
+        if (20..=200).contains(&records) {
+            assert_accepted(&sheet);
+            return sheet;
+        }
+    }
+}
+
+fn every_field_of(compare: &mut Compare, sheet: &Sheet, random: &mut Random) -> Agreed {
+    let records = sheet.records();
+    for index in chosen_records(&records, random) {
+        let kind = records[index].0;
+        for field in &layout(kind).fields {
+            for text in interesting(field, field.of(&records[index].1)) {
+                let mut changed = records.clone();
+                set(&mut changed[index].1, field, &text);
+                compare.record(kind, &changed[index].1)?;
+                let file = joined(&changed);
+                compare.whole_file(&file, &verdict(&file))?;
+            }
+        }
+    }
+    Ok(())
+}
+
+/// Of each kind a record that follows one of its kind, and a record that does not.
+fn chosen_records(records: &Records, random: &mut Random) -> Vec<usize> {
+    let mut chosen = Vec::new();
+    for kind in KINDS {
+        let follows = |index: usize| index > 0 && records[index - 1].0 == kind;
+        let places = (0..records.len()).filter(|index| records[*index].0 == kind);
+        let (later, first): (Vec<usize>, Vec<usize>) = places.partition(|index| follows(*index));
+        for places in [first, later] {
+            if !places.is_empty() {
+                chosen.push(*random.pick(&places));
+            }
+        }
+    }
+    chosen
+}
+
+/// Part 3: generated sheets, each as it is and with several seeded damages.
+pub fn damages(compare: &mut Compare, seed: u64, count: usize) -> Agreed {
+    const OF_EACH: usize = 40;
+    for round in 0..count.div_ceil(OF_EACH) {
+        let sheet = from_seed(seed + round as u64);
+        let random = &mut Random::new(!(seed + round as u64));
+        compare.file(&sheet.bytes())?;
+        let long = sheet.meshes.iter().map(|mesh| mesh.length()).sum::<usize>() > 1500;
+        let of_this = OF_EACH.min(count - round * OF_EACH);
+        for _ in 0..if long { of_this / 8 } else { of_this } {
+            compare.file(&damaged(random, &sheet))?;
+        }
+    }
+    Ok(())
+}
+
+/// Part 3 also: values that the writer may refuse, and buffers of other lengths.
+pub fn odd_values(compare: &mut Compare, seed: u64, count: usize) -> Agreed {
+    let random = &mut Random::new(seed);
+    let sheet = from_seed(seed).records();
+    for _ in 0..count {
+        let (kind, bytes) = random.pick(&sheet);
+        let mut value = RawValue::from(read(*kind, bytes).expect("a generated record is good"));
+        for _ in 0..random.below(3) {
+            let bound = *random.pick(&[0, 1, 9, 99, 999, 9999, 10_000, 99_999, 100_000, 999_999, 1_000_000]);
+            let number = *random.pick(&[bound, -bound, bound + 1, -bound - 1, i32::MAX, i32::MIN]);
+            value.numbers[random.below(16)] = number;
+        }
+        if random.percent(30) {
+            value.name[random.below(40)] = random.below(256) as u8;
+        }
+        if random.percent(20) {
+            value.kind = 1 + random.below(7) as u32;
+        }
+        let length = *random.pick(&[74, 74, 74, 75, 80, 148, 73, 1, 0]);
+        compare.value(value, length)?;
+        let cut = *random.pick(&[0, 1, 73, 74, 75]);
+        let longer: Vec<u8> = bytes.iter().chain(b"  ").copied().collect();
+        compare.record(*kind, &longer[..cut])?;
+    }
+    Ok(())
+}
+
+/// Part 4: a sheet from outside, as it is and with changes to single bytes.
+pub fn outside_sheet(compare: &mut Compare, sheet: &[u8], changes: usize) -> Agreed {
+    compare.file(sheet)?;
+    let random = &mut Random::new(sheet.len() as u64);
+    for _ in 0..if sheet.is_empty() { 0 } else { changes } {
+        let mut changed = sheet.to_vec();
+        for _ in 0..1 + random.below(2) {
+            let at = random.below(changed.len());
+            changed[at] = *random.pick(b"0123456789 -\r\n\x81");
+        }
+        compare.file(&changed)?;
+    }
+    Ok(())
+}
+
+/// Part 5: positions for every last two mesh digits and coordinates at corners, edges and inside.
+pub fn positions(compare: &mut Compare) -> Agreed {
+    let places = [0, 10_000, 1, 9999, 5000, 3333, 7, -1, 10_001, i32::MIN, i32::MAX];
+    for first in [1000, 1099, 3036, 4830, 5339, 5440, 6848, 9900, 9999] {
+        for last in 0..100 {
+            for x in places {
+                for y in places {
+                    compare.position(first * 100 + last, x, y)?;
+                }
+            }
+        }
+    }
+    for mesh in [0, 1, 99_977, 99_999, 100_000, 999_977, 999_978, 1_000_000, 5_339_450, -533_945, i32::MIN, i32::MAX] {
+        for x in places {
+            compare.position(mesh, x, 5000)?;
+        }
+    }
+    let random = &mut Random::new(5);
+    for _ in 0..20_000 {
+        let mesh = random.within(10_00, 99_99) * 100 + random.within(0, 7) * 10 + random.within(0, 7);
+        compare.position(mesh, random.within(0, 10_000), random.within(0, 10_000))?;
+    }
+    Ok(())
+}
+
+/// The large part: as many records as a file may have, one more, and faults at the last record.
+pub fn large(compare: &mut Compare) -> Agreed {
+    let most = crate::layout::MOST_RECORDS;
+    let mut file = sheet_of(&mut Random::new(64), most).bytes();
+    compare.file(&file)?;
+    let end = file.len();
+    file[end - 1] = b'\r';
+    compare.file(&file)?;
+    file[end - 1] = b'\n';
+    file[end - 3] = b'x';
+    compare.file(&file)?;
+    file[end - 3] = b' ';
+    file.push(b' ');
+    compare.file(&file)?;
+    file.pop();
+    file.extend_from_within(..RECORD);
+    compare.file(&file)?;
+    file[end - 1] = b'\r';
+    compare.file(&file)
+}

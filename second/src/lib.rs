@@ -1,0 +1,15 @@
+//! A second program for document 01: it judges the same files, written another way.
+
+pub mod compare;
+pub mod damage;
+pub mod fields;
+pub mod generate;
+pub mod judge;
+pub mod layout;
+pub mod positions;
+pub mod product;
+pub mod random;
+pub mod records;
+pub mod sheet;
+pub mod sums;
+pub mod walk;

@@ -1,0 +1,151 @@
+//! One record: read and written by its kind.
+
+use crate::fields::{is_blank, is_name, number, spelled};
+use crate::layout::{layout, Field, Kind, Sort, RECORD};
+
+/// A refusal and its place. Number 0 at 0, 0 is acceptance.
+#[derive(Clone, Copy, Debug, PartialEq, Eq, Default)]
+pub struct Refusal {
+    pub number: u32,
+    pub record: u32,
+    pub column: u32,
+}
+
+/// Every broken rule is told here. The least counts: by record, then column, then number.
+#[derive(Clone, Debug, Default)]
+pub struct Broken {
+    least: Option<(u32, u32, u32)>,
+}
+
+impl Broken {
+    pub fn rule(&mut self, number: u32, record: u32, column: u32) {
+        let told = (record, column, number);
+        self.least = Some(self.least.map_or(told, |least| least.min(told)));
+    }
+
+    pub fn none(&self) -> bool {
+        self.least.is_none()
+    }
+
+    pub fn result(&self) -> Result<(), Refusal> {
+        match self.least {
+            None => Ok(()),
+            Some((record, column, number)) => Err(Refusal { number, record, column }),
+        }
+    }
+}
+
+/// A record's value. Entries that the kind lacks are 0.
+#[derive(Clone, Copy, Debug, PartialEq, Eq)]
+pub struct Value {
+    pub kind: Kind,
+    pub numbers: [i32; 16],
+    pub name: [u8; 40],
+}
+
+impl Value {
+    pub fn empty(kind: Kind) -> Value {
+        Value { kind, numbers: [0; 16], name: [0; 40] }
+    }
+}
+
+/// The first wrong column of a record's line end.
+pub fn wrong_line_end(record: &[u8]) -> Option<u32> {
+    match (record[72], record[73]) {
+        (0x0D, 0x0A) => None,
+        (0x0D, _) => Some(74),
+        _ => Some(73),
+    }
+}
+
+/// The refusal of the letters: 3, or 7 for H1 where an H is due.
+pub fn wrong_letters(kind: Kind, record: &[u8]) -> Option<u32> {
+    let letters = layout(kind).letters?;
+    if record[..2] == letters {
+        None
+    } else if kind == Kind::H && record[..2] == *b"H1" {
+        Some(7)
+    } else {
+        Some(3)
+    }
+}
+
+/// A field is well formed by its sort.
+pub fn well_formed(field: &Field, record: &[u8]) -> bool {
+    match field.sort {
+        Sort::Number => number(field.of(record)).is_some(),
+        Sort::Name => is_name(field.of(record)),
+        Sort::Blank => is_blank(field.of(record)),
+    }
+}
+
+/// Reads a single record of a named kind.
+pub fn read(kind: Kind, bytes: &[u8]) -> Result<Value, Refusal> {
+    let refused = |number, column| Err(Refusal { number, record: 1, column });
+    if bytes.len() != RECORD {
+        return refused(1, 1);
+    }
+    if let Some(column) = wrong_line_end(bytes) {
+        return refused(2, column);
+    }
+    if let Some(number) = wrong_letters(kind, bytes) {
+        return refused(number, 1);
+    }
+    let ill_formed = layout(kind).fields.iter().filter(|field| !well_formed(field, bytes));
+    if let Some(column) = ill_formed.map(|field| field.start).min() {
+        return refused(5, column as u32);
+    }
+    Ok(value_of(kind, bytes))
+}
+
+/// The value of a well-formed record.
+fn value_of(kind: Kind, record: &[u8]) -> Value {
+    let mut value = Value::empty(kind);
+    for (index, field) in layout(kind).numbers.iter().enumerate() {
+        value.numbers[index] = number(field.of(record)).expect("a well-formed number");
+    }
+    if let Some(field) = layout(kind).name {
+        value.name[..field.width()].copy_from_slice(field.of(record));
+    }
+    value
+}
+
+/// The 74 bytes of a value, or None if the value or an unused entry does not fit.
+pub fn bytes_of(value: &Value) -> Option<[u8; RECORD]> {
+    let layout = layout(value.kind);
+    let mut record = [b' '; RECORD];
+    record[72] = 0x0D;
+    record[73] = 0x0A;
+    if let Some(letters) = layout.letters {
+        record[..2].copy_from_slice(&letters);
+    }
+    for (field, number) in layout.numbers.iter().zip(value.numbers) {
+        let spelling = spelled(number, field.width())?;
+        record[field.start - 1..field.end].copy_from_slice(&spelling[..field.width()]);
+    }
+    let name_width = layout.name.map_or(0, |field| field.width());
+    if let Some(field) = layout.name {
+        if !is_name(&value.name[..name_width]) {
+            return None;
+        }
+        record[field.start - 1..field.end].copy_from_slice(&value.name[..name_width]);
+    }
+    let unused_numbers = &value.numbers[layout.numbers.len()..];
+    let unused_name = &value.name[name_width..];
+    let unused_fit = unused_numbers.iter().all(|n| *n == 0) && unused_name.iter().all(|b| *b == 0);
+    unused_fit.then_some(record)
+}
+
+/// Writes a record. The answer is 0, 21 (short buffer) or 20 (does not fit).
+pub fn write(value: &Value, buffer: &mut [u8]) -> u32 {
+    if buffer.len() < RECORD {
+        return 21;
+    }
+    match bytes_of(value) {
+        None => 20,
+        Some(record) => {
+            buffer[..RECORD].copy_from_slice(&record);
+            0
+        }
+    }
+}

@@ -1,0 +1,58 @@
+//! Generated files are accepted, their sums agree, and they have what real sheets have.
+
+use second::generate::{assert_accepted, from_seed, sheet_of};
+use second::random::Random;
+use second::sheet::{Area, Layer, Sheet};
+use std::collections::BTreeMap;
+
+fn layers(sheet: &Sheet) -> impl Iterator<Item = &Layer> {
+    sheet.meshes.iter().flat_map(|mesh| &mesh.layers)
+}
+
+#[test]
+fn generated_files_are_accepted_and_rich() {
+    let mut seen: BTreeMap<&str, usize> = BTreeMap::new();
+    for seed in 0..1500 {
+        let sheet = from_seed(seed);
+        let mut see = |what, yes: bool| *seen.entry(what).or_default() += usize::from(yes);
+        see("several meshes", sheet.meshes.len() > 1);
+        see("both layers", sheet.meshes.iter().any(|mesh| mesh.layers.len() == 2));
+        for layer in layers(&sheet) {
+            see_layer(layer, &mut see);
+        }
+    }
+    println!("{seen:#?}");
+    for (what, times) in seen {
+        assert!(times >= 20, "{what}: {times}");
+    }
+}
+
+fn see_layer(layer: &Layer, see: &mut impl FnMut(&'static str, bool)) {
+    see("no lines", layer.lines.is_empty());
+    see("lines without areas", layer.areas.is_empty() && !layer.lines.is_empty());
+    see("nine entries at a node", layer.nodes.iter().any(|node| node.entries.len() == 9));
+    see("one entry at a node", layer.nodes.iter().any(|node| node.entries.len() == 1));
+    see("closed line", layer.lines.iter().any(|line| line.ends[0].node == line.ends[1].node));
+    see("two points", layer.lines.iter().any(|line| line.points.len() == 2));
+    see("thousands of points", layer.lines.iter().any(|line| line.points.len() > 2000));
+    see("outside on both sides", layer.lines.iter().any(|line| line.left.area == 0 && line.right.area == 0));
+    see("one area on both sides", layer.lines.iter().any(|line| line.left.area != 0 && line.left == line.right));
+    see("land in layer 5", layer.code == 5 && layer.areas.iter().any(|area| area.code == 0));
+    see("sea", layer.areas.iter().any(|area| area.code == 99999));
+    let long = |area: &Area| area.loops.iter().any(|one| one.len() > 12);
+    see("loop of several records", layer.areas.iter().any(long));
+    see("hole", layer.areas.iter().any(|area| area.loops.len() > 1));
+    see("many holes", layer.areas.iter().any(|area| area.loops.len() > 4));
+    see("hole of several lines", layer.areas.iter().any(|area| area.loops[1..].iter().any(|one| one.len() > 1)));
+    see("hundreds of lines", layer.lines.len() > 300);
+}
+
+#[test]
+fn files_of_a_given_number_of_records() {
+    let random = &mut Random::new(7);
+    for records in (2..120).chain([1000, 99_999, 100_000, 250_001]) {
+        let sheet = sheet_of(random, records);
+        assert_accepted(&sheet);
+        assert_eq!(sheet.bytes().len(), 74 * records);
+    }
+}
