@@ -1,6 +1,6 @@
 -- What the code needs to know of a layer before it adds up. It serves the code and is no part of a promise. Assumes nothing.
 use mathlib.Core.List.{List}
-use Prim.Native.Nat.{ℕ, suc, _≤_, _<_}
+use Prim.Native.Nat.{ℕ, _≤_, _<_}
 use lib.IntN.{ℤ, pos}
 use Rattle.walk.specs.Table.{filled}
 use Rattle.measures.specs.Measures.{areaMeasure, outside}

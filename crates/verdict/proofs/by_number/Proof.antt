@@ -1,20 +1,17 @@
+-- `verdict::by_number` meets its contract: each case has its numbers. Assumes nothing.
 use borrow.Author.Needs.{needs}
 use Rattle.verdict.proofs.by_number.Statement.{statement}
 use Rattle.verdict.proofs.by_number.Tie as tie
 
--- src/lib.rt:28:26
 enum-told : tie.Need-enum-told
 enum-told c = search needs
 
--- src/lib.rt:34:13
 enum-known-v : tie.Need-enum-known-v
 enum-known-v c = search needs
 
--- src/lib.rt:24:1
 returns : tie.Need-returns
 returns c = rw (c .enum-told .given .1)
 
--- src/lib.rt:24:1
 returns-2 : tie.Need-returns-2
 returns-2 c = rw (c .before .v .given .1)
 
