@@ -1,5 +1,7 @@
 # make run    builds the proved library and the tool, and judges the sample sheets
 # make test   runs the gate, .ci/run
+# make compare  compares the library with the second program, the long run (some minutes)
+# make bench    measures the library against two other judges and against reading each byte once
 # make tool   builds the library and the tool, target/host/stragumella
 # make clean  removes what make built; the library and the proofs stay
 #
@@ -15,7 +17,7 @@ SOURCES = host/main.c host/input.c host/sheet.c host/record.c
 HEADERS = host/input.h host/sheet.h host/record.h host/system.h include/stragumella.h
 COMPILE = $(CC) $(CFLAGS) -D_POSIX_C_SOURCE=200809L -Iinclude
 
-.PHONY: run test tool clean
+.PHONY: run test compare bench tool clean
 
 # A refused sheet is among the samples, so status 1 is as it should be.
 run: $(TOOL)
@@ -23,6 +25,12 @@ run: $(TOOL)
 
 test:
 	bash .ci/run
+
+compare:
+	second/run.sh
+
+bench:
+	bench/run.sh
 
 tool: $(TOOL)
 

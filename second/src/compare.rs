@@ -288,18 +288,21 @@ fn chosen_records(records: &Records, random: &mut Random) -> Vec<usize> {
     chosen
 }
 
-/// Part 3: generated sheets, each as it is and with several seeded damages.
+/// Part 3: generated sheets, each as it is and with several seeded damages, `count` damaged files in all.
 pub fn damages(compare: &mut Compare, seed: u64, count: usize) -> Agreed {
-    const OF_EACH: usize = 40;
-    for round in 0..count.div_ceil(OF_EACH) {
-        let sheet = from_seed(seed + round as u64);
-        let random = &mut Random::new(!(seed + round as u64));
+    let mut left = count;
+    let mut seed = seed;
+    while left > 0 {
+        let sheet = from_seed(seed);
+        let random = &mut Random::new(!seed);
         compare.file(&sheet.bytes())?;
         let long = sheet.meshes.iter().map(|mesh| mesh.length()).sum::<usize>() > 1500;
-        let of_this = OF_EACH.min(count - round * OF_EACH);
-        for _ in 0..if long { of_this / 8 } else { of_this } {
+        let of_this = left.min(if long { 5 } else { 40 });
+        for _ in 0..of_this {
             compare.file(&damaged(random, &sheet))?;
         }
+        left -= of_this;
+        seed += 1;
     }
     Ok(())
 }
@@ -346,9 +349,12 @@ pub fn outside_sheet(compare: &mut Compare, sheet: &[u8], changes: usize) -> Agr
     Ok(())
 }
 
-/// Part 5: positions for every last two mesh digits and coordinates at corners, edges and inside.
+/// Part 5: a position in every mesh that six digits name; for some first digits and every last two, corners, edges and inside.
 pub fn positions(compare: &mut Compare) -> Agreed {
     let places = [0, 10_000, 1, 9999, 5000, 3333, 7, -1, 10_001, i32::MIN, i32::MAX];
+    for mesh in 100_000..=999_999 {
+        compare.position(mesh, 3333, 9999)?;
+    }
     for first in [1000, 1099, 3036, 4830, 5339, 5440, 6848, 9900, 9999] {
         for last in 0..100 {
             for x in places {

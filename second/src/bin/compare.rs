@@ -19,6 +19,8 @@ const HELP: &str = "compare [--quick] [--alone] [--parts DIGITS] [--damages N] [
 --write    where a file with a disagreement goes (disagreement.dat)
 --before   where each file goes before it is compared, in case the other program does not return";
 
+const ALL: &str = "12345";
+
 struct Options {
     quick: bool,
     alone: bool,
@@ -35,7 +37,7 @@ fn options() -> Option<Options> {
     let mut options = Options {
         quick: false,
         alone: false,
-        parts: "12345".into(),
+        parts: ALL.into(),
         damages: 20_000,
         seed: 1,
         sheets: None,
@@ -75,6 +77,10 @@ fn main() -> ExitCode {
     let result = parts(&mut compare, &options);
     print_reached(&compare);
     match result {
+        Ok(()) if options.parts == ALL && !every_number(&compare) => {
+            println!("A number was not reached.");
+            ExitCode::from(1)
+        }
         Ok(()) => {
             println!("No disagreement.");
             ExitCode::SUCCESS
@@ -143,6 +149,11 @@ fn print_reached(compare: &Compare) {
         }
         println!();
     }
+}
+
+/// Acceptance and every refusal was the answer of some call.
+fn every_number(compare: &Compare) -> bool {
+    (0..=22).all(|number| compare.reached.iter().any(|call| call[number] > 0))
 }
 
 fn tell(disagreement: &Disagreement, options: &Options) {
