@@ -26,10 +26,6 @@ module _ (s : List ℕ) (c w : ℕ) {t : Bool} (e : t ≡ isInside s c w) where
   unfolding numberAt
   number-inside y = rw (part-is s c w, ← e, y)
 
-  -- at width 5
-  pub number-five : t ≡ true → w ≡ 5 → numberOf (take (c - 1 + 5 - (c - 1)) (drop (c - 1) s)) ≡ numberAt s c w
-  number-five y q = rw (← q) (number-inside y)
-
   module _ (p : List ℕ → Bool) where
     pub text-outside : t ≡ false → text.Refused ≡ textAt p s c w
     unfolding textAt

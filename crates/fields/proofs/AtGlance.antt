@@ -1,21 +1,29 @@
--- A glance at five bytes is right: their digits are taken from the right as the reader takes them, and spaces stand before. Assumes nothing.
+-- A glance at a field is right: its digits are taken from the right as the reader takes them, and spaces stand before. Assumes nothing.
 use mathlib.Core.Bool.{Bool, true, false, not, _&&_}
-use mathlib.Core.List.{List, [], _∷_}
-use mathlib.Core.Path.{_≡_, refl, sym, _∙_}
-use Prim.Native.Nat.{ℕ, _+_, _-_, _*_, _^_, _≤_, _<_}
+use mathlib.Core.List.{List, [], _∷_, _++_}
+use mathlib.Core.Path.{_≡_, refl, sym, ap, _∙_}
+use Prim.Native.Nat.{ℕ, zero, suc, _+_, _-_, _*_, _^_, _≤_, _<_}
 use native.Mathlib.Nat.{pow-le-pow-right}
 use native.Mathlib.Omega.{arith}
 use lib.Dec.{leb, eqb, lit<, lit≤}
 use lib.IntN.{pos}
-use lib.ListN.{length, getD, take, drop-of-length-le}
+use lib.ListN.{length, getD, take, drop, replicate, length-append, length-replicate, length-drop, drop-of-length-le}
 use lib.Seq.{drop-cons}
-use borrow.Author.Tests.{leb-true, eqb-true, eqb-false, eq-eqb, not-true, not-false}
+use borrow.Author.Tests.{le-leb, leb-true, eqb-true, eqb-false, eq-eqb, not-true, not-false}
 use Rattle.fields.specs.Ending.{DigitsFrom, Plain}
-use Rattle.fields.specs.Number.{isDigit, numberOf}
+use Rattle.fields.specs.Glimpse.{Glanced}
+use Rattle.fields.specs.Number.{isDigit, numberOf, afterBlanks}
 use Rattle.fields.specs.Text.{isBlanks}
+use Rattle.fields.specs.declared.Glance.{Glance}
+use Rattle.fields.specs.declared.Glance.the-variants.{Sure}
+use Rattle.fields.specs.declared.Number.{Number}
 use Rattle.fields.specs.declared.Number.the-variants.{Value}
 use Rattle.fields.proofs.FromRight.{digits-none, digits-more, taken-plain}
 use Rattle.fields.proofs.Places.{both}
+
+-- what a sure glance says of the answer n
+pub sure-says : {n : Number} {v : ℕ} (g : Glance) → g ≡ Sure v → Glanced n g → (n ≡ Value (pos v)) × (v < 100000)
+sure-says g e h = rw e at h
 
 -- a byte that passed the code's test
 pub record Digit (b : ℕ) : Type 0 where
@@ -84,13 +92,43 @@ module _ (a b c d e : ℕ) {n : ℕ} where
   unfolding isBlanks
   sure-0 s z = glanced refl s (lit< tt) (λ q. absurd (z q)) (λ q. absurd (omega arith)) refl
 
--- a list of five
-pub five-bytes : (f : List ℕ) → length f ≡ 5 → bytes (getD f 0 0) (getD f 1 0) (getD f 2 0) (getD f 3 0) (getD f 4 0) ≡ f
-five-bytes f w =
-    let a : 0 < length f = rw w (lit< tt) in
-    let b : 1 < length f = rw w (lit< tt) in
-    let c : 2 < length f = rw w (lit< tt) in
-    let d : 3 < length f = rw w (lit< tt) in
-    let e : 4 < length f = rw w (lit< tt) in
-    let l : length f ≤ 5 = rw w (lit≤ tt) in
-    sym (drop-cons f 0 0 a ∙ rw (drop-cons f 1 0 b, drop-cons f 2 0 c, drop-cons f 3 0 d, drop-cons f 4 0 e, drop-of-length-le f {i = 5} l))
+-- ---- a field of another width
+
+-- a space in front changes nothing
+space-before : (f : List ℕ) → 1 ≤ length f → length f ≤ 5 → numberOf (32 ∷ f) ≡ numberOf f
+unfolding numberOf afterBlanks
+space-before f l h =
+    let p : 1 ≤ suc (length f) = omega arith in
+    let q : suc (length f) ≤ 6 = omega arith in
+    let r : length f ≤ 6 = omega arith in
+    rw (le-leb 1 (length f) l, le-leb (length f) 6 r, le-leb 1 (suc (length f)) p, le-leb (suc (length f)) 6 q)
+
+-- nor do k of them
+spaces-before : (k : ℕ) (f : List ℕ) → 1 ≤ length f → k + length f ≤ 6 → numberOf (replicate k 32 ++ f) ≡ numberOf f
+spaces-before zero f l h = refl
+spaces-before (suc k) f l h =
+    let w : length (replicate k 32 ++ f) ≡ k + length f = length-append (replicate k 32) f ∙ rw length-replicate in
+    space-before (replicate k 32 ++ f) (rw w (omega arith)) (rw w (omega arith)) ∙ spaces-before k f l (omega arith)
+
+-- the n bytes of f from index i on, one by one
+unfoldable pub entries : List ℕ → ℕ → ℕ → List ℕ
+entries f i zero = []
+entries f i (suc n) = getD f i 0 ∷ entries f (suc i) n
+
+pub entries-are : (f : List ℕ) (i n : ℕ) → i + n ≡ length f → entries f i n ≡ drop i f
+unfolding entries
+entries-are f i zero e = sym (drop-of-length-le f {i = i} (omega arith))
+entries-are f i (suc n) e =
+    let l : i < length f = omega arith in
+    rw (entries-are f (suc i) n (omega arith)) (sym (drop-cons f i 0 l))
+
+-- so n bytes say what they say behind k spaces
+pub short-is : (k n : ℕ) (f : List ℕ) → length f ≡ n → 1 ≤ n → k + n ≤ 6 → numberOf f ≡ numberOf (replicate k 32 ++ entries f 0 n)
+short-is k n f w l h = rw (entries-are f 0 n (omega arith)) (sym (spaces-before k f (omega arith) (omega arith)))
+
+-- and six bytes of which the first is a space what the other five say
+pub long-is : (f : List ℕ) → length f ≡ 6 → getD f 0 0 ≡ 32 → numberOf f ≡ numberOf (entries f 1 5)
+long-is f w b =
+    let l : 0 < length f = omega arith in
+    let e : f ≡ 32 ∷ drop 1 f = drop-cons f 0 0 l ∙ rw b in
+    rw (entries-are f 1 5 (omega arith)) (ap numberOf e ∙ space-before (drop 1 f) (rw length-drop (omega arith)) (rw length-drop (omega arith)))

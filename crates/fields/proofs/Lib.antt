@@ -1,4 +1,4 @@
--- Laws of the crate's definitions. `FieldLaws` has those that other crates and readers go by; the other files serve it and the proofs.
+-- Laws of the crate's definitions. `FieldLaws` has those that other crates and readers go by, beside `sure-says` of `AtGlance`; the other files serve it and the proofs.
 pub mod FieldLaws
 pub mod Cases
 pub mod FromRight
@@ -11,3 +11,4 @@ pub mod Signs
 pub mod Range
 pub mod Spelled
 pub mod Unspelled
+pub mod Remainders

@@ -1,13 +1,19 @@
--- What a glance at five bytes says: nothing, or their value. It serves the code's speed and is no part of a promise. Assumes nothing.
+-- What a glance at a field says of the answer to it: nothing, or the value, of five digits at most; and a sum that is the value of a field
+-- that is known to be well formed. It serves the code's speed and is no part of a promise. Assumes nothing.
 use mathlib.Core.Path.{_≡_}
-use mathlib.Core.List.{List}
-use Prim.Native.Nat.{ℕ, _<_}
+use mathlib.Core.List.{List, [], _∷_}
+use Prim.Native.Nat.{ℕ, _+_, _*_, _%_, _<_}
 use lib.IntN.{pos}
-use Rattle.fields.specs.Number.{numberOf}
+use Rattle.fields.specs.declared.Number.{Number}
 use Rattle.fields.specs.declared.Number.the-variants.{Value}
 use Rattle.fields.specs.declared.Glance.{Glance}
 use Rattle.fields.specs.declared.Glance.the-variants.{Unsure, Sure}
 
-abbrev pub Glanced : List ℕ → Glance → Type 0
-Glanced f Unsure = Unit {0}
-Glanced f (Sure n) = (numberOf f ≡ Value (pos n)) × (n < 100000)
+abbrev pub Glanced : Number → Glance → Type 0
+Glanced n Unsure = Unit {0}
+Glanced n (Sure v) = (n ≡ Value (pos v)) × (v < 100000)
+
+-- the remainders by 16 of a field's bytes, added up at the powers of ten; those before came to n
+unfoldable pub remainders : ℕ → List ℕ → ℕ
+remainders n [] = n
+remainders n (b ∷ bs) = remainders (n * 10 + b % 16) bs

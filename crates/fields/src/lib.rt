@@ -6,21 +6,28 @@
 // other two are, `Answer` which refusal of document 01 an answer stands for.
 ghost use mathlib.Core.Path.{_≡_};
 ghost use mathlib.Core.List.{[], _∷_, _++_};
-ghost use Prim.Native.Nat.{_+_, _<_, _≤_};
+ghost use Prim.Native.Nat.{ℕ, _+_, _<_, _≤_};
 ghost use lib.ListN.{length, take, drop, replicate};
-ghost use lib.IntN.{natAbs};
+ghost use lib.IntN.{natAbs, pos};
 ghost use Rattle.fields.specs.Place.{isInside};
 ghost use Rattle.fields.specs.Number.{isDigit, numberOf, numberAt, holds};
 ghost use Rattle.fields.specs.Spelling.{lastOf, restOf, columns, leftOf, spell};
 ghost use Rattle.fields.specs.Text.{isPair, isName, isBlanks, textAt};
 ghost use Rattle.fields.specs.Answer.{numberFits, nameFits, Wrote};
 ghost use Rattle.fields.specs.Ending.{EndsIn, Plain};
-ghost use Rattle.fields.specs.Glimpse.{Glanced};
+ghost use Rattle.fields.specs.Glimpse.{Glanced, remainders};
+ghost use Rattle.fields.specs.declared.Number.the-variants as number;
 
 // The answer to a number field: its value, or refusal 5.
 pub enum Number {
     Refused,
     Value(i32),
+}
+
+// What a field says at a glance: a number, or nothing.
+pub enum Glance {
+    Unsure,
+    Sure(u32),
 }
 
 // The answer to a name or a blank field: well formed, or refusal 5. Its value is its bytes.
@@ -136,12 +143,6 @@ fn number_of(f: &[u8]) -> Number
     signed(f, from, size)
 }
 
-// What five bytes say at a glance.
-enum Glance {
-    Unsure,
-    Sure(u32),
-}
-
 // Whether a byte is a digit.
 fn digit(b: u8) -> bool
     ensures { λ r. ⌜ r ≡ isDigit b ⌝ }
@@ -152,7 +153,7 @@ fn digit(b: u8) -> bool
 // The number that five bytes say where they are spaces and then digits without a leading zero, as
 // nearly every field of width 5 is. It is here for speed alone: it is unsure of everything else.
 fn glance_at(a: u8, b: u8, c: u8, d: u8, e: u8) -> Glance
-    ensures { λ r. ⌜ Glanced (a ∷ b ∷ c ∷ d ∷ e ∷ []) r ⌝ }
+    ensures { λ r. ⌜ Glanced (numberOf (a ∷ b ∷ c ∷ d ∷ e ∷ [])) r ⌝ }
 {
     if !digit(e) {
         return Glance::Unsure;
@@ -191,16 +192,60 @@ fn glance_at(a: u8, b: u8, c: u8, d: u8, e: u8) -> Glance
     Glance::Unsure
 }
 
-// The value of a field of width 5, the width of most fields.
-fn five(f: &[u8]) -> Number
-    requires { ⌜ length (now f) ≡ 5 ⌝ }
-    ensures { λ r. ⌜ r ≡ numberOf (now (f .entry)) ⌝ }
+// The same of a field of up to five columns: the columns that it lacks count as spaces. Of six the
+// first has to be one.
+fn glance_in(f: &[u8]) -> Glance
+    ensures { λ r. ⌜ Glanced (numberOf (now (f .entry))) r ⌝ }
 {
-    let g = glance_at(f[0], f[1], f[2], f[3], f[4]);
-    let Glance::Sure(n) = g else {
-        return number_of(f);
-    };
-    Number::Value(n as i32)
+    match f.len() {
+        1 => glance_at(32, 32, 32, 32, f[0]),
+        2 => glance_at(32, 32, 32, f[0], f[1]),
+        3 => glance_at(32, 32, f[0], f[1], f[2]),
+        4 => glance_at(32, f[0], f[1], f[2], f[3]),
+        5 => glance_at(f[0], f[1], f[2], f[3], f[4]),
+        6 => {
+            if f[0] != 32 {
+                return Glance::Unsure;
+            }
+            glance_at(f[1], f[2], f[3], f[4], f[5])
+        }
+        _ => Glance::Unsure,
+    }
+}
+
+// What the five columns from `column` on say at a glance: a number, or nothing.
+pub fn glance_number(s: &[u8], column: usize) -> Glance
+    ensures { λ r. ⌜ Glanced (numberAt (now (s .entry)) column 5) r ⌝ }
+{
+    if !inside(s, column, 5) {
+        return Glance::Unsure;
+    }
+    let at = column - 1;
+    glance_in(&s[at..at + 5])
+}
+
+// The remainders by 16 of five bytes, added up at the powers of ten: a space gives 0, and a digit itself.
+fn remainders_of(f: &[u8]) -> u32
+    requires { ⌜ length (now f) ≡ 5 ⌝ }
+    ensures { λ r. ⌜ (r ≤ 166665) × (r ≡ remainders 0 (now (f .entry))) ⌝ }
+{
+    wide(f[0] % 16) * 10000
+        + wide(f[1] % 16) * 1000
+        + wide(f[2] % 16) * 100
+        + wide(f[3] % 16) * 10
+        + wide(f[4] % 16)
+}
+
+// The same of the five columns from `column` on: the field's number where that is one from 0 on, found
+// without a test of a byte. It is here for speed alone.
+pub fn sum_of_five(s: &[u8], column: usize) -> u32
+    ensures { λ r. ⌜ (r ≤ 166665) × ((n : ℕ) → numberAt (now (s .entry)) column 5 ≡ number.Value (pos n) → r ≡ n) ⌝ }
+{
+    if !inside(s, column, 5) {
+        return 0;
+    }
+    let at = column - 1;
+    remainders_of(&s[at..at + 5])
 }
 
 // Reads the number field of `width` columns from `column` on. Refused: a field that is not in `s`,
@@ -212,10 +257,12 @@ pub fn read_number(s: &[u8], column: usize, width: usize) -> Number
         return Number::Refused;
     }
     let at = column - 1;
-    if width == 5 {
-        return five(&s[at..at + 5]);
-    }
-    number_of(&s[at..at + width])
+    let f = &s[at..at + width];
+    let g = glance_in(f);
+    let Glance::Sure(n) = g else {
+        return number_of(f);
+    };
+    Number::Value(n as i32)
 }
 
 // ---- reading a name or a blank

@@ -1,19 +1,29 @@
--- `fields::read_number` meets its contract: the part that is cut out is the field's bytes. Assumes nothing.
+-- `fields::read_number` meets its contract: the part that is cut out is the field's bytes. A sure glance is its value, and else the general
+-- reader speaks. Assumes nothing.
 use denote.Ref.{now}
-use mathlib.Core.Path.{_∙_}
-use Prim.Native.Nat.{_+_, _-_, _≤_}
+use mathlib.Core.Path.{_≡_, sym, ap, _∙_}
+use Prim.Native.Nat.{_+_, _-_, _≤_, _<_}
 use native.Mathlib.Omega.{arith}
+use lib.IntN.{pos}
 use lib.ListN.{length}
 use borrow.Author.Needs.{needs}
 use borrow.Author.Tests.{not-true, not-false}
-use Rattle.fields.proofs.Answers.{number-outside, number-five, number-inside}
+use Rattle.fields.specs.Number.{numberAt}
+use Rattle.fields.specs.declared.Number.the-variants.{Value}
+use Rattle.fields.proofs.Answers.{number-outside, number-inside}
+use Rattle.fields.proofs.AtGlance.{sure-says}
 use Rattle.fields.proofs.Places.{passed}
+use Rattle.fields.proofs.Signs.{size-fits, size-is}
 use Rattle.fields.proofs.read_number.Statement.{statement}
 use Rattle.fields.proofs.read_number.Tie as tie
 
 -- past the first test the field lies inside
 bounds : (c : tie.Else1) → (1 ≤ c .before .before .before .args .column) × (c .before .before .before .args .column - 1 + c .before .before .before .args .width ≤ length (now (c .before .before .before .args .s)))
 bounds c = passed _ _ _ _ (c .before .inside .ensures) (c .if1 .left)
+
+-- what a sure glance says
+sure : (c : tie.After-g) → (numberAt (now (c .before .before .before .before .before .before .before .args .s)) (c .before .before .before .before .before .before .before .args .column) (c .before .before .before .before .before .before .before .args .width) ≡ Value (pos (c .g .given .0 .0))) × (c .g .given .0 .0 < 100000)
+sure c = sure-says _ (c .g .given .1) (rw (number-inside _ _ _ (c .before .before .before .before .before .inside .ensures) (not-false _ (c .before .before .before .before .if1 .left))) at (c .before .before .glance-in .ensures))
 
 inside-requires : tie.Need-inside-requires
 inside-requires c κs = search needs
@@ -24,43 +34,38 @@ returns c = number-outside _ _ _ (c .before .inside .ensures) (not-true _ (c .if
 sub-at : tie.Need-sub-at
 sub-at c = let p = bounds c in omega arith
 
-add-five : tie.Need-add-five
-add-five c = let p = bounds (c .before) in omega arith
+add-f : tie.Need-add-f
+add-f c = let p = bounds c in omega arith
 
-sub-five : tie.Need-sub-five
-sub-five c = search needs
+sub-f : tie.Need-sub-f
+sub-f c = search needs
 
-part-five-start : tie.Need-part-five-start
-part-five-start c = search needs
+part-f-start : tie.Need-part-f-start
+part-f-start c = search needs
 
-part-five-end : tie.Need-part-five-end
-part-five-end c = let p = bounds (c .before) in omega arith
+part-f-end : tie.Need-part-f-end
+part-f-end c = let p = bounds c in omega arith
 
-five-requires : tie.Need-five-requires
-five-requires c κs = search needs
+glance-in-requires : tie.Need-glance-in-requires
+glance-in-requires c κs = search needs
 
-returns-2 : tie.Need-returns-2
-returns-2 c =
-    c .five .ensures
-    ∙ number-five _ _ _ (c .before .before .before .before .inside .ensures) (not-false _ (c .before .before .before .if1 .left)) (c .before .before .if2 .taken)
+enum-known-g : tie.Need-enum-known-g
+enum-known-g c = search needs
 
-add-number-of : tie.Need-add-number-of
-add-number-of c = let p = bounds (c .before) in omega arith
-
-sub-number-of : tie.Need-sub-number-of
-sub-number-of c = search needs
-
-part-number-of-start : tie.Need-part-number-of-start
-part-number-of-start c = search needs
-
-part-number-of-end : tie.Need-part-number-of-end
-part-number-of-end c = let p = bounds (c .before) in omega arith
+enum-told : tie.Need-enum-told
+enum-told c = search needs
 
 number-of-requires : tie.Need-number-of-requires
 number-of-requires c κs = search needs
 
+returns-2 : tie.Need-returns-2
+returns-2 c = c .number-of .ensures ∙ number-inside _ _ _ (c .before .before .before .before .before .before .inside .ensures) (not-false _ (c .before .before .before .before .before .if1 .left))
+
+cast-t14 : tie.Need-cast-t14
+cast-t14 c = size-fits _ (omega (arith, sure (c .before) .1))
+
 returns-3 : tie.Need-returns-3
-returns-3 c = c .number-of .ensures ∙ number-inside _ _ _ (c .before .before .before .before .inside .ensures) (not-false _ (c .before .before .before .if1 .left))
+returns-3 c = ap Value (size-is _ (omega (arith, sure (c .before) .1))) ∙ sym (sure (c .before) .0)
 
 pub read-number-spec : {M : Type 1} → statement M
 read-number-spec =
@@ -69,15 +74,14 @@ read-number-spec =
     inside-requires
     returns
     sub-at
-    add-five
-    sub-five
-    part-five-start
-    part-five-end
-    five-requires
-    returns-2
-    add-number-of
-    sub-number-of
-    part-number-of-start
-    part-number-of-end
+    add-f
+    sub-f
+    part-f-start
+    part-f-end
+    glance-in-requires
+    enum-known-g
+    enum-told
     number-of-requires
+    returns-2
+    cast-t14
     returns-3)
