@@ -12,7 +12,7 @@ use lib.ListN.{length, getD, drop, List·getD-eq-default}
 use lib.Seq.{drop-cons, getD-drop}
 use borrow.Author.Tests.{ltb-true, ltb-false, eqb-true}
 use types.Run.{OneOf}
-use Rattle.records.specs.Layout.{row, layoutOf, startOf, widthOf, numbersOf, bytesOf, total}
+use Rattle.records.specs.Layout.{row, coordinatesLayout, layoutOf, startOf, widthOf, numbersOf, bytesOf, total}
 use Rattle.records.specs.declared.Field.the-variants.{End, Letters, Number, Name, Blank}
 use Rattle.records.specs.declared.Field.{Field}
 use Rattle.records.specs.declared.Kind.the-variants.{Mesh, Layer, Node, Line, Coordinates, Area, Loop}
@@ -48,6 +48,10 @@ in-row L d c w n fs j e l h =
     let z : d + (j - d) ≡ j = omega arith in
     let g : getD (drop d L) (j - d) End ≡ getD L j End = rw z at (getD-drop d L (j - d) End) in
     sym (sym g ∙ rw e (row-at c w n fs (j - d) h))
+
+-- number j of a coordinate record
+pub coordinate-laid : (j : ℕ) → j < 14 → Number (1 + 5 * j) 5 ≡ getD coordinatesLayout j End
+coordinate-laid j h = sym (row-at 1 5 14 (Blank 71 2 ∷ []) j h)
 
 -- not the end
 abbrev pub isField : Field → Bool

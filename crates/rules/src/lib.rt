@@ -3,6 +3,7 @@
 //
 // The contracts cite `specs/`: `Permitted` has the permitted values, `Asks` what is asked of each number
 // of each kind, `Checks` the checks of a record in 01's order.
+use fields::Glance;
 use fields::Number;
 use fields::Text;
 use records::Field;
@@ -10,15 +11,16 @@ use records::Kind;
 use verdict::Verdict;
 ghost use mathlib.Core.Path.{_≡_};
 ghost use mathlib.Core.List.{[], _∷_};
-ghost use Prim.Native.Nat.{_≤_};
-ghost use mathlib.Core.Bool.{_&&_};
+ghost use Prim.Native.Nat.{ℕ, _/_, _≤_};
+ghost use mathlib.Core.Bool.{true, cond, _&&_};
 ghost use lib.Dec.{leb, ltb};
 ghost use lib.ListN.{getD};
-ghost use Rattle.verdict.specs.declared.Verdict.the-variants.{Broken};
+ghost use Rattle.verdict.specs.declared.Verdict.the-variants.{Fine, Broken};
 ghost use Rattle.verdict.specs.Rules.{firstBroken, block};
 ghost use Rattle.rules.specs.Permitted.{natural, size, within, is, atLeast, isMeshCode, followsMesh, oneOrFive, isLayerCode, followsLayer, isDate, nodeItemOne, nodeItemFive, isNodeItem, onFrame, layered, isFrame, lineItemOne, lineItemFive, isLineItem, lineKindOne, lineKindFive, same, isLineKind, linkSize, isLink, isCode, isSide, isAreaCode, isSlot, isPoint, isNext, isLoopSerial};
 ghost use Rattle.rules.specs.Asks.{permitted, inStep, at, layerAsk, meshAsks, layerAsks, nodeAsks, lineAsks, coordinateAsks, areaAsks, loopAsks, loopDue, entriesDue, askedOf, firstAsked};
 ghost use Rattle.rules.specs.Checks.{kindOf, checksOf};
+ghost use Rattle.rules.specs.declared.Due.the-variants.{Coordinates};
 
 // What is due at a place of a file, with what its rules need to know of the records before it.
 pub enum Due {
@@ -636,4 +638,37 @@ pub fn judge_record(due: Due, s: &[u8], row: u32) -> Verdict
             }
         }
     }
+}
+
+// What a number of a coordinate record may be at most: 10000 within the count, 0 past it.
+fn most_at(i: usize, left: usize) -> u32
+    ensures { λ r. ⌜ r ≡ cond (ltb (i / 2) left) 10000 0 ⌝ }
+{
+    if i / 2 < left {
+        return 10000;
+    }
+    0
+}
+
+// Whether a coordinate record keeps all rules at a glance, where `left` points of its line are left:
+// true only where it does. It is here for speed alone; false says nothing.
+pub fn fine_coordinates(s: &[u8], left: usize) -> bool
+    ensures { λ r. ⌜ (r ≡ true → (row : ℕ) → firstBroken (block 2 row (checksOf (Coordinates left) (now (s .entry)))) ≡ Fine) ⌝ }
+{
+    let mut i: usize = 0;
+    while i < 14 {
+        let g = fields::glance_number(s, 1 + 5 * i);
+        let Glance::Sure(n) = g else {
+            return false;
+        };
+        if most_at(i, left) < n {
+            return false;
+        }
+        i += 1;
+    }
+    let answer = fields::read_blank(s, 71, 2);
+    let Text::WellFormed = answer else {
+        return false;
+    };
+    true
 }

@@ -1,10 +1,8 @@
 -- `records::coordinates_field` meets its contract: each arm is the layout's field, and past the last there is none. Assumes nothing.
-use mathlib.Core.Path.{_≡_, refl}
-use Prim.Native.Nat.{_-_}
 use native.Mathlib.Omega.{arith}
 use borrow.Author.Needs.{needs}
 use Rattle.records.specs.Layout.{coordinatesLayout}
-use Rattle.records.proofs.Layouts.{past-end, in-row}
+use Rattle.records.proofs.Layouts.{past-end, coordinate-laid}
 use Rattle.records.proofs.coordinates_field.Statement.{statement}
 use Rattle.records.proofs.coordinates_field.Tie as tie
 
@@ -18,10 +16,7 @@ returns : tie.Need-returns
 returns c = search needs
 
 returns-2 : tie.Need-returns-2
-returns-2 c =
-    let j = c .before .before .args .j in
-    let z : c .before .before .args .j - 0 ≡ c .before .before .args .j = omega arith in
-    rw z at (in-row coordinatesLayout 0 1 5 14 _ j refl (omega arith) (omega arith))
+returns-2 c = coordinate-laid (c .before .before .args .j) (omega arith)
 
 returns-3 : tie.Need-returns-3
 returns-3 c = past-end coordinatesLayout (c .before .before .args .j) (omega arith)

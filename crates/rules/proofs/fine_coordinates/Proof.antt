@@ -1,0 +1,104 @@
+-- `rules::fine_coordinates` meets its contract: the loop goes on as `Glancing` says, and false promises nothing. Assumes nothing.
+use mathlib.Core.Bool.{true, false}
+use mathlib.Core.Path.{_≡_, sym, _∙_}
+use Prim.Native.Nat.{ℕ, _-_, _≤_}
+use native.Mathlib.Omega.{arith}
+use lib.Dec.{lit≤}
+use borrow.Author.Needs.{needs}
+use Rattle.fields.proofs.AtGlance.{sure-says}
+use Rattle.rules.proofs.Glancing.{Glancing, glancing, number-glanced, all-glanced}
+use Rattle.rules.proofs.fine_coordinates.Statement.{statement}
+use Rattle.rules.proofs.fine_coordinates.Tie as tie
+
+-- false says nothing
+none : {A : Type 0} → false ≡ true → A
+none e =
+    let z : _≡_ {A = ℕ} 0 1 = cc in
+    absurd (omega arith)
+
+abbrev Inv-loop : tie.InvT-loop
+Inv-loop s left i₀ i = (i ≤ 14) × Glancing left s i
+
+abbrev μ-loop : tie.MeasureT-loop
+μ-loop s left i₀ i = 14 - i
+
+loop-holds : tie.Need-loop-holds Inv-loop μ-loop
+loop-holds c = (lit≤ tt, glancing _ _)
+
+mul-glance-number : tie.Need-mul-glance-number Inv-loop μ-loop
+mul-glance-number c = search needs
+
+add-glance-number : tie.Need-add-glance-number Inv-loop μ-loop
+add-glance-number c = search needs
+
+glance-number-requires : tie.Need-glance-number-requires Inv-loop μ-loop
+glance-number-requires c κs = search needs
+
+enum-known-g : tie.Need-enum-known-g Inv-loop μ-loop
+enum-known-g c = search needs
+
+enum-told : tie.Need-enum-told Inv-loop μ-loop
+enum-told c = search needs
+
+returns : tie.Need-returns Inv-loop μ-loop
+returns c = none
+
+most-at-requires : tie.Need-most-at-requires Inv-loop μ-loop
+most-at-requires c κs = search needs
+
+returns-2 : tie.Need-returns-2 Inv-loop μ-loop
+returns-2 c = none
+
+add-i : tie.Need-add-i Inv-loop μ-loop
+add-i c = search needs
+
+loop-less : tie.Need-loop-less Inv-loop μ-loop
+loop-less c = search needs
+
+loop-again : tie.Need-loop-again Inv-loop μ-loop
+loop-again c =
+    let l = c .before .before .before .before .before .before .loop-test .taken in
+    let s = sure-says _ (c .before .before .before .g .given .1) (c .before .before .before .before .before .glance-number .ensures) in
+    (omega (arith, l), number-glanced (c .before .before .before .before .before .before .before .loop .inv .1) l (s .0) (rw (c .before .most-at .ensures) at (c .if1 .left)))
+
+read-blank-requires : tie.Need-read-blank-requires Inv-loop μ-loop
+read-blank-requires c κs = search needs
+
+enum-told-2 : tie.Need-enum-told-2 Inv-loop μ-loop
+enum-told-2 c = search needs
+
+enum-told-3 : tie.Need-enum-told-3 Inv-loop μ-loop
+enum-told-3 c = search needs
+
+returns-3 : tie.Need-returns-3 Inv-loop μ-loop
+returns-3 c = none
+
+returns-4 : tie.Need-returns-4 Inv-loop μ-loop
+returns-4 c =
+    let g = c .before .before .before .before .loop in
+    let z : g .i ≡ 14 = omega (arith, g .inv .0, c .before .before .before .loop-test .left) in
+    λ e. all-glanced (rw z at (g .inv .1)) (sym (c .before .before .read-blank .ensures) ∙ c .enum-told2 .given .1)
+
+pub fine-coordinates-spec : {M : Type 1} → statement M
+fine-coordinates-spec =
+    tie.close
+    (tie.spec
+    Inv-loop
+    μ-loop
+    loop-holds
+    mul-glance-number
+    add-glance-number
+    glance-number-requires
+    enum-known-g
+    enum-told
+    returns
+    most-at-requires
+    returns-2
+    add-i
+    loop-less
+    loop-again
+    read-blank-requires
+    enum-told-2
+    enum-told-3
+    returns-3
+    returns-4)
