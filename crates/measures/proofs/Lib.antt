@@ -7,3 +7,4 @@ pub mod Ground
 pub mod Bounds
 pub mod Stepping
 pub mod Walking
+pub mod Sounding

@@ -81,7 +81,7 @@ pub cross-small : {a b c d : ℤ} → Small 10000 a → Small 10000 b → Small 
     → Small 200000000 (cross (record { x = a; y = b }) (record { x = c; y = d }))
 cross-small a b c d = sub-small (mul-small c b) (mul-small a d)
 
-near-step : {m : ℕ} {w : Walk} {q : Point} → Near m w → Small 10000 (q .x) → Small 10000 (q .y) → Near (m + 200000000) (stepTo w q)
+pub near-step : {m : ℕ} {w : Walk} {q : Point} → Near m w → Small 10000 (q .x) → Small 10000 (q .y) → Near (m + 200000000) (stepTo w q)
 near-step n a b = record { sum = add-small (n .sum) (cross-small (n .x) (n .y) a b); x = a; y = b }
 
 -- ---- a walk

@@ -3,4 +3,5 @@ pub mod Sum
 pub mod Measures
 pub mod Points
 pub mod Walks
+pub mod Sound
 pub mod Ground

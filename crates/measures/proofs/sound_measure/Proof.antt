@@ -1,0 +1,105 @@
+-- `measures::sound_measure` meets its contract. The loop's invariant: the walk has gone along the points that are not left, seven a record,
+-- where they are well formed, and is near in any case.
+-- Assumes nothing.
+use denote.Ref.{now}
+use mathlib.Core.Path.{_≡_, sym, _∙_}
+use Prim.Native.Nat.{_-_, _*_, _≤_, _<_}
+use native.Mathlib.Omega.{arith}
+use borrow.Author.Needs.{needs}
+use Rattle.measures.specs.Points.{pointAt}
+use Rattle.measures.specs.Sound.{Sound}
+use Rattle.measures.specs.Walks.{Near, along, begin}
+use Rattle.measures.proofs.Sounding.{pairs-on}
+use Rattle.measures.proofs.Walking.{some, turn, sum-back, near-le, line-near, measure-none, measure-is, full}
+use Rattle.measures.proofs.sound_measure.Statement.{statement}
+use Rattle.measures.proofs.sound_measure.Tie as tie
+
+abbrev Inv-loop : tie.InvT-loop
+Inv-loop file line n left₀ k₀ w₀ left k w =
+    (left ≤ n)
+    × (line ≤ k)
+    × (k - line ≤ n - left)
+    × (Near ((n - left) * 200000000) w)
+    × (Sound file line → w ≡ along begin (pointAt file line) (n - left))
+    × (0 < left → n - left ≡ 7 * (k - line))
+
+abbrev μ-loop : tie.MeasureT-loop
+μ-loop file line n left₀ k₀ w₀ left k w = left
+
+returns : tie.Need-returns Inv-loop μ-loop
+returns c = λ h. sym (measure-none (now (c .before .before .args .file)) (c .before .before .args .line) (c .if1 .taken))
+
+point-count-requires : tie.Need-point-count-requires Inv-loop μ-loop
+point-count-requires c κs = search needs
+
+loop-holds : tie.Need-loop-holds Inv-loop μ-loop
+unfolding along
+loop-holds c =
+    let z : c .point-count .result - c .point-count .result ≡ 0 = omega arith in
+    (omega arith, omega arith, omega arith, rw z (line-near (now (c .before .before .before .args .file)) 0 0), λ h. rw z, λ h. omega arith)
+
+add-k : tie.Need-add-k Inv-loop μ-loop
+add-k c = omega (arith, c .before .before .before .if1 .left, c .before .before .point-count .ensures .1, c .before .loop .inv .2)
+
+seven-of-requires : tie.Need-seven-of-requires Inv-loop μ-loop
+seven-of-requires c κs = search needs
+
+record-view-requires : tie.Need-record-view-requires Inv-loop μ-loop
+record-view-requires c κs = search needs
+
+sound-record-requires : tie.Need-sound-record-requires Inv-loop μ-loop
+sound-record-requires c κs =
+    let b = c .before .before .before in
+    let e = b .before .point-count .ensures .1 in
+    (c .before .seven-of .ensures .few, near-le 900000000000000 (b .loop .inv .3) (omega arith))
+
+sub-left : tie.Need-sub-left Inv-loop μ-loop
+sub-left c = omega (arith, c .before .before .seven-of .ensures .within)
+
+loop-less : tie.Need-loop-less Inv-loop μ-loop
+loop-less c =
+    omega (arith, some (c .before .before .seven-of .ensures) (omega arith), c .before .before .seven-of .ensures .within)
+
+loop-again : tie.Need-loop-again Inv-loop μ-loop
+loop-again c =
+    let b = c .before .before .before .before in
+    let a = b .before .before .before .before in
+    let l = b .loop .inv in
+    let s = c .before .before .seven-of .ensures in
+    let e = l .5 (omega arith) in
+    let p = some s (omega arith) in (
+      omega (arith, s .within),
+      omega arith,
+      omega (arith, s .within),
+      near-le ((b .before .point-count .result - (b .loop .left - c .before .before .seven-of .result)) * 200000000) (c .sound-record .ensures .0 ((b .before .point-count .result - b .loop .left) * 200000000) (l .3)) (omega (arith, s .within, l .0)),
+      λ h. turn _ _ _ (b .loop .left) (b .loop .k) (c .before .before .seven-of .result) (l .1) (l .0) (s .within) (s .few) e (l .4 h) (c .before .record-view .ensures) (c .sound-record .ensures .1 (pairs-on (now (a .args .file)) (a .args .line) (b .before .point-count .result) (b .loop .left) (b .loop .k) (c .before .before .seven-of .result) (b .before .point-count .ensures .0) (l .1) (l .0) (s .within) (s .few) e h (c .before .record-view .ensures))),
+      λ h.
+          let f = full s h in
+          omega (arith, s .within),
+    )
+
+returns-2 : tie.Need-returns-2 Inv-loop μ-loop
+returns-2 c =
+    let b = c .before .before in
+    let s = b .before .before .before .before in
+    let n = b .before .point-count .ensures in
+    let z : b .before .point-count .result - b .loop .left ≡ b .before .point-count .result = omega arith in
+    λ h. sum-back (now (s .args .file)) (s .args .line) (b .before .point-count .result) (n .1) (b .loop .inv .4 h ∙ rw z) ∙ measure-is (now (s .args .file)) (s .args .line) (n .0)
+
+pub sound-measure-spec : {M : Type 1} → statement M
+sound-measure-spec =
+    tie.close
+    (tie.spec
+    Inv-loop
+    μ-loop
+    returns
+    point-count-requires
+    loop-holds
+    add-k
+    seven-of-requires
+    record-view-requires
+    sound-record-requires
+    sub-left
+    loop-less
+    loop-again
+    returns-2)
