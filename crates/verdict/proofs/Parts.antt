@@ -5,7 +5,7 @@ use mathlib.Core.List.{List, [], _∷_, _++_}
 use mathlib.Core.Logic.{⊎-elim}
 use mathlib.Core.Path.{_≡_, refl, sym, _∙_}
 use Prim.Native.Nat.{ℕ, zero, suc, _+_, _<_, _≤_}
-use native.Mathlib.Nat.{le-of-suc-le-suc, not-suc-le-zero, eq-or-lt-of-le}
+use native.Mathlib.Nat.{add-zero, add-suc, le-of-suc-le-suc, not-suc-le-zero, eq-or-lt-of-le}
 use native.Mathlib.Numerals.{add-one}
 use native.Mathlib.Omega.{arith}
 use Rattle.verdict.specs.declared.Verdict.{Verdict}
@@ -60,6 +60,12 @@ module _ (g : ℕ → List Rule) where
   pub rows-pass : (i : ℕ) {v : Verdict} → firstBroken (rows i g) ≡ Fine → v ≡ firstBroken (g i) → v ≡ Fine → firstBroken (rows (i + 1) g) ≡ Fine
   unfolding rows
   rows-pass i h e t = rw (add-one) (in-turn (rows i g) (g i) ∙ rw (h, ← e) t)
+
+  -- and so are the h turns from i on
+  pub rows-past : (i h : ℕ) → firstBroken (rows i g) ≡ Fine → ((j : ℕ) → j < h → firstBroken (g (i + j)) ≡ Fine) → firstBroken (rows (i + h) g) ≡ Fine
+  unfolding rows
+  rows-past i zero f t = rw add-zero f
+  rows-past i (suc h) f t = rw add-suc (in-turn (rows (i + h) g) (g (i + h)) ∙ rw (rows-past i h f (λ j l. t j (omega arith)), t h (omega arith)))
 
   rows-hit : (n i a b c : ℕ) → i < n → firstBroken (rows i g) ≡ Fine → firstBroken (g i) ≡ Broken a b c → firstBroken (rows n g) ≡ Broken a b c
   unfolding rows

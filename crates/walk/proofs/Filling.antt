@@ -1,7 +1,9 @@
 -- The three sections of the table, filled record by record. Assumes nothing.
+use mathlib.Core.Bool.{true}
 use mathlib.Core.List.{List, [], _∷_, _++_, append-assoc, append-nil}
 use mathlib.Core.Path.{_≡_, refl, sym, _∙_, ap, subst}
 use Prim.Native.Nat.{ℕ, zero, suc, _+_, _*_, _-_, _≤_, _<_}
+use native.Mathlib.Nat.{le-refl}
 use native.Mathlib.Numerals.{add-one}
 use native.Mathlib.Omega.{arith}
 use lib.ListN.{length, take, drop, length-append, length-drop, drop-of-length-le, take-append-drop}
@@ -9,6 +11,7 @@ use lib.Seq.{sets, length-take-le, drop-drop}
 use Rattle.records.specs.View.{recordOf}
 use Rattle.rules.specs.declared.Due.{Due}
 use Rattle.rules.specs.declared.Due.the-variants.{Mesh, Layer, Node, Line, Coordinates, Area, Loop}
+use Rattle.walk.specs.declared.State.{State}
 use Rattle.walk.specs.declared.Counts.{Counts}
 use Rattle.walk.specs.States.{dueOf, stateAt, rowLength, countedFor, countsAt}
 use Rattle.walk.specs.Stages.{recordsOf}
@@ -16,6 +19,8 @@ use Rattle.walk.proofs.Dues.{Grown, grown}
 use Rattle.walk.specs.declared.Bases.{Bases}
 use Rattle.walk.specs.Table.{rowWords, lineWords, areaWords, gather, tableOf, filled}
 use Rattle.walk.specs.Storing.{recordWords, placeOf, manyOf, Roomy, Sections}
+use Rattle.walk.specs.Quiet.{isQuiet, Quiet}
+use Rattle.walk.proofs.Passing.{by-quiet, passed-words}
 use Rattle.walk.proofs.Stores.{sets-left, sets-right, more-filled, filled-length}
 
 -- ---- how many words each section has
@@ -52,6 +57,16 @@ area-one (Line layer last) t r c = omega arith
 area-one (Coordinates left) t r c = omega arith
 area-one (Area layer last) t r c = omega arith
 area-one (Loop last count left) t r c = omega arith
+
+-- a quiet record has no word
+row-quiet : (d : Due) (t : List ℕ) (r : ℕ) → isQuiet d ≡ true → rowWords d t r ≡ []
+row-quiet d t r = by-quiet (λ d. rowWords d t r ≡ []) (λ layer last. refl) (λ left. refl) d
+
+line-quiet : (d : Due) (t : List ℕ) (r : ℕ) → isQuiet d ≡ true → lineWords d t r ≡ []
+line-quiet d t r = by-quiet (λ d. lineWords d t r ≡ []) (λ layer last. refl) (λ left. refl) d
+
+area-quiet : (d : Due) (t : List ℕ) (r : ℕ) → isQuiet d ≡ true → areaWords d t r ≡ []
+area-quiet d t r = by-quiet (λ d. areaWords d t r ≡ []) (λ layer last. refl) (λ left. refl) d
 
 pub counted : (file : List ℕ) (k : ℕ) → Counted file k
 unfolding gather countsAt
@@ -219,6 +234,12 @@ module _ (file o : List ℕ) {n : ℕ} {total : Counts} (en : n ≡ recordsOf fi
         h ∙ rw (e, ev, ed, ec, all, add-one)
         (turn (dueOf (stateAt file k)) (recordOf file (suc k)) (suc k) (countsAt file k) (basesOf (countsAt file n)) (gather rowWords file k) (gather lineWords file k) (gather areaWords file k) o p q
         (s .rows) (s .lines) (s .areas) (omega (arith, g .layers)) (omega (arith, g .lines)) (omega (arith, g .areas)) refl refl)
+
+  -- quiet records have no words
+  pub quiet-filled : (k : ℕ) {h : ℕ} {s : State} {v : List ℕ} → s ≡ stateAt file k → Quiet s h → v ≡ filledTo file n k o → v ≡ filledTo file n (k + h) o
+  unfolding Sections
+  quiet-filled k {h} e f ev =
+      ev ∙ sym (rw (passed-words file k e f rowWords row-quiet h (le-refl h), passed-words file k e f lineWords line-quiet h (le-refl h), passed-words file k e f areaWords area-quiet h (le-refl h)))
 
   -- all records: the table stands in front, and the rest is as it was
   pub all-filled : (k : ℕ) {v : List ℕ} → k ≤ n → n ≤ k → v ≡ filledTo file n k o → v ≡ filled (tableOf file) o

@@ -7,3 +7,4 @@ pub mod Stores
 pub mod Filling
 pub mod Tabling
 pub mod Laid
+pub mod Passing

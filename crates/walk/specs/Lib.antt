@@ -3,3 +3,4 @@ pub mod States
 pub mod Stages
 pub mod Table
 pub mod Storing
+pub mod Quiet

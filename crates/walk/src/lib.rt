@@ -8,7 +8,7 @@ use rules::Due;
 use verdict::Verdict;
 ghost use mathlib.Core.Path.{_≡_};
 ghost use mathlib.Core.List.{[], _∷_};
-ghost use Prim.Native.Nat.{_+_, _-_, _*_, _≤_};
+ghost use Prim.Native.Nat.{_+_, _-_, _*_, _≤_, _<_};
 ghost use lib.ListN.{length};
 ghost use lib.Seq.{sets};
 ghost use Rattle.verdict.specs.declared.Verdict.the-variants.{Broken};
@@ -17,6 +17,7 @@ ghost use Rattle.walk.specs.States.{sizeIn, dueOf, start, meshed, layere
 ghost use Rattle.walk.specs.Stages.{recordsOf, endChecks, lengthChecks, stageOne, lastChecks, stageTwo, walkedBy, walkedOf, needOf, early};
 ghost use Rattle.walk.specs.Table.{tableOf, filled, filledBy, tabledOf};
 ghost use Rattle.walk.specs.Storing.{placeOf, recordWords, Roomy};
+ghost use Rattle.walk.specs.Quiet.{passed, Quiet, countedPast, FineAhead};
 
 // Where the walk stands: the mesh and its layers left; the layer, its totals, and how many of each came;
 // the points left of a line; the loops of an area, how many were begun, and the last one's line count and
@@ -194,6 +195,82 @@ pub fn next(s: State, t: &[u8]) -> State
     behind_mesh(t)
 }
 
+// ---- quiet records
+
+// A state behind some records, and how many they were.
+pub struct Pass {
+    pub state: State,
+    pub records: usize,
+}
+
+// Passes the coordinate records of the points that are left: no more than `most`.
+fn pass_points(s: State, most: usize) -> Pass
+    requires { ⌜ 0 < s .points ⌝ }
+    ensures { λ r. ⌜ (r .records ≤ most) × (r .state ≡ passed s (r .records)) × Quiet s (r .records) ⌝ }
+{
+    let all = (s.points - 1) / 7 + 1;
+    let mut u = s;
+    if most < all {
+        u.points = s.points - 7 * most;
+        return Pass {
+            state: u,
+            records: most,
+        };
+    }
+    u.points = 0;
+    Pass {
+        state: u,
+        records: all,
+    }
+}
+
+// Passes the nodes that are left: no more than `most`.
+fn pass_nodes(s: State, most: usize) -> Pass
+    requires { ⌜ (s .points ≤ 0) × (s .entries ≤ 0) × (s .loops ≤ s .begun) ⌝ }
+    ensures { λ r. ⌜ (r .records ≤ most) × (r .state ≡ passed s (r .records)) × Quiet s (r .records) ⌝ }
+{
+    let all = less(s.nodes, s.node);
+    let mut u = s;
+    if most < all {
+        u.node = s.node + most;
+        return Pass {
+            state: u,
+            records: most,
+        };
+    }
+    u.node = s.node + all;
+    Pass {
+        state: u,
+        records: all,
+    }
+}
+
+// Passes no record.
+fn pass_none(s: State) -> Pass
+    ensures { λ r. ⌜ (r .records ≡ 0) × (r .state ≡ passed s (r .records)) × Quiet s (r .records) ⌝ }
+{
+    Pass {
+        state: s,
+        records: 0,
+    }
+}
+
+// Passes the coordinate records that come next, or else the nodes, in one step: no more than `most`.
+pub fn pass_quiet(s: State, most: usize) -> Pass
+    ensures { λ r. ⌜ (r .records ≤ most) × (r .state ≡ passed s (r .records)) × Quiet s (r .records) ⌝ }
+{
+    if 0 < s.points {
+        return pass_points(s, most);
+    }
+    if 0 < s.entries {
+        return pass_none(s);
+    }
+    if s.begun < s.loops {
+        return pass_none(s);
+    }
+    pass_nodes(s, most)
+}
+
 // ---- stage 1
 
 // How many records are judged: those that there are, and no more than there may be.
@@ -312,6 +389,19 @@ fn counted(c: Counts, d: Due, t: &[u8]) -> Counts
     }
 }
 
+// The counts with `h` quiet records more, where the walk stands at `s`.
+fn counted_past(c: Counts, s: State, h: usize) -> Counts
+    requires { ⌜ (c .nodes ≤ 6399936) × (h ≤ 6399936) ⌝ }
+    ensures { λ r. ⌜ r ≡ countedPast c s h ⌝ }
+{
+    if 0 < s.points {
+        return c;
+    }
+    let mut e = c;
+    e.nodes = c.nodes + h;
+    e
+}
+
 // The file ends where a record is due.
 fn cut_off(row: u32) -> Verdict
     ensures { λ r. ⌜ r ≡ Broken 4 row 1 ⌝ }
@@ -346,6 +436,24 @@ fn refused(v: Verdict) -> Walked
     Walked { verdict: v, counts }
 }
 
+// How many of the records behind the first `k` of `n` are coordinates that keep all rules at a glance, where
+// `points` points of their line are left.
+fn fine_ahead(file: &[u8], points: usize, k: usize, n: usize) -> usize
+    requires { ⌜ (k ≤ n) × (n ≤ 6399936) ⌝ }
+    ensures { λ r. ⌜ (r ≤ n - k) × FineAhead (now (file .entry)) points k r ⌝ }
+{
+    let mut left = points;
+    let mut i = k;
+    while (i < n) & (0 < left) {
+        if !rules::fine_coordinates(records::record_view(file, i + 1), left) {
+            return i - k;
+        }
+        left = less(left, 7);
+        i += 1;
+    }
+    i - k
+}
+
 // Stage 2: every record by what is due, then the end of the file.
 fn stage_two(file: &[u8]) -> Walked
     ensures { λ r. ⌜ r ≡ walkedBy (firstBroken (stageTwo (now (file .entry)))) (countsAt (now (file .entry)) (recordsOf (now (file .entry)))) ⌝ }
@@ -368,6 +476,10 @@ fn stage_two(file: &[u8]) -> Walked
         c = counted(c, d, t);
         s = next(s, t);
         k += 1;
+        let h = fine_ahead(file, s.points, k, n);
+        let p = pass_quiet(s, h);
+        s = p.state;
+        k += p.records;
     }
     let v = judge_last(due(s), (n + 1) as u32);
     if let Verdict::Broken {
@@ -465,6 +577,10 @@ fn fill(file: &[u8], total: Counts, table: &mut [u32])
         c = counted(c, d, t);
         s = next(s, t);
         k += 1;
+        let p = pass_quiet(s, n - k);
+        c = counted_past(c, s, p.records);
+        s = p.state;
+        k += p.records;
     }
 }
 

@@ -1,12 +1,15 @@
 -- `walk::fill` meets its contract: the loop carries the state, the counts and the sections as they are behind the records so
 -- far; behind all of them they are the table. Assumes nothing.
+use denote.Ref.{now}
 use mathlib.Core.Path.{_≡_, _∙_, ap}
-use Prim.Native.Nat.{_-_, _≤_}
+use Prim.Native.Nat.{_+_, _-_, _≤_}
+use native.Mathlib.Nat.{le-refl}
 use native.Mathlib.Omega.{arith}
 use borrow.Author.Needs.{needs}
 use Rattle.walk.specs.States.{dueOf, stateAt, countsAt}
 use Rattle.walk.proofs.Walking.{at-none, next-state, counts-none, next-counts, countable}
-use Rattle.walk.proofs.Filling.{filledTo, none-filled, room-left, one-filled, filled-many, all-filled}
+use Rattle.walk.proofs.Passing.{passed-state, passed-counts}
+use Rattle.walk.proofs.Filling.{filledTo, none-filled, room-left, one-filled, quiet-filled, filled-many, all-filled}
 use Rattle.walk.proofs.fill.Statement.{statement}
 use Rattle.walk.proofs.fill.Tie as tie
 
@@ -22,8 +25,8 @@ records-of-requires c κs = search needs
 mul-rows : tie.Need-mul-rows Inv-loop μ-loop
 mul-rows c = search needs
 
-add-t12 : tie.Need-add-t12 Inv-loop μ-loop
-add-t12 c = search needs
+add-t13 : tie.Need-add-t13 Inv-loop μ-loop
+add-t13 c = search needs
 
 at-start-requires : tie.Need-at-start-requires Inv-loop μ-loop
 at-start-requires c κs = search needs
@@ -70,24 +73,55 @@ add-k c =
     let h = c .before .before .before .before .before .before .before .before in
     omega (arith, h .loop-test .taken, h .before .before .before .before .before .before .records-of .ensures .1)
 
+sub-pass-quiet : tie.Need-sub-pass-quiet Inv-loop μ-loop
+sub-pass-quiet c = omega (arith, c .before .before .before .before .before .before .before .before .loop-test .taken)
+
+pass-quiet-requires : tie.Need-pass-quiet-requires Inv-loop μ-loop
+pass-quiet-requires c κs = search needs
+
+-- the state and the counts behind the record
+behind : (c : tie.After-next Inv-loop μ-loop) → (c .next .result ≡ stateAt (now (c .before .before .before .before .before .before .before .before .before .before .before .before .before .before .before .before .before .args .file)) (c .before .before .before .before .before .before .before .before .before .loop .k + 1)) × (c .before .counted .result ≡ countsAt (now (c .before .before .before .before .before .before .before .before .before .before .before .before .before .before .before .before .before .args .file)) (c .before .before .before .before .before .before .before .before .before .loop .k + 1))
+behind c =
+    let n = c .before in
+    let v = n .before .before .before .before .before in
+    let l = v .before .before .before in
+    let t = v .before .record-view .ensures in
+    (next-state _ _ (l .loop .inv .1) (rw t at (c .next .ensures)), next-counts _ _ (l .loop .inv .2) (v .due .ensures ∙ ap dueOf (l .loop .inv .1)) (rw t at (n .counted .ensures)))
+
+counted-past-requires : tie.Need-counted-past-requires Inv-loop μ-loop
+counted-past-requires c κs =
+    let h = c .before .before .before .before .before .before .before .before .before in
+    let r = h .before .before .before .before .before .before .records-of .ensures .1 in
+    let k : h .before .loop .k + 1 ≤ 6399936 = omega (arith, h .loop-test .taken, r) in
+    (rw (behind (c .before) .1) (countable _ _ k .nodes), omega (arith, c .pass-quiet .ensures .0, r))
+
+add-k-2 : tie.Need-add-k-2 Inv-loop μ-loop
+add-k-2 c =
+    let p = c .before .before .before in
+    let h = p .before .before .before .before .before .before .before .before .before in
+    omega (arith, h .loop-test .taken, p .pass-quiet .ensures .0, h .before .before .before .before .before .before .records-of .ensures .1)
+
 loop-less : tie.Need-loop-less Inv-loop μ-loop
-loop-less c = search needs
+loop-less c = omega (arith, c .before .before .before .before .before .before .before .before .before .before .before .before .loop-test .taken)
 
 loop-again : tie.Need-loop-again Inv-loop μ-loop
 loop-again c =
-    let n = c .before in
-    let w = n .before .before .before in
+    let g = c .before .before in
+    let p = g .before in
+    let x = p .before in
+    let w = x .before .before .before .before in
     let v = w .before .before in
     let h = v .before .before in
     let l = h .before in
     let r = l .before .before .before .before .before in
     let a = r .before .before .before in
-    let t = v .before .record-view .ensures in
-    let d = v .due .ensures ∙ ap dueOf (l .loop .inv .1) in (
-      omega (arith, h .loop-test .taken),
-      next-state _ _ (l .loop .inv .1) (rw t at (c .next .ensures)),
-      next-counts _ _ (l .loop .inv .2) d (rw t at (n .counted .ensures)),
-      one-filled _ _ (r .records-of .ensures .0) (a .pre .0) (a .pre .1) _ (h .loop-test .taken) d (l .loop .inv .2) (l .loop .inv .3) t (w .put-record .ensures),
+    let b = behind x in
+    let q = p .pass-quiet .ensures in
+    let f = one-filled _ _ (r .records-of .ensures .0) (a .pre .0) (a .pre .1) _ (h .loop-test .taken) (v .due .ensures ∙ ap dueOf (l .loop .inv .1)) (l .loop .inv .2) (l .loop .inv .3) (v .before .record-view .ensures) (w .put-record .ensures) in (
+      omega (arith, h .loop-test .taken, q .0),
+      q .1 ∙ passed-state _ _ (b .0) (q .2) _ (le-refl _),
+      g .counted-past .ensures ∙ passed-counts _ _ (b .0) (q .2) _ (le-refl _) (b .1),
+      quiet-filled _ _ (r .records-of .ensures .0) (a .pre .0) (a .pre .1) _ (b .0) (q .2) f,
     )
 
 same-length : tie.Need-same-length Inv-loop μ-loop
@@ -112,7 +146,7 @@ fill-spec =
     μ-loop
     records-of-requires
     mul-rows
-    add-t12
+    add-t13
     at-start-requires
     no-counts-requires
     loop-holds
@@ -125,6 +159,10 @@ fill-spec =
     counted-requires
     next-requires
     add-k
+    sub-pass-quiet
+    pass-quiet-requires
+    counted-past-requires
+    add-k-2
     loop-less
     loop-again
     same-length

@@ -1,13 +1,16 @@
--- `walk::stage_two` meets its contract: the loop carries the state and the counts and leaves at the first broken record;
+-- `walk::stage_two` meets its contract: the loop carries the state and the counts, passes what is fine at a glance and leaves at the first broken record;
 -- behind it all are kept, and the end decides. Assumes nothing.
 use mathlib.Core.Path.{_≡_, refl, ap, _∙_}
 use Prim.Native.Nat.{_-_, _≤_}
+use native.Mathlib.Nat.{le-refl}
+use native.Mathlib.Omega.{arith}
 use borrow.Author.Needs.{needs}
 use Rattle.verdict.specs.declared.Verdict.the-variants.{Fine}
 use Rattle.verdict.specs.Rules.{firstBroken, rows}
 use Rattle.verdict.proofs.Parts.{rows-none, rows-pass}
 use Rattle.walk.specs.States.{dueOf, stateAt, countsAt}
 use Rattle.walk.proofs.Walking.{at-none, next-state, counts-none, next-counts, countable}
+use Rattle.walk.proofs.Passing.{past-counts, passed-state, passed-counts, fine-rows}
 use Rattle.walk.proofs.Judging.{rulesOf, rule-is, two-stops, two-done, counts-done, walked-broken, walked-kept}
 use Rattle.walk.proofs.stage_two.Statement.{statement}
 use Rattle.walk.proofs.stage_two.Tie as tie
@@ -78,22 +81,43 @@ next-requires c κs = search needs
 add-k : tie.Need-add-k Inv-loop μ-loop
 add-k c = search needs
 
+fine-ahead-requires : tie.Need-fine-ahead-requires Inv-loop μ-loop
+fine-ahead-requires c κs =
+    let l = c .before .before .before .before .before .before .before in
+    (omega (arith, l .loop-test .taken), l .before .before .before .before .records-of .ensures .1)
+
+pass-quiet-requires : tie.Need-pass-quiet-requires Inv-loop μ-loop
+pass-quiet-requires c κs = search needs
+
+add-k-2 : tie.Need-add-k-2 Inv-loop μ-loop
+add-k-2 c =
+    let p = c .before .before in
+    let l = p .before .before .before .before .before .before .before .before .before in
+    omega (arith, l .loop-test .taken, p .pass-quiet .ensures .0, p .before .fine-ahead .ensures .0, l .before .before .before .before .records-of .ensures .1)
+
 loop-less : tie.Need-loop-less Inv-loop μ-loop
-loop-less c = search needs
+loop-less c = omega (arith, c .before .before .before .before .before .before .before .before .before .before .before .loop-test .taken)
 
 loop-again : tie.Need-loop-again Inv-loop μ-loop
 loop-again c =
-    let q = c .before in
+    let p = c .before .before in
+    let f = p .before in
+    let x = f .before in
+    let q = x .before in
     let e = q .before in
     let a = e .before .before in
     let d = a .before in
     let t = d .before in
     let l = t .before .before in
-    let r = t .record-view .ensures in (
-      search needs,
-      next-state _ _ (l .loop .inv .1) (rw r at (c .next .ensures)),
-      next-counts _ _ (l .loop .inv .2) (d .due .ensures ∙ ap dueOf (l .loop .inv .1)) (rw r at (q .counted .ensures)),
-      rows-pass _ _ (l .loop .inv .3) (rule-is _ _ (l .loop .inv .1) (d .due .ensures) r (a .judge-record .ensures)) (e .enum-told2 .given .1),
+    let r = t .record-view .ensures in
+    let s = next-state _ _ (l .loop .inv .1) (rw r at (x .next .ensures)) in
+    let n = next-counts _ _ (l .loop .inv .2) (d .due .ensures ∙ ap dueOf (l .loop .inv .1)) (rw r at (q .counted .ensures)) in
+    let g = p .pass-quiet .ensures in
+    let o = f .fine-ahead .ensures in (
+      omega (arith, t .before .loop-test .taken, g .0, o .0),
+      g .1 ∙ passed-state _ _ s (g .2) _ (le-refl _),
+      past-counts _ (x .next .result) _ (λ i. o .1 .left 0 (omega (arith, g .0))) ∙ passed-counts _ _ s (g .2) _ (le-refl _) n,
+      fine-rows _ _ s (g .2) (o .1) (g .0) (rows-pass _ _ (l .loop .inv .3) (rule-is _ _ (l .loop .inv .1) (d .due .ensures) r (a .judge-record .ensures)) (e .enum-told2 .given .1)),
     )
 
 due-requires-2 : tie.Need-due-requires-2 Inv-loop μ-loop
@@ -162,6 +186,9 @@ stage-two-spec =
     counted-requires
     next-requires
     add-k
+    fine-ahead-requires
+    pass-quiet-requires
+    add-k-2
     loop-less
     loop-again
     due-requires-2

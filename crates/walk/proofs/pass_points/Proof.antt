@@ -1,0 +1,34 @@
+-- `walk::pass_points` meets its contract: `most` records are fewer than the points take, or all are passed and no point is left.
+-- Assumes nothing.
+use native.Mathlib.Nat.{le-refl}
+use native.Mathlib.Omega.{arith}
+use mathlib.Core.Path.{refl}
+use borrow.Author.Needs.{needs}
+use Rattle.walk.proofs.Passing.{past-points, quiet-points}
+use Rattle.walk.proofs.pass_points.Statement.{statement}
+use Rattle.walk.proofs.pass_points.Tie as tie
+
+sub-all : tie.Need-sub-all
+sub-all c = search needs
+
+add-all : tie.Need-add-all
+add-all c = search needs
+
+mul-u : tie.Need-mul-u
+mul-u c = search needs
+
+sub-u : tie.Need-sub-u
+sub-u c = search needs
+
+returns : tie.Need-returns
+returns c =
+    let p = c .before .before .before .pre in
+    (le-refl _, past-points _ _ p refl, quiet-points _ _ p (omega (arith, c .before .if1 .taken)))
+
+returns-2 : tie.Need-returns-2
+returns-2 c =
+    let p = c .before .before .pre in
+    (c .if1 .left, past-points _ _ p (omega (arith, p)), quiet-points _ _ p (le-refl _))
+
+pub pass-points-spec : {M : Type 1} → statement M
+pass-points-spec = tie.close (tie.spec sub-all add-all mul-u sub-u returns returns-2)

@@ -1,0 +1,67 @@
+-- Quiet records: N and coordinates. Stages 3, 5 and 6 and the table ask nothing of them, so the code passes a run of them in one step.
+-- It serves the code's speed and is no part of a promise. Assumes nothing.
+--   isQuiet d          the record is quiet
+--   passed s h         the state behind the next h records, which are quiet
+--   Quiet s h          they are: coordinates where points are left, else nodes
+--   countedPast c s h  the counts with them
+--   FineAhead file points k r   the r records behind the first k are the next ones of a line with so many points left, and keep the
+--                      rules of stage 2
+use mathlib.Core.Bool.{Bool, true, false, cond}
+use mathlib.Core.List.{List}
+use mathlib.Core.Path.{_≡_}
+use Prim.Native.Nat.{ℕ, _+_, _-_, _*_, _<_}
+use lib.Dec.{ltb}
+use Rattle.verdict.specs.declared.Verdict.the-variants.{Fine}
+use Rattle.verdict.specs.Rules.{firstBroken, block}
+use Rattle.records.specs.View.{recordOf}
+use Rattle.rules.specs.Checks.{checksOf}
+use Rattle.rules.specs.declared.Due.{Due}
+use Rattle.rules.specs.declared.Due.the-variants.{Mesh, Layer, Node, Line, Coordinates, Area, Loop}
+use Rattle.walk.specs.declared.State.{State}
+use Rattle.walk.specs.declared.Counts.{Counts}
+use Rattle.walk.specs.States.{dueOf}
+
+abbrev pub isQuiet : Due → Bool
+isQuiet (Mesh last) = false
+isQuiet (Layer last) = false
+isQuiet (Node layer last) = true
+isQuiet (Line layer last) = false
+isQuiet (Coordinates left) = true
+isQuiet (Area layer last) = false
+isQuiet (Loop last count left) = false
+
+-- how many of h are nodes
+abbrev pub nodesOf : State → ℕ → ℕ
+nodesOf s h = cond (ltb 0 (s .points)) 0 h
+
+abbrev pub passed : State → ℕ → State
+passed s h = record {
+  mesh = s .mesh;
+  layers = s .layers;
+  layer = s .layer;
+  nodes = s .nodes;
+  node = s .node + nodesOf s h;
+  lines = s .lines;
+  line = s .line;
+  areas = s .areas;
+  area = s .area;
+  points = s .points - 7 * h;
+  loops = s .loops;
+  begun = s .begun;
+  count = s .count;
+  entries = s .entries;
+}
+
+-- what is due behind j of them
+abbrev pub quietDue : State → ℕ → Due
+quietDue s j = cond (ltb 0 (s .points)) (Coordinates (s .points - 7 * j)) (Node (s .layer) (s .node + j))
+
+pub record Quiet (s : State) (h : ℕ) : Type 0 where
+  pub quiet : (j : ℕ) → j < h → dueOf (passed s j) ≡ quietDue s j
+
+abbrev pub countedPast : Counts → State → ℕ → Counts
+countedPast c s h = record { meshes = c .meshes; layers = c .layers; nodes = c .nodes + nodesOf s h; lines = c .lines; areas = c .areas; words = c .words }
+
+pub record FineAhead (file : List ℕ) (points k r : ℕ) : Type 0 where
+  pub left : (j : ℕ) → j < r → 0 < points
+  pub fine : (j : ℕ) → j < r → firstBroken (block 2 (k + j + 1) (checksOf (Coordinates (points - 7 * j)) (recordOf file (k + j + 1)))) ≡ Fine
