@@ -243,7 +243,7 @@ pub record AreaAt (file : List ℕ) (i m k : ℕ) : Type 0 where
   pub word : areaOf (tableOf file) (layerOf file i) (pos (suc m)) ≡ suc k
 
 -- what the number m + 1 names
-line-named : (t : List ℕ) (l : Layer) (m : ℕ) → m < l .lines → lineOf t l (pos (suc m)) ≡ getD t (l .line + m) 0
+pub line-named : (t : List ℕ) (l : Layer) (m : ℕ) → m < l .lines → lineOf t l (pos (suc m)) ≡ getD t (l .line + m) 0
 unfolding lineOf namesLine
 line-named t l m h =
     let z : suc m - 1 ≡ m = omega arith in

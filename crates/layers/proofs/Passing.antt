@@ -1,7 +1,8 @@
--- From record to record: how many layers came, and the layer of the next record. Only an H begins another one. Assumes nothing.
+-- From record to record: how many layers came, and the layer of the next record. Only an H begins another one, so quiet records leave both as
+-- they are. Assumes nothing.
 use mathlib.Core.Bool.{Bool, true, false, cond}
 use mathlib.Core.List.{List}
-use mathlib.Core.Path.{_≡_, refl, _∙_}
+use mathlib.Core.Path.{_≡_, refl, _∙_, ap}
 use Prim.Native.Nat.{ℕ, suc, _+_, _-_, _≤_}
 use native.Mathlib.Numerals.{add-one}
 use native.Mathlib.Omega.{arith}
@@ -11,7 +12,9 @@ use Rattle.rules.specs.declared.Due.the-variants as due
 use Rattle.walk.specs.declared.State.{State}
 use Rattle.walk.specs.declared.Counts.{Counts}
 use Rattle.walk.specs.States.{dueOf, stateAt, countedFor, countsAt}
+use Rattle.walk.specs.Quiet.{Quiet}
 use Rattle.walk.proofs.Walking.{counts-small}
+use Rattle.walk.proofs.Passing.{passed-counts}
 use Rattle.layers.specs.declared.Bases.{Bases}
 use Rattle.layers.specs.declared.Layer.{Layer}
 use Rattle.layers.specs.Naming.{layerIn}
@@ -65,3 +68,15 @@ pub layer-next : (file t : List ℕ) (b : Bases) (k : ℕ) {s : State} {d : Due}
 unfolding layerAt
 layer-next file t b k {d = d} e f h g q =
     rw (← h) (layer-by t b (isLayer d) (countsAt file k .layers) _ (h ∙ rw (counts-step file k, ← e, ← f)) g q)
+
+-- ---- over h quiet records
+
+layers-passed : (file : List ℕ) (k : ℕ) {h : ℕ} {s : State} → s ≡ stateAt file k → Quiet s h → countsAt file k .layers ≡ countsAt file (k + h) .layers
+layers-passed file k {h} e q = ap (λ (c : Counts). c .layers) (passed-counts file k e q h (omega arith) refl)
+
+pub rows-passed : (file : List ℕ) (k : ℕ) {h n : ℕ} {s : State} → s ≡ stateAt file k → Quiet s h → n ≡ countsAt file k .layers → n ≡ countsAt file (k + h) .layers
+rows-passed file k e q g = g ∙ layers-passed file k e q
+
+pub layer-passed : (file t : List ℕ) (b : Bases) (k : ℕ) {h : ℕ} {s : State} {l : Layer} → s ≡ stateAt file k → Quiet s h → l ≡ layerAt file t b k → l ≡ layerAt file t b (k + h)
+unfolding layerAt
+layer-passed file t b k e q g = rw (← layers-passed file k e q) g

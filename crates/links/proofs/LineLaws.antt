@@ -18,7 +18,7 @@ use Rattle.rules.specs.Permitted.{size}
 use Rattle.rules.proofs.Signs.{passed-on}
 use Rattle.layers.specs.declared.Layer.{Layer}
 use Rattle.layers.specs.Naming.{names, namesLine, nodeOf, areaOf}
-use Rattle.links.specs.Links.{isZero, equal, entryIs, some, serialIn, nodeEntry, listed, linkFits, lineEndChecks, sideChecks, atNode, firstPointChecks, lastPointChecks, loopEntry, entryChecks, fifth}
+use Rattle.links.specs.Links.{isZero, equal, entryIs, some, serialIn, nodeEntry, listed, linkFits, lineEndChecks, sideChecks, atNode, firstPointChecks, lastPointChecks, pointChecks, loopEntry, entryChecks, fifth}
 use Rattle.links.proofs.Numbers.{asked, told-both}
 use Rattle.links.proofs.NodeLaws.{some-none, some-more, some-hit}
 
@@ -231,6 +231,11 @@ module _ (file : List ℕ) (l : Layer) (q r left row : ℕ) where
     pub last-kept : not b ≡ false → Fine ≡ firstBroken (block fifth row (lastPointChecks file l q r left))
     unfolding lastPointChecks
     last-kept t = rw (lt-ltb 0 left (omega (arith, h)), le-leb left 7 u) (kept _ _ _ _ _ (told (λ v. atNode file l v r (left - 1)) okw ew a ∙ not-false b t) (check-none fifth row))
+
+  -- neither of them is: more than seven points are left, and fewer than the line's n
+  pub points-later : {z : ℤ} {n : ℕ} → 7 < left → left < n → Small z → z ≡ numberIn file q 50 6 → n ≡ size (passed z) → Fine ≡ firstBroken (block fifth row (pointChecks file l q r left))
+  unfolding pointChecks
+  points-later h u ok e s = part-passes row _ _ refl (first-later (omega arith) ok e s (λ i. omega arith)) (last-later (λ i. omega arith) h)
 
 -- ---- entries of a loop record
 

@@ -6,6 +6,7 @@ use layers::Bases;
 use layers::Layer;
 use rules::Due;
 use verdict::Verdict;
+use walk::State;
 ghost use mathlib.Core.Path.{_≡_};
 ghost use mathlib.Core.Bool.{false, true, cond, not};
 ghost use Prim.Native.Nat.{_+_, _-_, _≤_, _<_};
@@ -13,7 +14,7 @@ ghost use lib.ListN.{getD};
 ghost use Rattle.verdict.specs.declared.Verdict.the-variants.{Broken};
 ghost use Rattle.verdict.specs.Rules.{firstBroken, block};
 ghost use Rattle.links.specs.Links.{isZero, equal, entryIs, serialIn, nodeEntry, endNode, meets, nodeSlot, nodeChecks, listed, linkFits, lineEndChecks, sideChecks, lineChecks, atNode, firstPointChecks, lastPointChecks, pointChecks, loopEntry, entryChecks, linkChecks, fifth, stageFour};
-ghost use Rattle.links.specs.Scanning.{clean, FirstRepeat};
+ghost use Rattle.links.specs.Scanning.{clean, FirstRepeat, Between};
 
 // ---- numbers
 
@@ -404,6 +405,31 @@ fn judge_record(d: Due, file: &[u8], table: &[u32], l: Layer, line: usize, r: us
     }
 }
 
+// How many coordinate records come before the last one of a line, where none of them is its first: they
+// name nothing.
+fn between(file: &[u8], table: &[u32], l: Layer, s: State) -> usize
+    ensures { λ r. ⌜ Between (now (file .entry)) (now (table .entry)) l s r ⌝ }
+{
+    if s.points <= 7 {
+        return 0;
+    }
+    let q = current_line(table, l, s.line);
+    if rules::size(records::number_at(file, q, 50, 6)) <= s.points {
+        return 0;
+    }
+    (s.points - 1) / 7
+}
+
+// The lesser of two numbers.
+fn lesser(a: usize, b: usize) -> usize
+    ensures { λ r. ⌜ (r ≤ a) × (r ≤ b) ⌝ }
+{
+    if a < b {
+        return a;
+    }
+    b
+}
+
 // Stage 4: every record by what it names.
 pub fn stage_four(file: &[u8], table: &[u32], b: Bases) -> Verdict
     ensures { λ r. ⌜ r ≡ firstBroken (stageFour (now (file .entry)) (now (table .entry)) b) ⌝ }
@@ -427,6 +453,9 @@ pub fn stage_four(file: &[u8], table: &[u32], b: Bases) -> Verdict
         l = layers::layer_behind(d, table, b, rows, l);
         s = walk::next(s, records::record_view(file, k + 1));
         k += 1;
+        let p = walk::pass_quiet(s, lesser(between(file, table, l, s), n - k));
+        s = p.state;
+        k += p.records;
     }
     Verdict::Fine
 }

@@ -21,8 +21,10 @@ use Rattle.rules.specs.declared.Due.the-variants as due
 use Rattle.walk.specs.declared.State.{State}
 use Rattle.walk.specs.States.{dueOf, nextFor, nextOf, stateAt}
 use Rattle.walk.specs.Stages.{recordsOf}
+use Rattle.walk.specs.Quiet.{isQuiet, Quiet}
 use Rattle.walk.proofs.Dues.{by-due}
 use Rattle.walk.proofs.Walking.{size-small}
+use Rattle.walk.proofs.Passing.{by-quiet, passed-rows}
 use Rattle.layers.specs.declared.Bases.{Bases}
 use Rattle.layers.specs.declared.Layer.{Layer}
 use Rattle.layers.specs.Naming.{areaOf}
@@ -96,7 +98,14 @@ sidesOf file t b k = block seventh (k + 1) (lineListChecks (dueOf (stateAt file 
 abbrev pub Kept : List ℕ → List ℕ → Bases → ℕ → Type 0
 Kept file t b k = firstBroken (rows k (sidesOf file t b)) ≡ Fine
 
+-- a quiet record is no line
+quiet-kept : (file t : List ℕ) (l : Layer) (r : ℕ) (d : Due) → isQuiet d ≡ true → firstBroken (block seventh r (lineListChecks d file t l r)) ≡ Fine
+quiet-kept file t l r = by-quiet (λ d. firstBroken (block seventh r (lineListChecks d file t l r)) ≡ Fine) (λ layer last. sym (check-none seventh r)) (λ left. sym (check-none seventh r))
+
 module _ (file t : List ℕ) (b : Bases) where
+  pub six-quiet : (k : ℕ) {h : ℕ} {s : State} → s ≡ stateAt file k → Quiet s h → Kept file t b k → Kept file t b (k + h)
+  six-quiet k e q = passed-rows file k e q (sidesOf file t b) (λ i. quiet-kept file t (layerAt file t b i) (i + 1) (dueOf (stateAt file i)))
+
   pub rule-is : (k : ℕ) {s : State} {d : Due} {l : Layer} {v : Verdict} → s ≡ stateAt file k → d ≡ dueOf s → l ≡ layerAt file t b k
       → v ≡ firstBroken (block seventh (k + 1) (lineListChecks d file t l (k + 1))) → v ≡ firstBroken (sidesOf file t b k)
   rule-is k e f g h = rw (← e, ← f, ← g) h

@@ -201,6 +201,9 @@ pub fn stage_six(file: &[u8], table: &[u32], b: Bases) -> Verdict
         mark_behind(d, file, table, l, &mut marks);
         s = walk::next(s, records::record_view(file, k + 1));
         k += 1;
+        let p = walk::pass_quiet(s, n - k);
+        s = p.state;
+        k += p.records;
     }
     Verdict::Fine
 }

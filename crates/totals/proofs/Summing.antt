@@ -3,6 +3,7 @@ use mathlib.Core.Bool.{true, false, cond}
 use mathlib.Core.List.{List, [], _∷_}
 use mathlib.Core.Path.{_≡_, refl, sym, _∙_}
 use Prim.Native.Nat.{ℕ, zero, suc, _+_, _-_, _≤_, _<_}
+use native.Mathlib.Nat.{add-zero}
 use native.Mathlib.Numerals.{add-one}
 use native.Mathlib.Omega.{arith}
 use lib.Dec.{leb, eqb}
@@ -12,7 +13,7 @@ use Rattle.verdict.specs.declared.Verdict.{Verdict}
 use Rattle.verdict.specs.declared.Verdict.the-variants.{Fine, Broken}
 use Rattle.verdict.specs.Rules.{Rule, Check, check, firstBroken, block, rows}
 use Rattle.verdict.specs.Order.{Sorted, rising}
-use Rattle.verdict.proofs.Parts.{rows-stop, rows-done, check-kept, check-broken}
+use Rattle.verdict.proofs.Parts.{rows-stop, rows-done, check-none, check-kept, check-broken}
 use Rattle.verdict.proofs.Numbers.{above9, numbered, Numbered, block-numbered, rows-numbered}
 use Rattle.verdict.proofs.Orders.{Of, rows-sorted, rows-in}
 use Rattle.rules.specs.declared.Due.{Due}
@@ -20,7 +21,9 @@ use Rattle.rules.specs.declared.Due.the-variants.{Mesh, Layer, Node, Line, Coor
 use Rattle.walk.specs.declared.State.{State}
 use Rattle.walk.specs.States.{sizeIn, dueOf, stateAt}
 use Rattle.walk.specs.Stages.{recordsOf}
+use Rattle.walk.specs.Quiet.{isQuiet, Quiet}
 use Rattle.walk.proofs.Walking.{size-small}
+use Rattle.walk.proofs.Passing.{by-quiet, quiet-is, passed-due, passed-rows}
 use Rattle.totals.specs.declared.Sums.{Sums}
 use Rattle.totals.specs.Totals.{rankOf, noSums, oneMore, addedFor, sumsFrom, sumsBehind, meshTotals, layerTotals, areaTotals, totalChecks, fourth, stageThree}
 use Rattle.totals.specs.Adding.{Addable}
@@ -50,15 +53,39 @@ one-addable k a r n l p e = record {
   entries = omega (arith, a .entries);
 }
 
-pub more-addable : (k : ℕ) (d : Due) (s : Sums) (t : List ℕ) → Addable k s → Addable (k + 1) (addedFor d s t)
-more-addable k (Mesh last) s t a = one-addable k a refl (omega arith) (omega arith) (omega arith) (omega arith)
-more-addable k (Layer last) s t a = one-addable k a refl (omega (arith, size-small t 5 5)) (omega (arith, size-small t 10 5)) (omega (arith, size-small t 15 5)) (omega arith)
-more-addable k (Node layer last) s t a = one-addable k a refl (omega arith) (omega arith) (omega arith) (omega arith)
-more-addable k (Line layer last) s t a = one-addable k a refl (omega arith) (omega arith) (omega arith) (omega arith)
-more-addable k (Coordinates left) s t a = one-addable k a refl (omega arith) (omega arith) (omega arith) (omega arith)
-more-addable k (Area layer last) s t a = one-addable k a refl (omega arith) (omega arith) (omega arith) (omega arith)
-more-addable k (Loop last count zero) s t a = one-addable k a refl (omega arith) (omega arith) (omega arith) (omega (arith, size-small t 6 4))
-more-addable k (Loop last count (suc left)) s t a = one-addable k a refl (omega arith) (omega arith) (omega arith) (omega arith)
+added-addable : (k : ℕ) (d : Due) (s : Sums) (t : List ℕ) → Addable k s → Addable (k + 1) (addedFor d s t)
+added-addable k (Mesh last) s t a = one-addable k a refl (omega arith) (omega arith) (omega arith) (omega arith)
+added-addable k (Layer last) s t a = one-addable k a refl (omega (arith, size-small t 5 5)) (omega (arith, size-small t 10 5)) (omega (arith, size-small t 15 5)) (omega arith)
+added-addable k (Node layer last) s t a = one-addable k a refl (omega arith) (omega arith) (omega arith) (omega arith)
+added-addable k (Line layer last) s t a = one-addable k a refl (omega arith) (omega arith) (omega arith) (omega arith)
+added-addable k (Coordinates left) s t a = one-addable k a refl (omega arith) (omega arith) (omega arith) (omega arith)
+added-addable k (Area layer last) s t a = one-addable k a refl (omega arith) (omega arith) (omega arith) (omega arith)
+added-addable k (Loop last count zero) s t a = one-addable k a refl (omega arith) (omega arith) (omega arith) (omega (arith, size-small t 6 4))
+added-addable k (Loop last count (suc left)) s t a = one-addable k a refl (omega arith) (omega arith) (omega arith) (omega arith)
+
+pub more-addable : (k : ℕ) (d : Due) (s : Sums) (t : List ℕ) {x : Sums} → x ≡ addedFor d s t → Addable k s → Addable (k + 1) x
+more-addable k d s t e a = rw e (added-addable k d s t a)
+
+-- ---- quiet records
+
+-- the sums with h of them
+abbrev pub quietMore : Sums → ℕ → Sums
+quietMore s h = record { records = s .records + h; nodes = s .nodes; lines = s .lines; areas = s .areas; entries = s .entries }
+
+quiet-rank : (d : Due) → isQuiet d ≡ true → 2 ≡ rankOf d
+quiet-rank = by-quiet (λ d. 2 ≡ rankOf d) (λ layer last. refl) (λ left. refl)
+
+quiet-adds : (s : Sums) (t : List ℕ) (d : Due) → isQuiet d ≡ true → oneMore s ≡ addedFor d s t
+quiet-adds s t = by-quiet (λ d. oneMore s ≡ addedFor d s t) (λ layer last. refl) (λ left. refl)
+
+pub quiet-addable : (k h : ℕ) {s : Sums} → Addable k s → Addable (k + h) (quietMore s h)
+quiet-addable k h a = record {
+  records = omega (arith, a .records);
+  nodes = omega (arith, a .nodes);
+  lines = omega (arith, a .lines);
+  areas = omega (arith, a .areas);
+  entries = omega (arith, a .entries);
+}
 
 -- ---- the loop over what follows
 
@@ -89,6 +116,17 @@ module _ (r : ℕ) (file : List ℕ) where
   sums-more i s {u} {d} {t} {x} {z} {m} l g e f h y a q =
       let b : leb (rankOf (dueOf (stateAt file i))) r ≡ false = rw (← g, ← e, ← f) (lt-leb m r h) in
       rw (a, y, e, g) (sym (rw b at (sums-step i s l)) ∙ q)
+
+  -- quiet ones are, which do not end the sums
+  pub sums-quiet : (i : ℕ) (s : Sums) {h : ℕ} {u : State} {z : Sums} → u ≡ stateAt file i → Quiet u h → (0 < h → r < 2) → (j : ℕ) → j ≤ h → i + j ≤ recordsOf file
+      → sumsFrom r file i (recordsOf file - i) s ≡ z → sumsFrom r file (i + j) (recordsOf file - (i + j)) (quietMore s j) ≡ z
+  sums-quiet i s e q f zero l m g = simp add-zero g
+  sums-quiet i s {h} {u} {z} e q f (suc j) l m g =
+      let d = dueOf (stateAt file (i + j)) in
+      let k : isQuiet d ≡ true = rw (passed-due file i e q j (omega arith)) (quiet-is u j) in
+      let o : s .records + j + 1 ≡ s .records + suc j = omega arith in
+      let p : i + j + 1 ≡ i + suc j = omega arith in
+      rw (← p, ← o) (sums-more (i + j) (quietMore s j) (omega arith) refl refl (quiet-rank d k) (f (omega arith)) refl (quiet-adds (quietMore s j) (recordOf file (i + j + 1)) d k) (sums-quiet i s e q f j (omega arith) (omega arith) g))
 
   -- none is left
   pub sums-end : (i : ℕ) {s z : Sums} → recordsOf file ≤ i → sumsFrom r file i (recordsOf file - i) s ≡ z → s ≡ z
@@ -138,6 +176,13 @@ totalsOf file k = block fourth (k + 1) (totalChecks (dueOf (stateAt file k)) fil
 pub rule-is : (file : List ℕ) (k : ℕ) {s : State} {d : Due} {v : Verdict} → s ≡ stateAt file k → d ≡ dueOf s
     → v ≡ firstBroken (block fourth (k + 1) (totalChecks d file k)) → v ≡ firstBroken (totalsOf file k)
 rule-is file k e f h = rw (← e, ← f) h
+
+-- a quiet record has no totals
+quiet-kept : (file : List ℕ) (k : ℕ) (d : Due) → isQuiet d ≡ true → firstBroken (block fourth (k + 1) (totalChecks d file k)) ≡ Fine
+quiet-kept file k = by-quiet (λ d. firstBroken (block fourth (k + 1) (totalChecks d file k)) ≡ Fine) (λ layer last. sym (check-none fourth (k + 1))) (λ left. sym (check-none fourth (k + 1)))
+
+pub three-quiet : (file : List ℕ) (k : ℕ) {h : ℕ} {s : State} → s ≡ stateAt file k → Quiet s h → firstBroken (rows k (totalsOf file)) ≡ Fine → firstBroken (rows (k + h) (totalsOf file)) ≡ Fine
+three-quiet file k e q = passed-rows file k e q (totalsOf file) (λ i. quiet-kept file i (dueOf (stateAt file i)))
 
 module _ (file : List ℕ) {n : ℕ} (e : n ≡ recordsOf file) where
   pub three-stops : (k : ℕ) {v : Verdict} {a b c : ℕ} → v ≡ Broken a b c → v ≡ firstBroken (totalsOf file k) → firstBroken (rows k (totalsOf file)) ≡ Fine → k < n → v ≡ firstBroken (stageThree file)

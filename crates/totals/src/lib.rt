@@ -107,6 +107,16 @@ fn added(d: Due, s: Sums, t: &[u8]) -> Sums
     }
 }
 
+// How many quiet records are passed at most, with `left` records left: none where one of them ends the sums.
+fn room_for(rank: usize, left: usize) -> usize
+    ensures { λ r. ⌜ (r ≤ left) × (0 < r → rank < 2) ⌝ }
+{
+    if rank < 2 {
+        return left;
+    }
+    0
+}
+
 // What follows the first `k` records, behind which the walk is in the state `s`, up to the next record of
 // rank `rank` or above.
 fn sums_behind(rank: usize, file: &[u8], k: usize, s: State) -> Sums
@@ -126,6 +136,10 @@ fn sums_behind(rank: usize, file: &[u8], k: usize, s: State) -> Sums
         sums = added(d, sums, t);
         state = walk::next(state, t);
         i += 1;
+        let p = walk::pass_quiet(state, room_for(rank, n - i));
+        sums.records = sums.records + p.records;
+        state = p.state;
+        i += p.records;
     }
     sums
 }
@@ -221,6 +235,9 @@ pub fn stage_three(file: &[u8]) -> Verdict
         }
         s = next;
         k += 1;
+        let p = walk::pass_quiet(s, n - k);
+        s = p.state;
+        k += p.records;
     }
     Verdict::Fine
 }

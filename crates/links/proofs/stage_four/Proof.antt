@@ -1,13 +1,16 @@
--- `links::stage_four` meets its contract: the loop leaves at the first broken rule, and carries the layer of the next record. Assumes nothing.
+-- `links::stage_four` meets its contract: the loop leaves at the first broken rule, passes records that break none, and carries the layer of
+-- the next record. Assumes nothing.
 use mathlib.Core.Path.{_≡_, _∙_}
 use Prim.Native.Nat.{_-_, _≤_}
+use native.Mathlib.Nat.{le-refl}
 use native.Mathlib.Omega.{arith}
 use Rattle.verdict.proofs.Parts.{rows-none, rows-pass}
 use Rattle.walk.specs.States.{stateAt, countsAt}
 use Rattle.walk.proofs.Walking.{at-none, next-state}
+use Rattle.walk.proofs.Passing.{passed-state}
 use Rattle.layers.specs.Passing.{layerAt}
-use Rattle.layers.proofs.Passing.{rows-start, rows-more, rows-small, layer-start, layer-next}
-use Rattle.links.proofs.StageLaws.{Kept, rule-is, four-stops, four-done}
+use Rattle.layers.proofs.Passing.{rows-start, rows-more, rows-small, layer-start, layer-next, rows-passed, layer-passed}
+use Rattle.links.proofs.StageLaws.{Kept, rule-is, four-passes, four-stops, four-done}
 use borrow.Author.Needs.{needs}
 use Rattle.links.proofs.stage_four.Statement.{statement}
 use Rattle.links.proofs.stage_four.Tie as tie
@@ -69,17 +72,54 @@ next-requires c κs = search needs
 add-k : tie.Need-add-k Inv-loop μ-loop
 add-k c = omega (arith, c .before .before .before .before .before .before .before .before .before .before .before .before .records-of .ensures .1, c .before .before .before .before .before .before .before .before .loop-test .taken)
 
+between-requires : tie.Need-between-requires Inv-loop μ-loop
+between-requires c κs = search needs
+
+sub-lesser : tie.Need-sub-lesser Inv-loop μ-loop
+sub-lesser c = search needs
+
+lesser-requires : tie.Need-lesser-requires Inv-loop μ-loop
+lesser-requires c κs = search needs
+
+pass-quiet-requires : tie.Need-pass-quiet-requires Inv-loop μ-loop
+pass-quiet-requires c κs = search needs
+
+add-k-2 : tie.Need-add-k-2 Inv-loop μ-loop
+add-k-2 c =
+    let p = c .before .before in
+    let m = p .before in
+    let t = m .before .before .before .before .before .before .before .before .before .before in
+    let n = t .before .before .before .before in
+    omega (arith, n .records-of .ensures .1, t .loop-test .taken, p .pass-quiet .ensures .0, m .lesser .ensures .1)
+
 loop-less : tie.Need-loop-less Inv-loop μ-loop
-loop-less c = search needs
+loop-less c = omega (arith, c .before .before .before .before .before .before .before .before .before .before .before .before .before .loop-test .taken)
 
 loop-again : tie.Need-loop-again Inv-loop μ-loop
-loop-again c = (
-  search needs,
-  next-state _ _ (c .before .before .before .before .before .before .before .before .before .loop .inv .1) (rw (← c .before .record-view .ensures) (c .next .ensures)),
-  rows-more _ _ (c .before .before .before .before .before .before .before .before .before .loop .inv .1) (c .before .before .before .before .before .before .before .due .ensures) (c .before .before .before .rows-of .ensures) (c .before .before .before .before .before .before .before .before .before .loop .inv .2),
-  layer-next _ _ _ _ (c .before .before .before .before .before .before .before .before .before .loop .inv .1) (c .before .before .before .before .before .before .before .due .ensures) (rows-more _ _ (c .before .before .before .before .before .before .before .before .before .loop .inv .1) (c .before .before .before .before .before .before .before .due .ensures) (c .before .before .before .rows-of .ensures) (c .before .before .before .before .before .before .before .before .before .loop .inv .2)) (c .before .before .before .before .before .before .before .before .before .loop .inv .3) (c .before .before .layer-behind .ensures),
-  rows-pass _ _ (c .before .before .before .before .before .before .before .before .before .loop .inv .4) (rule-is _ _ _ _ (c .before .before .before .before .before .before .before .before .before .loop .inv .1) (c .before .before .before .before .before .before .before .due .ensures) (c .before .before .before .before .before .before .before .before .before .loop .inv .3) (c .before .before .before .before .before .before .judge-record .ensures)) (c .before .before .before .before .enum-told2 .given .1),
-)
+loop-again c =
+    let p = c .before .before in
+    let m = p .before in
+    let w = m .before in
+    let x = w .before in
+    let y = x .before in
+    let b = y .before in
+    let o = b .before in
+    let u = o .before in
+    let v = u .before .before in
+    let d = v .before in
+    let t = d .before in
+    let l = t .before in
+    let q = p .pass-quiet .ensures .2 in
+    let e = next-state _ _ {u = x .next .result} (l .loop .inv .1) (rw (← y .record-view .ensures) (x .next .ensures)) in
+    let r = rows-more _ _ (l .loop .inv .1) (d .due .ensures) (o .rows-of .ensures) (l .loop .inv .2) in
+    let g = layer-next _ _ _ _ (l .loop .inv .1) (d .due .ensures) r (l .loop .inv .3) (b .layer-behind .ensures) in
+    let f = rows-pass _ _ (l .loop .inv .4) (rule-is _ _ _ _ (l .loop .inv .1) (d .due .ensures) (l .loop .inv .3) (v .judge-record .ensures)) (u .enum-told2 .given .1) in (
+      omega (arith, t .loop-test .taken, p .pass-quiet .ensures .0, m .lesser .ensures .1),
+      p .pass-quiet .ensures .1 ∙ passed-state _ _ e q _ (le-refl _),
+      rows-passed _ _ e q r,
+      layer-passed _ _ _ _ e q g,
+      four-passes _ _ _ _ e q g (w .between .ensures) (omega (arith, p .pass-quiet .ensures .0, m .lesser .ensures .0)) f,
+    )
 
 returns-2 : tie.Need-returns-2 Inv-loop μ-loop
 returns-2 c = four-done _ _ _ (c .before .before .before .before .records-of .ensures .0) _ (c .before .loop .inv .4) (c .before .loop .inv .0) (c .loop-test .left)
@@ -107,6 +147,11 @@ stage-four-spec =
     record-view-requires
     next-requires
     add-k
+    between-requires
+    sub-lesser
+    lesser-requires
+    pass-quiet-requires
+    add-k-2
     loop-less
     loop-again
     returns-2)

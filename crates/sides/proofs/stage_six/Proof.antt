@@ -1,17 +1,19 @@
 -- `sides::stage_six` meets its contract: the loop leaves at the first broken rule, and carries the layer of the next record and marks that are
--- true. Assumes nothing.
+-- true. Quiet records have no rule, and leave the layer as it is. Assumes nothing.
 use mathlib.Core.Path.{_≡_, sym, _∙_}
 use Prim.Native.Nat.{ℕ, _-_, _≤_}
+use native.Mathlib.Nat.{le-refl}
 use native.Mathlib.Omega.{arith}
 use lib.ListN.{length, length-replicate}
 use Rattle.verdict.proofs.Parts.{rows-none, rows-pass}
 use Rattle.walk.specs.States.{stateAt, countsAt}
 use Rattle.walk.proofs.Walking.{at-none, next-state}
+use Rattle.walk.proofs.Passing.{passed-state}
 use Rattle.layers.specs.Passing.{layerAt}
-use Rattle.layers.proofs.Passing.{rows-start, rows-more, rows-small, layer-start, layer-next}
+use Rattle.layers.proofs.Passing.{rows-start, rows-more, rows-small, rows-passed, layer-start, layer-next, layer-passed}
 use Rattle.sides.specs.Marking.{Marks}
 use Rattle.sides.proofs.Marked.{no-marks}
-use Rattle.sides.proofs.StageLaws.{due-countable, Kept, rule-is, six-stops, six-done}
+use Rattle.sides.proofs.StageLaws.{due-countable, Kept, six-quiet, rule-is, six-stops, six-done}
 use borrow.Author.Needs.{needs}
 use Rattle.sides.proofs.stage_six.Statement.{statement}
 use Rattle.sides.proofs.stage_six.Tie as tie
@@ -82,19 +84,31 @@ next-requires c κs = search needs
 add-k : tie.Need-add-k Inv-loop μ-loop
 add-k c = omega (arith, c .before .before .before .before .before .before .before .before .before .before .before .before .before .before .before .before .records-of .ensures .1, c .before .before .before .before .before .before .before .before .before .before .before .before .loop-test .taken)
 
+sub-pass-quiet : tie.Need-sub-pass-quiet Inv-loop μ-loop
+sub-pass-quiet c = search needs
+
+pass-quiet-requires : tie.Need-pass-quiet-requires Inv-loop μ-loop
+pass-quiet-requires c κs = search needs
+
+add-k-2 : tie.Need-add-k-2 Inv-loop μ-loop
+add-k-2 c = record { fits = omega (arith, c .before .before .pass-quiet .ensures .0, c .before .before .before .before .before .before .before .before .before .before .before .before .before .before .before .loop-test .taken, c .before .before .before .before .before .before .before .before .before .before .before .before .before .before .before .before .before .before .before .records-of .ensures .1) }
+
 loop-less : tie.Need-loop-less Inv-loop μ-loop
-loop-less c = search needs
+loop-less c = omega (arith, c .before .before .pass-quiet .ensures .0, c .before .before .before .before .before .before .before .before .before .before .before .before .before .before .before .loop-test .taken)
 
 loop-again : tie.Need-loop-again Inv-loop μ-loop
-loop-again c = (
-  search needs,
-  next-state _ _ (c .before .before .before .before .before .before .before .before .before .before .before .before .before .loop .inv .1) (rw (← c .before .record-view .ensures) (c .next .ensures)),
-  rows-more _ _ (c .before .before .before .before .before .before .before .before .before .before .before .before .before .loop .inv .1) (c .before .before .before .before .before .before .before .before .before .before .before .due .ensures) (c .before .before .before .before .before .before .rows-of .ensures) (c .before .before .before .before .before .before .before .before .before .before .before .before .before .loop .inv .2),
-  layer-next _ _ _ _ (c .before .before .before .before .before .before .before .before .before .before .before .before .before .loop .inv .1) (c .before .before .before .before .before .before .before .before .before .before .before .due .ensures) (rows-more _ _ (c .before .before .before .before .before .before .before .before .before .before .before .before .before .loop .inv .1) (c .before .before .before .before .before .before .before .before .before .before .before .due .ensures) (c .before .before .before .before .before .before .rows-of .ensures) (c .before .before .before .before .before .before .before .before .before .before .before .before .before .loop .inv .2)) (c .before .before .before .before .before .before .before .before .before .before .before .before .before .loop .inv .3) (c .before .before .before .before .before .layer-behind .ensures),
-  rows-pass _ _ (c .before .before .before .before .before .before .before .before .before .before .before .before .before .loop .inv .4) (rule-is _ _ _ _ (c .before .before .before .before .before .before .before .before .before .before .before .before .before .loop .inv .1) (c .before .before .before .before .before .before .before .before .before .before .before .due .ensures) (c .before .before .before .before .before .before .before .before .before .before .before .before .before .loop .inv .3) (c .before .before .before .before .before .before .before .before .before .judge-record .ensures)) (c .before .before .before .before .before .before .before .enum-told2 .given .1),
-  c .before .before .before .mark-behind .ensures,
-  c .before .before .before .mark-behind .kept .1 .1 .1 .1 .0 ∙ c .before .before .before .before .before .before .before .before .before .before .before .before .before .loop .inv .6,
-)
+loop-again c =
+    let e = next-state _ _ (c .before .before .before .before .before .before .before .before .before .before .before .before .before .before .before .before .loop .inv .1) (rw (c .before .before .before .before .record-view .ensures) at (c .before .before .before .next .ensures)) in
+    let q = c .before .before .pass-quiet .ensures .2 in
+    let m = rows-more _ _ (c .before .before .before .before .before .before .before .before .before .before .before .before .before .before .before .before .loop .inv .1) (c .before .before .before .before .before .before .before .before .before .before .before .before .before .before .due .ensures) (c .before .before .before .before .before .before .before .before .before .rows-of .ensures) (c .before .before .before .before .before .before .before .before .before .before .before .before .before .before .before .before .loop .inv .2) in (
+      omega (arith, c .before .before .pass-quiet .ensures .0, c .before .before .before .before .before .before .before .before .before .before .before .before .before .before .before .loop-test .taken),
+      c .before .before .pass-quiet .ensures .1 ∙ passed-state _ _ e q _ (le-refl _),
+      rows-passed _ _ e q m,
+      layer-passed _ _ _ _ e q (layer-next _ _ _ _ (c .before .before .before .before .before .before .before .before .before .before .before .before .before .before .before .before .loop .inv .1) (c .before .before .before .before .before .before .before .before .before .before .before .before .before .before .due .ensures) m (c .before .before .before .before .before .before .before .before .before .before .before .before .before .before .before .before .loop .inv .3) (c .before .before .before .before .before .before .before .before .layer-behind .ensures)),
+      six-quiet _ _ _ _ e q (rows-pass _ _ (c .before .before .before .before .before .before .before .before .before .before .before .before .before .before .before .before .loop .inv .4) (rule-is _ _ _ _ (c .before .before .before .before .before .before .before .before .before .before .before .before .before .before .before .before .loop .inv .1) (c .before .before .before .before .before .before .before .before .before .before .before .before .before .before .due .ensures) (c .before .before .before .before .before .before .before .before .before .before .before .before .before .before .before .before .loop .inv .3) (c .before .before .before .before .before .before .before .before .before .before .before .before .judge-record .ensures)) (c .before .before .before .before .before .before .before .before .before .before .enum-told2 .given .1)),
+      c .before .before .before .before .before .before .mark-behind .ensures,
+      c .before .before .before .before .before .before .mark-behind .kept .1 .1 .1 .1 .0 ∙ c .before .before .before .before .before .before .before .before .before .before .before .before .before .before .before .before .loop .inv .6,
+    )
 
 returns-2 : tie.Need-returns-2 Inv-loop μ-loop
 returns-2 c = six-done _ _ _ (c .before .before .before .before .records-of .ensures .0) _ (c .before .loop .inv .4) (c .before .loop .inv .0) (c .loop-test .left)
@@ -125,6 +139,9 @@ stage-six-spec =
     record-view-requires
     next-requires
     add-k
+    sub-pass-quiet
+    pass-quiet-requires
+    add-k-2
     loop-less
     loop-again
     returns-2)

@@ -1,13 +1,15 @@
--- `totals::stage_three` meets its contract: the loop leaves at the first broken total. Assumes nothing.
+-- `totals::stage_three` meets its contract: the loop leaves at the first broken total, and quiet records have none. Assumes nothing.
 use mathlib.Core.Path.{_≡_, _∙_}
 use Prim.Native.Nat.{_-_, _≤_}
+use native.Mathlib.Nat.{le-refl}
 use borrow.Author.Needs.{needs}
 use Rattle.verdict.specs.declared.Verdict.the-variants.{Fine}
 use Rattle.verdict.specs.Rules.{firstBroken, rows}
 use Rattle.verdict.proofs.Parts.{rows-none, rows-pass}
 use Rattle.walk.specs.States.{stateAt}
 use Rattle.walk.proofs.Walking.{at-none, next-state}
-use Rattle.totals.proofs.Summing.{totalsOf, rule-is, three-stops, three-done}
+use Rattle.walk.proofs.Passing.{passed-state}
+use Rattle.totals.proofs.Summing.{totalsOf, rule-is, three-quiet, three-stops, three-done}
 use Rattle.totals.proofs.stage_three.Statement.{statement}
 use Rattle.totals.proofs.stage_three.Tie as tie
 
@@ -53,11 +55,26 @@ enum-told-2 c = search needs
 add-k : tie.Need-add-k Inv-loop μ-loop
 add-k c = search needs
 
+sub-pass-quiet : tie.Need-sub-pass-quiet Inv-loop μ-loop
+sub-pass-quiet c = search needs
+
+pass-quiet-requires : tie.Need-pass-quiet-requires Inv-loop μ-loop
+pass-quiet-requires c κs = search needs
+
+add-k-2 : tie.Need-add-k-2 Inv-loop μ-loop
+add-k-2 c = search needs
+
 loop-less : tie.Need-loop-less Inv-loop μ-loop
 loop-less c = search needs
 
 loop-again : tie.Need-loop-again Inv-loop μ-loop
-loop-again c = (search needs, next-state _ _ (c .before .before .before .before .before .before .before .loop .inv .1) (rw (← c .before .before .before .before .record-view .ensures) (c .before .before .before .next .ensures)), rows-pass _ _ (c .before .before .before .before .before .before .before .loop .inv .2) (rule-is _ _ (c .before .before .before .before .before .before .before .loop .inv .1) (c .before .before .before .before .before .due .ensures) (c .before .before .judge-totals .ensures)) (c .enum-told2 .given .1))
+loop-again c =
+    let e = next-state _ _ (c .before .before .before .before .before .before .before .before .before .before .loop .inv .1) (rw (c .before .before .before .before .before .before .before .record-view .ensures) at (c .before .before .before .before .before .before .next .ensures)) in
+    let q = c .before .before .pass-quiet .ensures .2 in (
+      search needs,
+      c .before .before .pass-quiet .ensures .1 ∙ passed-state _ _ e q _ (le-refl _),
+      three-quiet _ _ e q (rows-pass _ _ (c .before .before .before .before .before .before .before .before .before .before .loop .inv .2) (rule-is _ _ (c .before .before .before .before .before .before .before .before .before .before .loop .inv .1) (c .before .before .before .before .before .before .before .before .due .ensures) (c .before .before .before .before .before .judge-totals .ensures)) (c .before .before .before .enum-told2 .given .1)),
+    )
 
 returns-2 : tie.Need-returns-2 Inv-loop μ-loop
 returns-2 c = three-done _ (c .before .before .before .records-of .ensures .0) _ (c .before .loop .inv .2) (c .before .loop .inv .0) (c .loop-test .left)
@@ -80,6 +97,9 @@ stage-three-spec =
     returns
     enum-told-2
     add-k
+    sub-pass-quiet
+    pass-quiet-requires
+    add-k-2
     loop-less
     loop-again
     returns-2)

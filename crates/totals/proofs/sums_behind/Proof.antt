@@ -1,15 +1,17 @@
--- `totals::sums_behind` meets its contract: what is left to add gives the sums of the whole. Assumes nothing.
+-- `totals::sums_behind` meets its contract: what is left to add gives the sums of the whole, behind quiet records too. Assumes nothing.
 use denote.Ref.{now}
 use Prim.Native.Nat.{_-_, _≤_}
-use mathlib.Core.Path.{_≡_}
+use mathlib.Core.Path.{_≡_, _∙_}
+use native.Mathlib.Nat.{le-refl}
 use native.Mathlib.Omega.{arith}
 use borrow.Author.Needs.{needs}
 use Rattle.walk.specs.States.{stateAt}
 use Rattle.walk.specs.Stages.{recordsOf}
 use Rattle.walk.proofs.Walking.{next-state}
+use Rattle.walk.proofs.Passing.{passed-state}
 use Rattle.totals.specs.Totals.{sumsFrom, sumsBehind}
 use Rattle.totals.specs.Adding.{Addable}
-use Rattle.totals.proofs.Summing.{none-addable, most-addable, more-addable, sums-start, sums-stop, sums-more, sums-end}
+use Rattle.totals.proofs.Summing.{none-addable, most-addable, more-addable, quiet-addable, sums-start, sums-stop, sums-more, sums-quiet, sums-end}
 use Rattle.totals.proofs.sums_behind.Statement.{statement}
 use Rattle.totals.proofs.sums_behind.Tie as tie
 
@@ -52,11 +54,35 @@ next-requires c κs = search needs
 add-i : tie.Need-add-i Inv-loop μ-loop
 add-i c = search needs
 
+sub-room-for : tie.Need-sub-room-for Inv-loop μ-loop
+sub-room-for c = search needs
+
+room-for-requires : tie.Need-room-for-requires Inv-loop μ-loop
+room-for-requires c κs = search needs
+
+pass-quiet-requires : tie.Need-pass-quiet-requires Inv-loop μ-loop
+pass-quiet-requires c κs = search needs
+
+add-sums : tie.Need-add-sums Inv-loop μ-loop
+add-sums c =
+    let a = more-addable _ (c .before .before .before .before .before .before .before .before .before .due .result) (c .before .before .before .before .before .before .before .before .before .before .before .loop .sums) (now (c .before .before .before .before .before .before .record-view .result)) (c .before .before .before .before .before .added .ensures) (c .before .before .before .before .before .before .before .before .before .before .before .loop .inv .2) in
+    record { fits = omega (arith, a .records, c .before .before .pass-quiet .ensures .0, c .before .before .before .room-for .ensures .0, c .before .before .before .before .before .before .before .before .before .before .loop-test .taken, c .before .before .before .before .before .before .before .before .before .before .before .before .before .records-of .ensures .1) }
+
+add-i-2 : tie.Need-add-i-2 Inv-loop μ-loop
+add-i-2 c = record { fits = omega (arith, c .before .before .before .before .pass-quiet .ensures .0, c .before .before .before .before .before .room-for .ensures .0, c .before .before .before .before .before .before .before .before .before .before .before .before .loop-test .taken, c .before .before .before .before .before .before .before .before .before .before .before .before .before .before .before .records-of .ensures .1) }
+
 loop-less : tie.Need-loop-less Inv-loop μ-loop
-loop-less c = search needs
+loop-less c = omega (arith, c .before .before .before .before .pass-quiet .ensures .0, c .before .before .before .before .before .room-for .ensures .0, c .before .before .before .before .before .before .before .before .before .before .before .before .loop-test .taken, c .before .before .before .before .before .before .before .before .before .before .before .before .before .before .before .records-of .ensures .1)
 
 loop-again : tie.Need-loop-again Inv-loop μ-loop
-loop-again c = (omega (arith, c .before .before .before .before .before .before .before .before .before .records-of .ensures .1, c .before .before .before .before .before .before .loop-test .taken), next-state _ _ (c .before .before .before .before .before .before .before .loop .inv .1) (rw (← c .before .before .record-view .ensures) (c .next .ensures)), rw (c .before .added .ensures) (more-addable _ (c .before .before .before .before .before .due .result) (c .before .before .before .before .before .before .before .loop .sums) (now (c .before .before .record-view .result)) (c .before .before .before .before .before .before .before .loop .inv .2)), sums-more _ _ _ _ (rw (c .before .before .before .before .before .before .before .before .before .records-of .ensures .0) at (c .before .before .before .before .before .before .loop-test .taken)) (c .before .before .before .before .before .before .before .loop .inv .1) (c .before .before .before .before .before .due .ensures) (c .before .before .before .before .rank-of .ensures) (c .before .before .before .if1 .left) (c .before .before .record-view .ensures) (c .before .added .ensures) (c .before .before .before .before .before .before .before .loop .inv .3))
+loop-again c =
+    let e = next-state _ _ (c .before .before .before .before .before .before .before .before .before .before .before .before .before .loop .inv .1) (rw (c .before .before .before .before .before .before .before .before .record-view .ensures) at (c .before .before .before .before .before .before .next .ensures)) in
+    let q = c .before .before .before .before .pass-quiet .ensures .2 in (
+      omega (arith, c .before .before .before .before .pass-quiet .ensures .0, c .before .before .before .before .before .room-for .ensures .0, c .before .before .before .before .before .before .before .before .before .before .before .before .loop-test .taken, c .before .before .before .before .before .before .before .before .before .before .before .before .before .before .before .records-of .ensures .1),
+      c .before .before .before .before .pass-quiet .ensures .1 ∙ passed-state _ _ e q _ (le-refl _),
+      quiet-addable _ _ (more-addable _ (c .before .before .before .before .before .before .before .before .before .before .before .due .result) (c .before .before .before .before .before .before .before .before .before .before .before .before .before .loop .sums) (now (c .before .before .before .before .before .before .before .before .record-view .result)) (c .before .before .before .before .before .before .before .added .ensures) (c .before .before .before .before .before .before .before .before .before .before .before .before .before .loop .inv .2)),
+      sums-quiet _ _ _ _ e q (λ l. c .before .before .before .before .before .room-for .ensures .1 (omega (arith, l, c .before .before .before .before .pass-quiet .ensures .0))) _ (le-refl _) (omega (arith, c .before .before .before .before .before .before .before .before .before .before .before .before .before .before .before .records-of .ensures .0, c .before .before .before .before .pass-quiet .ensures .0, c .before .before .before .before .before .room-for .ensures .0, c .before .before .before .before .before .before .before .before .before .before .before .before .loop-test .taken, c .before .before .before .before .before .before .before .before .before .before .before .before .before .before .before .records-of .ensures .1)) (sums-more _ _ _ _ (rw (c .before .before .before .before .before .before .before .before .before .before .before .before .before .before .before .records-of .ensures .0) at (c .before .before .before .before .before .before .before .before .before .before .before .before .loop-test .taken)) (c .before .before .before .before .before .before .before .before .before .before .before .before .before .loop .inv .1) (c .before .before .before .before .before .before .before .before .before .before .before .due .ensures) (c .before .before .before .before .before .before .before .before .before .before .rank-of .ensures) (c .before .before .before .before .before .before .before .before .before .if1 .left) (c .before .before .before .before .before .before .before .before .record-view .ensures) (c .before .before .before .before .before .before .before .added .ensures) (c .before .before .before .before .before .before .before .before .before .before .before .before .before .loop .inv .3)),
+    )
 
 returns-2 : tie.Need-returns-2 Inv-loop μ-loop
 returns-2 c = (sums-end _ _ _ (rw (c .before .before .before .records-of .ensures .0) at (c .loop-test .left)) (c .before .loop .inv .3), most-addable _ (c .before .loop .inv .0) (c .before .loop .inv .2))
@@ -78,6 +104,11 @@ sums-behind-spec =
     added-requires
     next-requires
     add-i
+    sub-room-for
+    room-for-requires
+    pass-quiet-requires
+    add-sums
+    add-i-2
     loop-less
     loop-again
     returns-2)
