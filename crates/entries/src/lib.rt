@@ -11,7 +11,7 @@ ghost use Rattle.rules.specs.Permitted.{size};
 ghost use Rattle.measures.specs.Walks.{Small};
 ghost use Rattle.entries.specs.Entries.{slotOf, recordsFor, countAt, loopsAt, slotsOf};
 ghost use Rattle.entries.specs.Loops.{measureOf, slotMeasure, loopMeasureIn};
-ghost use Rattle.entries.specs.Keeping.{Kept};
+ghost use Rattle.entries.specs.Keeping.{Kept, SoundLayer};
 
 // ---- slots
 
@@ -75,14 +75,15 @@ pub fn area_slots(file: &[u8], a: usize) -> usize
 
 // ---- measures
 
-// Measures the first lines of a layer, as many as there is room for, and says how many.
+// Measures the first lines of a layer, as many as there is room for, and says how many. It reads their
+// coordinates without a test, so they have to be well formed.
 pub fn keep_measures(file: &[u8], table: &[u32], l: Layer, kept: &mut [i64]) -> usize
-    ensures { λ r. ⌜ (r ≤ length (now (kept .exit))) × (length (now (kept .exit)) ≡ length (now (kept .entry))) × Kept (now (file .entry)) (now (table .entry)) l (take r (now (kept .exit))) ⌝ }
+    ensures { λ r. ⌜ (r ≤ length (now (kept .exit))) × (length (now (kept .exit)) ≡ length (now (kept .entry))) × (SoundLayer (now (file .entry)) (now (table .entry)) l → Kept (now (file .entry)) (now (table .entry)) l (take r (now (kept .exit)))) ⌝ }
 {
     let n = l.lines as usize;
     let mut i: usize = 0;
     while (i < n) & (i < kept.len()) {
-        kept[i] = measures::line_measure(file, layers::line_word(table, l, i));
+        kept[i] = measures::sound_measure(file, layers::line_word(table, l, i));
         i += 1;
     }
     i

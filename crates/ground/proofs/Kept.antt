@@ -1,31 +1,29 @@
 -- What a file that keeps stages 2, 4, 5 and 6 says of each line and each area of a layer: of rules that are fine every one holds, and the
 -- walk meets each L, each A and each loop record that the table and the counts tell of, in its layer. Assumes nothing.
-use mathlib.Core.Bool.{Bool, true, false, _&&_, _||_, not, false≢true}
+use mathlib.Core.Bool.{Bool, true, false, _||_, not, false≢true}
 use mathlib.Core.List.{List}
 use mathlib.Core.Path.{_≡_, refl, _∙_, ap, subst}
 use Prim.Native.Nat.{ℕ, suc, _+_, _*_, _-_, _/_, _%_, _≤_, _<_}
 use native.Mathlib.Numerals.{add-one}
 use native.Mathlib.Omega.{arith}
-use lib.Dec.{eqb, leb}
+use lib.Dec.{eqb}
 use lib.IntN.{ℤ, pos, negsuc}
 use lib.ListN.{getD}
-use borrow.Author.Tests.{leb-true, eqb-true}
+use borrow.Author.Tests.{eqb-true}
 use Rattle.records.specs.View.{recordOf, numberIn}
 use Rattle.records.specs.Layout.{layoutOf}
 use Rattle.verdict.specs.declared.Verdict.the-variants.{Fine}
 use Rattle.verdict.specs.Rules.{firstBroken}
-use Rattle.verdict.proofs.Parts.{both-fine}
 use Rattle.verdict.proofs.Holding.{row-fine, Holding, all-hold, both-hold, slot-holds}
-use Rattle.verdict.proofs.Orders.{and-both}
 use Rattle.rules.specs.declared.Due.{Due}
 use Rattle.rules.specs.declared.Due.the-variants.{Mesh, Layer, Node, Line, Coordinates, Area, Loop}
-use Rattle.rules.specs.Permitted.{natural, size, within, is}
+use Rattle.rules.specs.Permitted.{size, within, is}
 use Rattle.rules.specs.Asks.{layerAsks, asksOf, askedOf}
 use Rattle.rules.specs.Checks.{formChecks, valueChecks, along, checksOf}
 use Rattle.walk.specs.States.{sizeIn, dueOf, stateAt, countsAt}
 use Rattle.walk.specs.Stages.{recordsOf, stageTwo}
 use Rattle.walk.specs.Table.{tableOf}
-use Rattle.walk.proofs.Judging.{rulesOf, ended}
+use Rattle.walk.proofs.Judging.{ended}
 use Rattle.layers.specs.declared.Layer as layers
 use Rattle.layers.specs.Naming.{layerIn, names, namesLine, lineOf, areaOf}
 use Rattle.layers.specs.Passing.{isLayer, layerAt, basesIn, layerOf}
@@ -37,6 +35,7 @@ use Rattle.entries.proofs.Owning.{inside, complete}
 use Rattle.loops.specs.Loops.{repeatsArea, rightArea, loopSlot, windChecks, firstRecord, areaRecord, loopChecks, areaChecks, sixth, stageFive}
 use Rattle.sides.specs.Sides.{lists, sideListed, listChecks, lineListChecks, seventh, stageSix}
 use Rattle.ground.specs.Layers.{leftOf, rightOf}
+use Rattle.ground.proofs.Soundness.{two-holds, within-most}
 
 -- ---- the stages
 
@@ -52,10 +51,6 @@ module _ (file : List ℕ) (p : Passed file) (k : ℕ) (l : k < recordsOf file) 
   abbrev here : layers.Layer
   here = layerAt file (tableOf file) (basesIn file) k
 
-  two-holds : Holding (checksOf d (recordOf file (k + 1)))
-  unfolding stageTwo
-  two-holds = rw (← e) (all-hold 2 (k + 1) _ (row-fine (rulesOf file) (recordsOf file) (both-fine _ _ (p .two) .0) k l))
-
   four-holds : Holding (linkChecks d file (tableOf file) here (stateAt file k .line) (k + 1))
   unfolding stageFour
   four-holds = rw (← e) (all-hold fifth (k + 1) _ (row-fine _ (recordsOf file) (p .four) k l))
@@ -69,12 +64,6 @@ module _ (file : List ℕ) (p : Passed file) (k : ℕ) (l : k < recordsOf file) 
   six-holds = rw (← e) (all-hold seventh (k + 1) _ (row-fine _ (recordsOf file) (p .six) k l))
 
 -- ---- a layer's counts
-
-within-most : (low high : ℕ) (v : ℤ) → within low high v ≡ true → size v ≤ high
-unfolding within
-within-most low high v h =
-    let b = and-both (natural v) (leb low (size v) && leb (size v) high) h in
-    leb-true _ _ (and-both (leb low (size v)) (leb (size v) high) (b .1) .1)
 
 -- the check on columns 10-14 of an H
 head-lines : (last : ℕ) (t : List ℕ) → Holding (checksOf (Layer last) t) → sizeIn t 10 5 ≤ 9999
@@ -97,7 +86,7 @@ lines-limit file p i l =
     let k = q .0 in
     let r = q .1 in
     let d = an-h (dueOf (stateAt file k)) (r .due) in
-    let h : sizeIn (recordOf file (k + 1)) 10 5 ≤ 9999 = head-lines (d .0) (recordOf file (k + 1)) (two-holds file p k (r .within) (d .1)) in
+    let h : sizeIn (recordOf file (k + 1)) 10 5 ≤ 9999 = head-lines (d .0) (recordOf file (k + 1)) (two-holds file (p .two) k (r .within) (d .1)) in
     rw (r .lines) (rw add-one at h)
 
 -- ---- a line

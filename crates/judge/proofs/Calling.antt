@@ -34,6 +34,7 @@ use Rattle.loops.specs.Loops.{stageFive}
 use Rattle.sides.specs.Sides.{stageSix}
 use Rattle.ground.specs.Layers.{areasSum, outsideSum}
 use Rattle.ground.proofs.Kept.{Passed, lines-limit}
+use Rattle.ground.proofs.Soundness.{table-sound}
 use Rattle.ground.proofs.Limits.{area-small, areas-small, outside-small}
 use Rattle.judge.specs.declared.Outcome.{Outcome}
 use Rattle.judge.specs.declared.Sums.{Sums}
@@ -162,6 +163,7 @@ module _ (file : List ℕ) (room : ℕ) {t : Tabled} (e : t ≡ judgedOf file ro
     summable i m =
         let j : i < countsAt file (recordsOf file) .layers = rw judged-counts at m in
         record {
+          sound = table-sound file (judged-passed .two) .layers i j;
           lines = lines-limit file judged-passed i j;
           each = λ a o n. record { fits = area-small file judged-passed i j a o n };
           areas = areas-small file judged-passed i j;

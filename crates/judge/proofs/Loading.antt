@@ -30,9 +30,11 @@ use Rattle.layers.specs.Passing.{basesOf, basesIn}
 use Rattle.links.specs.Links.{stageFour}
 use Rattle.links.proofs.InOrder.{four-numbered}
 use Rattle.loops.specs.Loops.{stageFive}
+use Rattle.loops.specs.Scanning.{SoundTable}
 use Rattle.loops.proofs.InOrder.{five-numbered}
 use Rattle.sides.specs.Sides.{stageSix}
 use Rattle.sides.proofs.InOrder.{six-numbered}
+use Rattle.ground.proofs.Soundness.{table-sound}
 use Rattle.judge.specs.Rulebook.{late, rulesOf}
 use Rattle.judge.specs.Outcomes.{judgedOf, tableBy, tableJudged}
 
@@ -74,10 +76,10 @@ module _ (file : List ℕ) {t : List ℕ} {c : Counts} {b : Bases} (f : t ≡ ta
       unfolding late
       fourth-broken r = goes-on (stageThree file) _ q e (stands (stageFour file (tableOf file) (basesIn file)) _ r four-is)
 
-      -- stage 5 answers w
-      module _ (r : v ≡ Fine) {w : Verdict} (j : w ≡ firstBroken (stageFive file t b)) where
+      -- stage 5 answers w, of a file that keeps stage 2
+      module _ (r : v ≡ Fine) (two : firstBroken (stageTwo file) ≡ Fine) {w : Verdict} (j : SoundTable file t b → w ≡ firstBroken (stageFive file t b)) where
         five-is : w ≡ firstBroken (stageFive file (tableOf file) (basesIn file))
-        five-is = rw (← f, ← bases-are) j
+        five-is = rw (← f, ← bases-are) (j (rw (f, bases-are) (table-sound file two)))
 
         pub fifth-broken : {x y z : ℕ} → w ≡ Broken x y z → w ≡ firstBroken (late file)
         unfolding late
@@ -132,11 +134,14 @@ module _ (file : List ℕ) (room : ℕ) {t : Tabled} (e : t ≡ tabledOf file ro
     unfolding early
     kept = walked-verdict file ∙ both-fine (stageOne file ++ stageTwo file) (roomRule file room) (sym tabled ∙ q) .0
 
+    pub two-kept : firstBroken (stageTwo file) ≡ Fine
+    two-kept = walked-fine file kept .1
+
     pub all-counts : t .counts ≡ countsAt file (recordsOf file)
     all-counts = counted ∙ walked-fine file kept .2
 
     table-words : length (tableOf file) ≡ t .counts .words
-    table-words = table-length file ∙ sym (words-counted file (recordsOf file) (ended file (walked-fine file kept .1))) ∙ sym (ap (λ (c : Counts). c .words) all-counts)
+    table-words = table-length file ∙ sym (words-counted file (recordsOf file) (ended file two-kept)) ∙ sym (ap (λ (c : Counts). c .words) all-counts)
 
     pub words-fit : (words after : List ℕ) → after ≡ filledBy (firstBroken (early file room)) file words → t .counts .words ≤ length after
     words-fit words after h =

@@ -11,6 +11,7 @@ use Rattle.layers.specs.declared.Layer.{Layer}
 use Rattle.layers.specs.Naming.{wordsBefore, layerIn, areaOf}
 use Rattle.entries.specs.Entries.{loopsAt, loopsTo}
 use Rattle.entries.specs.Loops.{measureOf}
+use Rattle.entries.specs.Keeping.{SoundLayer}
 use Rattle.ground.specs.Layers.{areaOfLayer, leftOf, rightOf, measuresTo}
 
 -- a sum that the machine can hold
@@ -25,8 +26,9 @@ pub record Measurable (file t : List ℕ) (l : Layer) (a : ℕ) : Type 0 where
 unfoldable pub outsideAt : List ℕ → List ℕ → Layer → ℕ → ℤ
 outsideAt file t l n = outside (leftOf file t l n) (rightOf file t l n) (measureOf file t l n)
 
--- the layer's areas and lines, added up one by one
+-- the layer's areas and lines, added up one by one; the lines are well formed
 pub record Summable (file t : List ℕ) (l : Layer) : Type 0 where
+  pub sound : SoundLayer file t l
   pub lines : l .lines ≤ 9999
   pub each : (a : ℕ) → 0 < a → a ≤ l .areas → Measurable file t l (areaOf t l (pos a))
   pub areas : (j : ℕ) → j ≤ l .areas → Fits (sumTo j (areaOfLayer file t l))

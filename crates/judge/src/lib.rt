@@ -17,7 +17,7 @@ ghost use lib.Seq.{sets};
 ghost use Rattle.verdict.specs.declared.Verdict.the-variants.{Fine};
 ghost use Rattle.verdict.specs.Rules.{firstBroken};
 ghost use Rattle.walk.specs.States.{countsAt, Countable};
-ghost use Rattle.walk.specs.Stages.{recordsOf};
+ghost use Rattle.walk.specs.Stages.{recordsOf, stageTwo};
 ghost use Rattle.walk.specs.Table.{tableOf};
 ghost use Rattle.layers.specs.Passing.{basesOf};
 ghost use Rattle.measures.specs.Points.{firstOf};
@@ -72,7 +72,7 @@ fn bases_of(c: Counts) -> Bases
 
 // Stages 3 to 6 of a file that keeps the rules up to refusal 9; `table` is its table.
 fn judge_late(file: &[u8], table: &[u32], c: Counts) -> Verdict
-    requires { ⌜ (now table ≡ tableOf (now file)) × (c ≡ countsAt (now file) (recordsOf (now file))) ⌝ }
+    requires { ⌜ (now table ≡ tableOf (now file)) × (c ≡ countsAt (now file) (recordsOf (now file))) × (firstBroken (stageTwo (now file)) ≡ Fine) ⌝ }
     ensures { λ r. ⌜ r ≡ firstBroken (late (now (file .entry))) ⌝ }
 {
     let b = bases_of(c);

@@ -1,7 +1,7 @@
 -- Stage 5 as the code judges it, record by record; and what is kept and known behind a record. Assumes nothing.
 use mathlib.Core.Bool.{Bool, true, false, cond, false≢true}
 use mathlib.Core.List.{List}
-use mathlib.Core.Path.{_≡_, refl, sym}
+use mathlib.Core.Path.{_≡_, refl, sym, _∙_}
 use Prim.Native.Nat.{ℕ, zero, suc, _+_, _-_, _≤_, _<_}
 use native.Mathlib.Omega.{arith}
 use lib.IntN.{ℤ}
@@ -9,18 +9,22 @@ use lib.ListN.{length, take, getD}
 use Rattle.verdict.specs.declared.Verdict.{Verdict}
 use Rattle.verdict.specs.declared.Verdict.the-variants.{Fine, Broken}
 use Rattle.verdict.specs.Rules.{Rule, firstBroken, block, rows}
-use Rattle.verdict.proofs.Parts.{rows-stop, rows-done}
+use Rattle.verdict.proofs.Parts.{check-none, rows-stop, rows-done}
 use Rattle.rules.specs.declared.Due.{Due}
 use Rattle.rules.specs.declared.Due.the-variants as due
 use Rattle.walk.specs.declared.State.{State}
-use Rattle.walk.specs.States.{dueOf, nextFor, nextOf, stateAt}
+use Rattle.walk.specs.States.{dueOf, nextFor, nextOf, stateAt, countsAt}
 use Rattle.walk.specs.Stages.{recordsOf}
+use Rattle.walk.specs.Quiet.{isQuiet, Quiet}
+use Rattle.walk.proofs.Dues.{grown}
+use Rattle.walk.proofs.Passing.{by-quiet, passed-rows}
 use Rattle.layers.specs.declared.Bases.{Bases}
 use Rattle.layers.specs.declared.Layer.{Layer}
 use Rattle.layers.specs.Passing.{isLayer, layerAt}
-use Rattle.entries.specs.Keeping.{Kept}
+use Rattle.layers.proofs.Passing.{counts-step}
+use Rattle.entries.specs.Keeping.{Kept, SoundLayer}
 use Rattle.loops.specs.Loops.{areaRecord, areaChecks, sixth, stageFive}
-use Rattle.loops.specs.Scanning.{Unrepeated, KeptBehind, KnownBehind}
+use Rattle.loops.specs.Scanning.{Unrepeated, KeptBehind, SoundTable, KnownBehind}
 use Rattle.loops.proofs.Repeats.{unrepeated-none}
 
 -- ---- line measures
@@ -35,7 +39,7 @@ module _ (file t : List ℕ) (l : Layer) (have : ℕ) (ms : List ℤ) where
   }
 
   -- behind an H there are n, ns, of its layer
-  pub kept-anew : {n : ℕ} {ns : List ℤ} → (n ≤ length ns) × (length ns ≡ length ms) × Kept file t l (take n ns) → KeptBehind true file t l have ms n ns
+  pub kept-anew : {n : ℕ} {ns : List ℤ} → (n ≤ length ns) × (length ns ≡ length ms) × (SoundLayer file t l → Kept file t l (take n ns)) → KeptBehind true file t l have ms n ns
   kept-anew h = record {
     room = h .0;
     new = λ e. h .2;
@@ -43,11 +47,20 @@ module _ (file t : List ℕ) (l : Layer) (have : ℕ) (ms : List ℤ) where
   }
 
 -- they are those of the next record's layer, x
-pub kept-next : (file t : List ℕ) (b : Bool) (l y : Layer) {x : Layer} {have n : ℕ} {ms ns : List ℤ} → KeptBehind b file t x have ms n ns → x ≡ cond b y l → Kept file t l (take have ms) → Kept file t x (take n ns)
-kept-next file t true l y k e h = k .new refl
-kept-next file t false l y k e h =
+pub kept-next : (file t : List ℕ) (b : Bool) (l y : Layer) {x : Layer} {have n : ℕ} {ms ns : List ℤ} → KeptBehind b file t x have ms n ns → x ≡ cond b y l → (b ≡ true → SoundLayer file t x)
+    → Kept file t l (take have ms) → Kept file t x (take n ns)
+kept-next file t true l y k e s h = k .new refl (s refl)
+kept-next file t false l y k e s h =
     let p = k .old refl in
     rw (p .0, p .1, e) h
+
+-- the layer that begins with record k + 1, an H, is one of the file's
+pub layer-sound : (file t : List ℕ) (b : Bases) (k : ℕ) {n : ℕ} {s : State} {d : Due} {x : Layer} → n ≡ recordsOf file → k < n → s ≡ stateAt file k → d ≡ dueOf s → x ≡ layerAt file t b (k + 1)
+    → SoundTable file t b → isLayer d ≡ true → SoundLayer file t x
+unfolding layerAt
+layer-sound file t b k e l f g q h y =
+    let c : countsAt file (k + 1) .layers ≡ countsAt file k .layers + 1 = counts-step file k ∙ rw (← f, ← g, y) in
+    rw q (h .layers (countsAt file (k + 1) .layers - 1) (omega (arith, c, grown file (recordsOf file) (k + 1) (omega (arith, e)) .layers)))
 
 -- ---- slots that repeat none
 
@@ -88,10 +101,18 @@ areasOf file t b k = block sixth (k + 1) (areaChecks (dueOf (stateAt file k)) fi
 abbrev pub Passed : List ℕ → List ℕ → Bases → ℕ → Type 0
 Passed file t b k = firstBroken (rows k (areasOf file t b)) ≡ Fine
 
+-- nothing is asked of a quiet record
+quiet-fine : (file t : List ℕ) (l : Layer) (area r : ℕ) (d : Due) → isQuiet d ≡ true → firstBroken (block sixth r (areaChecks d file t l area r)) ≡ Fine
+quiet-fine file t l area r = by-quiet (λ d. firstBroken (block sixth r (areaChecks d file t l area r)) ≡ Fine) (λ layer last. sym (check-none sixth r)) (λ left. sym (check-none sixth r))
+
 module _ (file t : List ℕ) (b : Bases) where
   pub rule-is : (k : ℕ) {s : State} {d : Due} {l : Layer} {v : Verdict} → s ≡ stateAt file k → d ≡ dueOf s → l ≡ layerAt file t b k
       → v ≡ firstBroken (block sixth (k + 1) (areaChecks d file t l (s .area) (k + 1))) → v ≡ firstBroken (areasOf file t b k)
   rule-is k e f g h = rw (← e, ← f, ← g) h
+
+  -- h quiet records are passed behind the first k: their rules are kept too
+  pub five-passes : (k : ℕ) {h : ℕ} {s : State} → s ≡ stateAt file k → Quiet s h → Passed file t b k → Passed file t b (k + h)
+  five-passes k e q = passed-rows file k e q (areasOf file t b) (λ i. quiet-fine file t (layerAt file t b i) (stateAt file i .area) (i + 1) (dueOf (stateAt file i)))
 
   module _ {n : ℕ} (e : n ≡ recordsOf file) where
     pub five-stops : (k : ℕ) {v : Verdict} {x y z : ℕ} → v ≡ Broken x y z → v ≡ firstBroken (areasOf file t b k) → Passed file t b k → k < n → v ≡ firstBroken (stageFive file t b)

@@ -10,8 +10,12 @@ use lib.ListN.{getD, take}
 use Rattle.rules.specs.Permitted.{natural, size}
 use Rattle.rules.specs.declared.Due.{Due}
 use Rattle.rules.specs.declared.Due.the-variants as due
+use Rattle.walk.specs.States.{countsAt}
+use Rattle.walk.specs.Stages.{recordsOf}
+use Rattle.layers.specs.declared.Bases.{Bases}
 use Rattle.layers.specs.declared.Layer.{Layer}
-use Rattle.entries.specs.Keeping.{Kept}
+use Rattle.layers.specs.Naming.{layerIn}
+use Rattle.entries.specs.Keeping.{Kept, SoundLayer}
 use Rattle.links.specs.Links.{isZero, loopEntry}
 use Rattle.entries.specs.Entries.{slotOf}
 use Rattle.loops.specs.Loops.{repeatsArea, areaRecord}
@@ -43,8 +47,12 @@ pub record Marking (before : List ℕ) (v : ℤ) (a : ℕ) (r : Bool) (after : L
 -- what is kept behind a record: another layer's line measures behind an H, else what was
 pub record KeptBehind (another : Bool) (file t : List ℕ) (l : Layer) (have : ℕ) (before : List ℤ) (r : ℕ) (after : List ℤ) : Type 0 where
   pub room : r ≤ ListN.length after
-  pub new : another ≡ true → Kept file t l (take r after)
+  pub new : another ≡ true → SoundLayer file t l → Kept file t l (take r after)
   pub old : another ≡ false → (r ≡ have) × (after ≡ before)
+
+-- the lines of the file's layers, where the table t says that they stand, are known to be well formed
+pub record SoundTable (file t : List ℕ) (b : Bases) : Type 0 where
+  pub layers : (i : ℕ) → i < countsAt file (recordsOf file) .layers → SoundLayer file t (layerIn t b i)
 
 -- what is known behind a record: of the next area behind an A, of the same one behind a loop record
 abbrev pub KnownBehind : Due → List ℕ → List ℕ → Layer → ℕ → ℕ → Type 0

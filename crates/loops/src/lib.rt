@@ -18,7 +18,7 @@ ghost use Rattle.layers.specs.Passing.{isLayer};
 ghost use Rattle.links.specs.Links.{isZero, loopEntry};
 ghost use Rattle.entries.specs.Keeping.{Kept};
 ghost use Rattle.loops.specs.Loops.{lastNode, entryBefore, joins, rightArea, loopSlot, winds, windChecks, firstRecord, areaRecord, loopChecks, areaChecks, sixth, stageFive};
-ghost use Rattle.loops.specs.Scanning.{clean, FirstRepeat, markOf, Unrepeated, Marking, KeptBehind, KnownBehind};
+ghost use Rattle.loops.specs.Scanning.{clean, FirstRepeat, markOf, Unrepeated, Marking, KeptBehind, SoundTable, KnownBehind};
 
 // ---- numbers
 
@@ -281,8 +281,8 @@ fn judge_winding(
     left: usize,
     r: usize,
 ) -> Verdict
-    requires { ⌜ (r ≤ 6399936) × Kept (now file) (now table) l (now kept) ⌝ }
-    ensures { λ x. ⌜ x ≡ firstBroken (block sixth r (windChecks (now (file .entry)) (now (table .entry)) l r left)) ⌝ }
+    requires { ⌜ r ≤ 6399936 ⌝ }
+    ensures { λ x. ⌜ (Kept (now (file .entry)) (now (table .entry)) l (now (kept .entry)) → x ≡ firstBroken (block sixth r (windChecks (now (file .entry)) (now (table .entry)) l r left))) ⌝ }
 {
     if 0 < left {
         return Verdict::Fine;
@@ -328,8 +328,8 @@ fn judge_loop(
     left: usize,
     r: usize,
 ) -> Verdict
-    requires { ⌜ (r ≤ 6399936) × Kept (now file) (now table) l (now kept) × Unrepeated (now file) (areaRecord (now table) l area) known ⌝ }
-    ensures { λ x. ⌜ x ≡ firstBroken (block sixth r (loopChecks (now (file .entry)) (now (table .entry)) l area count left r)) ⌝ }
+    requires { ⌜ (r ≤ 6399936) × Unrepeated (now file) (areaRecord (now table) l area) known ⌝ }
+    ensures { λ x. ⌜ (Kept (now (file .entry)) (now (table .entry)) l (now (kept .entry)) → x ≡ firstBroken (block sixth r (loopChecks (now (file .entry)) (now (table .entry)) l area count left r))) ⌝ }
 {
     let v = judge_winding(file, table, l, kept, left, r);
     if let Verdict::Broken {
@@ -357,8 +357,8 @@ fn judge_record(
     known: usize,
     r: usize,
 ) -> Verdict
-    requires { ⌜ (r ≤ 6399936) × Kept (now file) (now table) l (now kept) × Unrepeated (now file) (areaRecord (now table) l area) known ⌝ }
-    ensures { λ x. ⌜ x ≡ firstBroken (block sixth r (areaChecks d (now (file .entry)) (now (table .entry)) l area r)) ⌝ }
+    requires { ⌜ (r ≤ 6399936) × Unrepeated (now file) (areaRecord (now table) l area) known ⌝ }
+    ensures { λ x. ⌜ (Kept (now (file .entry)) (now (table .entry)) l (now (kept .entry)) → x ≡ firstBroken (block sixth r (areaChecks d (now (file .entry)) (now (table .entry)) l area r))) ⌝ }
 {
     match d {
         Due::Mesh(_) => Verdict::Fine,
@@ -415,9 +415,10 @@ fn known_behind(
     }
 }
 
-// Stage 5: every loop record.
+// Stage 5: every loop record. Lines are measured without a test of a coordinate, so these have to be well
+// formed.
 pub fn stage_five(file: &[u8], table: &[u32], b: Bases) -> Verdict
-    ensures { λ r. ⌜ r ≡ firstBroken (stageFive (now (file .entry)) (now (table .entry)) b) ⌝ }
+    ensures { λ r. ⌜ (SoundTable (now (file .entry)) (now (table .entry)) b → r ≡ firstBroken (stageFive (now (file .entry)) (now (table .entry)) b)) ⌝ }
 {
     let n = walk::records_of(file);
     let mut kept = [0i64; 9999];
@@ -444,6 +445,9 @@ pub fn stage_five(file: &[u8], table: &[u32], b: Bases) -> Verdict
         have = kept_behind(d, file, table, l, have, &mut kept);
         s = walk::next(s, records::record_view(file, k + 1));
         k += 1;
+        let p = walk::pass_quiet(s, n - k);
+        s = p.state;
+        k += p.records;
     }
     Verdict::Fine
 }

@@ -44,7 +44,8 @@ fill-layer-requires c κs =
     let l = c .before .before .before .before .before .before .before .loop in
     let h = c .before .before .before .before .before .before .loop-test .taken in
     let e = c .before .before .before .before .before .layer-in .ensures in
-    (room _ _ _ _ _ _ (s .pre) (l .inv .2) (l .inv .3) h e, c .before .before .before .keep-measures .ensures .2, layer-summable _ _ _ _ _ _ (s .pre) (l .inv .2) (l .inv .3) h e)
+    let u = layer-summable _ _ _ _ _ _ (s .pre) (l .inv .2) (l .inv .3) h e in
+    (room _ _ _ _ _ _ (s .pre) (l .inv .2) (l .inv .3) h e, c .before .before .before .keep-measures .ensures .2 (u .sound), u)
 
 cast-at : tie.Need-cast-at Inv-loop μ-loop
 cast-at c = search needs

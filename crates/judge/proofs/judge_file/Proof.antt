@@ -1,7 +1,7 @@
 -- `judge::judge_file` meets its contract: a refusal up to 9 stands, and behind none of them the later stages speak. Assumes nothing.
 use mathlib.Core.Path.{refl, sym}
 use lib.Seq.{length-take-le}
-use Rattle.judge.proofs.Loading.{early-judged, early-table, all-counts, words-fit, words-are, late-judged, late-table}
+use Rattle.judge.proofs.Loading.{early-judged, early-table, two-kept, all-counts, words-fit, words-are, late-judged, late-table}
 use borrow.Author.Needs.{needs}
 use Rattle.judge.proofs.judge_file.Statement.{statement}
 use Rattle.judge.proofs.judge_file.Tie as tie
@@ -28,7 +28,7 @@ slice-aggregate-judge-late : tie.Need-slice-aggregate-judge-late
 slice-aggregate-judge-late c = sym (length-take-le _ _ (words-fit _ _ (c .before .before .before .before .before .before .fill-table .ensures .0) (c .before .before .enum-told2 .given .1) _ _ (c .before .before .before .before .before .before .fill-table .ensures .1)))
 
 judge-late-requires : tie.Need-judge-late-requires
-judge-late-requires c κs = (words-are _ _ (c .before .before .before .before .before .before .fill-table .ensures .0) (c .before .before .enum-told2 .given .1) _ _ (c .before .before .before .before .before .before .fill-table .ensures .1), all-counts _ _ (c .before .before .before .before .before .before .fill-table .ensures .0) (c .before .before .enum-told2 .given .1))
+judge-late-requires c κs = (words-are _ _ (c .before .before .before .before .before .before .fill-table .ensures .0) (c .before .before .enum-told2 .given .1) _ _ (c .before .before .before .before .before .before .fill-table .ensures .1), all-counts _ _ (c .before .before .before .before .before .before .fill-table .ensures .0) (c .before .before .enum-told2 .given .1), two-kept _ _ (c .before .before .before .before .before .before .fill-table .ensures .0) (c .before .before .enum-told2 .given .1))
 
 same-length-2 : tie.Need-same-length-2
 same-length-2 c = search needs

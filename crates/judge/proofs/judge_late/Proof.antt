@@ -39,7 +39,7 @@ enum-told-5 : tie.Need-enum-told-5
 enum-told-5 c = search needs
 
 returns-3 : tie.Need-returns-3
-returns-3 c = fifth-broken _ (c .before .before .before .before .before .before .before .before .before .before .before .before .pre .0) (c .before .before .before .before .before .before .before .before .before .before .before .before .pre .1) (c .before .before .before .before .before .before .before .before .before .bases-of .ensures) (c .before .before .before .before .before .before .before .before .stage-three .ensures) (c .before .before .before .before .before .before .enum-told2 .given .1) (c .before .before .before .before .before .stage-four .ensures) (c .before .before .before .enum-told4 .given .1) (c .before .before .stage-five .ensures) (c .enum-told5 .given .1)
+returns-3 c = fifth-broken _ (c .before .before .before .before .before .before .before .before .before .before .before .before .pre .0) (c .before .before .before .before .before .before .before .before .before .before .before .before .pre .1) (c .before .before .before .before .before .before .before .before .before .bases-of .ensures) (c .before .before .before .before .before .before .before .before .stage-three .ensures) (c .before .before .before .before .before .before .enum-told2 .given .1) (c .before .before .before .before .before .stage-four .ensures) (c .before .before .before .enum-told4 .given .1) (c .before .before .before .before .before .before .before .before .before .before .before .before .pre .2) (c .before .before .stage-five .ensures) (c .enum-told5 .given .1)
 
 enum-told-6 : tie.Need-enum-told-6
 enum-told-6 c = search needs
@@ -48,7 +48,7 @@ stage-six-requires : tie.Need-stage-six-requires
 stage-six-requires c κs = search needs
 
 returns-4 : tie.Need-returns-4
-returns-4 c = sixth-speaks _ (c .before .before .before .before .before .before .before .before .before .before .before .before .before .pre .0) (c .before .before .before .before .before .before .before .before .before .before .before .before .before .pre .1) (c .before .before .before .before .before .before .before .before .before .before .bases-of .ensures) (c .before .before .before .before .before .before .before .before .before .stage-three .ensures) (c .before .before .before .before .before .before .before .enum-told2 .given .1) (c .before .before .before .before .before .before .stage-four .ensures) (c .before .before .before .before .enum-told4 .given .1) (c .before .before .before .stage-five .ensures) (c .before .enum-told6 .given .1) (c .stage-six .ensures)
+returns-4 c = sixth-speaks _ (c .before .before .before .before .before .before .before .before .before .before .before .before .before .pre .0) (c .before .before .before .before .before .before .before .before .before .before .before .before .before .pre .1) (c .before .before .before .before .before .before .before .before .before .before .bases-of .ensures) (c .before .before .before .before .before .before .before .before .before .stage-three .ensures) (c .before .before .before .before .before .before .before .enum-told2 .given .1) (c .before .before .before .before .before .before .stage-four .ensures) (c .before .before .before .before .enum-told4 .given .1) (c .before .before .before .before .before .before .before .before .before .before .before .before .before .pre .2) (c .before .before .before .stage-five .ensures) (c .before .enum-told6 .given .1) (c .stage-six .ensures)
 
 pub judge-late-spec : {M : Type 1} → statement M
 judge-late-spec =

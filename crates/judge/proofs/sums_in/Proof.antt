@@ -22,10 +22,14 @@ slice-aggregate-kept : tie.Need-slice-aggregate-kept
 slice-aggregate-kept c = sym (length-take-le _ _ (c .before .before .keep-measures .ensures .0))
 
 areas-sum-requires : tie.Need-areas-sum-requires
-areas-sum-requires c κs = search needs
+areas-sum-requires c κs =
+    let u = c .before .before .before .before .before .before .pre in
+    (c .before .before .keep-measures .ensures .2 (u .sound), u)
 
 outside-sum-requires : tie.Need-outside-sum-requires
-outside-sum-requires c κs = search needs
+outside-sum-requires c κs =
+    let u = c .before .before .before .before .before .before .before .pre in
+    (c .before .before .before .keep-measures .ensures .2 (u .sound), u)
 
 returns : tie.Need-returns
 returns c = ap₂ (sumsWith Fine) (toZ-ofZ {w = w64} (record { sfits = c .before .areas-sum .ok }) ∙ c .before .areas-sum .ensures) (toZ-ofZ {w = w64} (record { sfits = c .outside-sum .ok }) ∙ c .outside-sum .ensures)

@@ -11,7 +11,7 @@ enum-told : tie.Need-enum-told
 enum-told c = search needs
 
 returns : tie.Need-returns
-returns c = loop-stops _ _ _ _ _ _ _ (c .before .before .judge-winding .ensures) (c .enum-told .given .1)
+returns c = λ h. loop-stops _ _ _ _ _ _ _ (c .before .before .judge-winding .ensures h) (c .enum-told .given .1)
 
 enum-told-2 : tie.Need-enum-told-2
 enum-told-2 c = search needs
@@ -20,7 +20,7 @@ area-record-requires : tie.Need-area-record-requires
 area-record-requires c κs = search needs
 
 repeat-in-requires : tie.Need-repeat-in-requires
-repeat-in-requires c κs = (c .area-record .ensures .1, c .before .before .before .before .before .before .pre .0, rw (c .area-record .ensures .0) (c .before .before .before .before .before .before .pre .2))
+repeat-in-requires c κs = (c .area-record .ensures .1, c .before .before .before .before .before .before .pre .0, rw (c .area-record .ensures .0) (c .before .before .before .before .before .before .pre .1))
 
 first-record-requires : tie.Need-first-record-requires
 first-record-requires c κs = search needs
@@ -33,7 +33,7 @@ returns-2 c =
     let a = c .before .before .before in
     let e = a .before in
     let v = e .before .before in
-    loop-passes _ _ _ _ _ _ _ (v .judge-winding .ensures) (e .enum-told2 .given .1) (a .area-record .ensures .0) (c .before .first-record .ensures) (c .judge-slots .ensures)
+    λ h. loop-passes _ _ _ _ _ _ _ (v .judge-winding .ensures h) (e .enum-told2 .given .1) (a .area-record .ensures .0) (c .before .first-record .ensures) (c .judge-slots .ensures)
 
 pub judge-loop-spec : {M : Type 1} → statement M
 judge-loop-spec =

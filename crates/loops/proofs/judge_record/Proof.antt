@@ -30,25 +30,25 @@ judge-loop-requires : tie.Need-judge-loop-requires
 judge-loop-requires c κs = search needs
 
 returns : tie.Need-returns
-returns c = rw (c .enum-told .given .1) (check-none sixth _)
+returns c = λ h. rw (c .enum-told .given .1) (check-none sixth _)
 
 returns-2 : tie.Need-returns-2
-returns-2 c = rw (c .enum-told2 .given .1) (check-none sixth _)
+returns-2 c = λ h. rw (c .enum-told2 .given .1) (check-none sixth _)
 
 returns-3 : tie.Need-returns-3
-returns-3 c = rw (c .enum-told3 .given .1) (check-none sixth _)
+returns-3 c = λ h. rw (c .enum-told3 .given .1) (check-none sixth _)
 
 returns-4 : tie.Need-returns-4
-returns-4 c = rw (c .enum-told4 .given .1) (check-none sixth _)
+returns-4 c = λ h. rw (c .enum-told4 .given .1) (check-none sixth _)
 
 returns-5 : tie.Need-returns-5
-returns-5 c = rw (c .enum-told5 .given .1) (check-none sixth _)
+returns-5 c = λ h. rw (c .enum-told5 .given .1) (check-none sixth _)
 
 returns-6 : tie.Need-returns-6
-returns-6 c = rw (c .enum-told6 .given .1) (check-none sixth _)
+returns-6 c = λ h. rw (c .enum-told6 .given .1) (check-none sixth _)
 
 returns-7 : tie.Need-returns-7
-returns-7 c = rw (c .before .before .d .given .1) (c .judge-loop .ensures)
+returns-7 c = λ h. rw (c .before .before .d .given .1) (c .judge-loop .ensures h)
 
 pub judge-record-spec : {M : Type 1} → statement M
 judge-record-spec =

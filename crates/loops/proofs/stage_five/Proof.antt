@@ -1,8 +1,9 @@
--- `loops::stage_five` meets its contract: the loop leaves at the first broken rule, and carries the next record's layer with what is
--- kept of its lines and known of its area. Assumes nothing.
+-- `loops::stage_five` meets its contract: the loop leaves at the first broken rule, passes quiet records, and carries the next record's
+-- layer with what is kept of its lines and known of its area. Assumes nothing.
 use mathlib.Core.List.{[]}
 use mathlib.Core.Path.{_≡_, sym, _∙_}
 use Prim.Native.Nat.{_-_, _≤_}
+use native.Mathlib.Nat.{le-refl}
 use native.Mathlib.Omega.{arith}
 use lib.ListN.{length, take}
 use lib.Seq.{length-take-le}
@@ -10,21 +11,22 @@ use borrow.Author.Needs.{needs}
 use Rattle.verdict.proofs.Parts.{rows-none, rows-pass}
 use Rattle.walk.specs.States.{stateAt, countsAt}
 use Rattle.walk.proofs.Walking.{at-none, next-state}
+use Rattle.walk.proofs.Passing.{passed-state}
 use Rattle.layers.specs.Passing.{layerAt}
-use Rattle.layers.proofs.Passing.{rows-start, rows-more, rows-small, layer-start, layer-next}
+use Rattle.layers.proofs.Passing.{rows-start, rows-more, rows-small, layer-start, layer-next, rows-passed, layer-passed}
 use Rattle.entries.specs.Keeping.{Kept}
 use Rattle.entries.proofs.Summing.{kept-none}
 use Rattle.loops.specs.Loops.{areaRecord}
-use Rattle.loops.specs.Scanning.{Unrepeated}
+use Rattle.loops.specs.Scanning.{Unrepeated, SoundTable}
 use Rattle.loops.proofs.Repeats.{unrepeated-none}
-use Rattle.loops.proofs.StageLaws.{Passed, rule-is, five-stops, five-done, known-next, kept-next}
+use Rattle.loops.proofs.StageLaws.{Passed, rule-is, five-passes, five-stops, five-done, known-next, kept-next, layer-sound}
 use Rattle.loops.proofs.stage_five.Statement.{statement}
 use Rattle.loops.proofs.stage_five.Tie as tie
 
 abbrev Inv-loop : tie.InvT-loop
 Inv-loop file table b n kept₀ marks₀ have₀ known₀ s₀ rows₀ l₀ k₀ kept marks have known s rows l k =
-    (k ≤ n) × (s ≡ stateAt file k) × (rows ≡ countsAt file k .layers) × (l ≡ layerAt file table b k) × Passed file table b k
-    × (have ≤ 9999) × (length kept ≡ 9999) × (length marks ≡ 20000) × Kept file table l (take have kept) × Unrepeated file (areaRecord table l (s .area)) known
+    (k ≤ n) × (s ≡ stateAt file k) × (rows ≡ countsAt file k .layers) × (l ≡ layerAt file table b k) × (SoundTable file table b → Passed file table b k)
+    × (have ≤ 9999) × (length kept ≡ 9999) × (length marks ≡ 20000) × (SoundTable file table b → Kept file table l (take have kept)) × Unrepeated file (areaRecord table l (s .area)) known
 
 abbrev μ-loop : tie.MeasureT-loop
 μ-loop file table b n kept₀ marks₀ have₀ known₀ s₀ rows₀ l₀ k₀ kept marks have known s rows l k = n - k
@@ -39,7 +41,7 @@ layer-in-requires : tie.Need-layer-in-requires Inv-loop μ-loop
 layer-in-requires c κs = search needs
 
 loop-holds : tie.Need-loop-holds Inv-loop μ-loop
-loop-holds c = (search needs, c .before .at-start .ensures ∙ at-none _, rows-start _, layer-start _ _ _ (c .layer-in .ensures), rows-none _, search needs, search needs, search needs, kept-none _ _ _ [], unrepeated-none _ _)
+loop-holds c = (search needs, c .before .at-start .ensures ∙ at-none _, rows-start _, layer-start _ _ _ (c .layer-in .ensures), λ h. rows-none _, search needs, search needs, search needs, λ h. kept-none _ _ _ [], unrepeated-none _ _)
 
 due-requires : tie.Need-due-requires Inv-loop μ-loop
 due-requires c κs = search needs
@@ -54,7 +56,7 @@ add-judge-record : tie.Need-add-judge-record Inv-loop μ-loop
 add-judge-record c = search needs
 
 judge-record-requires : tie.Need-judge-record-requires Inv-loop μ-loop
-judge-record-requires c κs = (omega (arith, c .before .before .before .before .before .before .records-of .ensures .1, c .before .before .loop-test .taken), c .before .before .before .loop .inv .8, c .before .before .before .loop .inv .9)
+judge-record-requires c κs = (omega (arith, c .before .before .before .before .before .before .records-of .ensures .1, c .before .before .loop-test .taken), c .before .before .before .loop .inv .9)
 
 enum-told : tie.Need-enum-told Inv-loop μ-loop
 enum-told c = search needs
@@ -66,7 +68,7 @@ returns c =
     let t = d .before in
     let l = t .before in
     let n = l .before .before .before in
-    five-stops _ _ _ (n .records-of .ensures .0) _ (c .enum-told .given .1) (rule-is _ _ _ _ (l .loop .inv .1) (d .due .ensures) (l .loop .inv .3) (v .judge-record .ensures)) (l .loop .inv .4) (t .loop-test .taken)
+    λ w. five-stops _ _ _ (n .records-of .ensures .0) _ (c .enum-told .given .1) (rule-is _ _ _ _ (l .loop .inv .1) (d .due .ensures) (l .loop .inv .3) (v .judge-record .ensures (l .loop .inv .8 w))) (l .loop .inv .4 w) (t .loop-test .taken)
 
 enum-told-2 : tie.Need-enum-told-2 Inv-loop μ-loop
 enum-told-2 c = search needs
@@ -104,12 +106,27 @@ next-requires c κs = search needs
 add-k : tie.Need-add-k Inv-loop μ-loop
 add-k c = omega (arith, c .before .before .before .before .before .before .before .before .before .before .before .before .before .before .before .before .before .before .before .records-of .ensures .1, c .before .before .before .before .before .before .before .before .before .before .before .before .before .before .before .loop-test .taken)
 
+sub-pass-quiet : tie.Need-sub-pass-quiet Inv-loop μ-loop
+sub-pass-quiet c = omega (arith, c .before .before .before .before .before .before .before .before .before .before .before .before .before .before .before .loop-test .taken)
+
+pass-quiet-requires : tie.Need-pass-quiet-requires Inv-loop μ-loop
+pass-quiet-requires c κs = search needs
+
+add-k-2 : tie.Need-add-k-2 Inv-loop μ-loop
+add-k-2 c =
+    let p = c .before .before in
+    let t = p .before .before .before .before .before .before .before .before .before .before .before .before .before .before .before .before in
+    let n = t .before .before .before .before in
+    omega (arith, n .records-of .ensures .1, t .loop-test .taken, p .pass-quiet .ensures .0)
+
 loop-less : tie.Need-loop-less Inv-loop μ-loop
-loop-less c = omega (arith, c .before .before .before .before .before .before .before .before .before .before .before .before .before .before .before .loop-test .taken)
+loop-less c = omega (arith, c .before .before .before .before .before .before .before .before .before .before .before .before .before .before .before .before .before .before .loop-test .taken)
 
 loop-again : tie.Need-loop-again Inv-loop μ-loop
 loop-again c =
-    let h = c .before .before in
+    let p = c .before .before in
+    let x = p .before in
+    let h = x .before .before in
     let k = h .before in
     let b = k .before .before in
     let m = b .before in
@@ -120,23 +137,27 @@ loop-again c =
     let d = v .before .before in
     let t = d .before in
     let l = t .before in
-    let r = rows-more _ _ (l .loop .inv .1) (d .due .ensures) (m .rows-of .ensures) (l .loop .inv .2) in (
-      omega (arith, t .loop-test .taken),
-      next-state _ _ (l .loop .inv .1) (rw (← c .before .record-view .ensures) (c .next .ensures)),
-      r,
-      layer-next _ _ _ _ (l .loop .inv .1) (d .due .ensures) r (l .loop .inv .3) (b .layer-behind .ensures),
-      rows-pass _ _ (l .loop .inv .4) (rule-is _ _ _ _ (l .loop .inv .1) (d .due .ensures) (l .loop .inv .3) (v .judge-record .ensures)) (e .enum-told2 .given .1),
+    let n = l .before .before .before in
+    let q = p .pass-quiet .ensures .2 in
+    let s = next-state _ _ {u = x .next .result} (l .loop .inv .1) (rw (← x .before .record-view .ensures) (x .next .ensures)) in
+    let r = rows-more _ _ (l .loop .inv .1) (d .due .ensures) (m .rows-of .ensures) (l .loop .inv .2) in
+    let g = layer-next _ _ _ _ (l .loop .inv .1) (d .due .ensures) r (l .loop .inv .3) (b .layer-behind .ensures) in (
+      omega (arith, t .loop-test .taken, p .pass-quiet .ensures .0),
+      p .pass-quiet .ensures .1 ∙ passed-state _ _ s q _ (le-refl _),
+      rows-passed _ _ s q r,
+      layer-passed _ _ _ _ s q g,
+      λ w. five-passes _ _ _ _ s q (rows-pass _ _ (l .loop .inv .4 w) (rule-is _ _ _ _ (l .loop .inv .1) (d .due .ensures) (l .loop .inv .3) (v .judge-record .ensures (l .loop .inv .8 w))) (e .enum-told2 .given .1)),
       omega (arith, k .kept-behind .ensures .room, h .kept3 .given),
       h .kept3 .given,
       o .marks2 .given,
-      kept-next _ _ _ _ _ (k .kept-behind .ensures) (b .layer-behind .ensures) (l .loop .inv .8),
-      known-next _ _ _ _ _ _ (d .due .ensures) (c .next .ensures) (b .layer-behind .ensures) (u .known-behind .ensures),
+      λ w. kept-next _ _ _ _ _ (k .kept-behind .ensures) (b .layer-behind .ensures) (layer-sound _ _ _ _ (n .records-of .ensures .0) (t .loop-test .taken) (l .loop .inv .1) (d .due .ensures) g w) (l .loop .inv .8 w),
+      rw (p .pass-quiet .ensures .1) (known-next _ _ _ _ _ _ (d .due .ensures) (x .next .ensures) (b .layer-behind .ensures) (u .known-behind .ensures)),
     )
 
 returns-2 : tie.Need-returns-2 Inv-loop μ-loop
 returns-2 c =
     let n = c .before .before .before .before in
-    five-done _ _ _ (n .records-of .ensures .0) _ (c .before .loop .inv .4) (c .before .loop .inv .0) (c .loop-test .left)
+    λ w. five-done _ _ _ (n .records-of .ensures .0) _ (c .before .loop .inv .4 w) (c .before .loop .inv .0) (c .loop-test .left)
 
 pub stage-five-spec : {M : Type 1} → statement M
 stage-five-spec =
@@ -167,6 +188,9 @@ stage-five-spec =
     record-view-requires
     next-requires
     add-k
+    sub-pass-quiet
+    pass-quiet-requires
+    add-k-2
     loop-less
     loop-again
     returns-2)

@@ -1,0 +1,159 @@
+-- A file that keeps stage 2 has well formed and permitted coordinates: behind each L its coordinate records are due, one after the other,
+-- and the file cannot end before the last of them. Assumes nothing.
+use mathlib.Core.Bool.{Bool, true, false, not, _&&_, false≢true}
+use mathlib.Core.List.{List, [], _∷_, _++_}
+use mathlib.Core.Path.{_≡_, refl, sym, _∙_, ap}
+use Prim.Native.Nat.{ℕ, zero, suc, _+_, _-_, _*_, _/_, _≤_, _<_}
+use native.Mathlib.Numerals.{add-one}
+use native.Mathlib.Omega.{arith}
+use lib.Dec.{leb, ltb, eqb, lit≤}
+use lib.IntN.{ℤ, pos, negsuc}
+use lib.ListN.{length, getD, set, length-set}
+use lib.Seq.{getD-set-same}
+use borrow.Author.Tests.{leb-true, lt-ltb, ltb-true, ltb-false}
+use Rattle.fields.specs.Answer.{numberRefusal, valueOf}
+use Rattle.fields.specs.Number.{numberAt}
+use Rattle.fields.specs.declared.Number as numbers
+use Rattle.fields.specs.declared.Number.the-variants as number
+use Rattle.records.specs.View.{recordOf, numberIn}
+use Rattle.records.specs.Layout.{row, layoutOf}
+use Rattle.records.specs.Reading.{faultOf, zeros}
+use Rattle.records.specs.declared.Field.{Field}
+use Rattle.records.specs.declared.Field.the-variants as field
+use Rattle.verdict.specs.declared.Verdict.the-variants.{Fine}
+use Rattle.verdict.specs.Rules.{firstBroken}
+use Rattle.verdict.proofs.Parts.{both-fine}
+use Rattle.verdict.proofs.Holding.{row-fine, Holding, all-hold}
+use Rattle.verdict.proofs.Orders.{and-both}
+use Rattle.rules.specs.declared.Due.{Due}
+use Rattle.rules.specs.declared.Due.the-variants.{Line, Coordinates}
+use Rattle.rules.specs.Permitted.{natural, size, within, isPoint}
+use Rattle.rules.specs.Asks.{permitted, at, coordinateAsks, asksOf, askedOf}
+use Rattle.rules.specs.Checks.{free, formChecks, valueChecks, withNumber, along, checksOf}
+use Rattle.rules.proofs.Slots.{row-at}
+use Rattle.walk.specs.declared.State.{State}
+use Rattle.walk.specs.States.{sizeIn, dueOf, nextOf, stateAt, countsAt}
+use Rattle.walk.specs.Stages.{recordsOf, mayEnd, stageTwo}
+use Rattle.walk.specs.Table.{tableOf}
+use Rattle.walk.specs.Quiet.{Quiet}
+use Rattle.walk.proofs.Judging.{rulesOf, ended}
+use Rattle.walk.proofs.Passing.{quiet-points, passed-due}
+use Rattle.layers.specs.Passing.{basesIn, layerOf}
+use Rattle.layers.proofs.Laid.{line-named, line-laid}
+use Rattle.measures.specs.Points.{countOf, pointCount}
+use Rattle.measures.specs.Sound.{SoundAt, SoundPairs, Sound}
+use Rattle.loops.specs.Scanning.{SoundTable}
+
+-- ---- stage 2
+
+-- of record k + 1, due as d, all checks hold
+pub two-holds : (file : List ℕ) → firstBroken (stageTwo file) ≡ Fine → (k : ℕ) → k < recordsOf file → {d : Due} → dueOf (stateAt file k) ≡ d → Holding (checksOf d (recordOf file (k + 1)))
+unfolding stageTwo
+two-holds file h k l e = rw (← e) (all-hold 2 (k + 1) _ (row-fine (rulesOf file) (recordsOf file) (both-fine _ _ h .0) k l))
+
+pub within-most : (low high : ℕ) (v : ℤ) → within low high v ≡ true → size v ≤ high
+unfolding within
+within-most low high v h =
+    let b = and-both (natural v) (leb low (size v) && leb (size v) high) h in
+    leb-true _ _ (and-both (leb low (size v)) (leb (size v) high) (b .1) .1)
+
+-- ---- a coordinate
+
+-- what the field at column c answers is well formed and permitted
+sound-by : (t : List ℕ) (c : ℕ) (r : numbers.Number) → numberAt t c 5 ≡ r → not (eqb (numberRefusal r) 5) ≡ true → within 0 10000 (valueOf r) ≡ true → SoundAt t c
+unfolding within
+sound-by t c (number.Value (pos n)) e f h = record { value = n; permitted = within-most 0 10000 (pos n) h; said = e }
+sound-by t c (number.Value (negsuc n)) e f h = absurd (false≢true h)
+sound-by t c number.Refused e f h = absurd (false≢true f)
+
+module _ (left : ℕ) (t : List ℕ) where
+  -- what holds of the field at column c, number i
+  abbrev Fits : ℕ → ℕ → Type 0
+  Fits c i = (free 5 (field.Number c 5) t ≡ true) × (isPoint (ltb (i / 2) left) (valueOf (numberAt t c 5)) ≡ true)
+
+  -- the first field of a layout
+  first-fits : (c i : ℕ) (ns : List ℤ) (L : List Field) → i < 14 → i < length ns → Holding (along (askedOf (Coordinates left)) (field.Number c 5 ∷ L) i ns t)
+      → Fits c i × Holding (along (askedOf (Coordinates left)) L (suc i) (withNumber ns i t c 5) t)
+  unfolding along formChecks valueChecks askedOf asksOf coordinateAsks
+  first-fits c i ns L l m h =
+      let a = rw (row-at (λ k. permitted (isPoint (ltb (k / 2) left) (at (withNumber ns i t c 5) k)) ∷ []) 14 i [] l) at (h .1) in
+      ((h .0, rw (getD-set-same ns i (valueOf (numberAt t c 5)) (pos 0) m) at (a .0)), a .1)
+
+  -- field j of a row of n
+  row-fits : (c i n : ℕ) (ns : List ℤ) (L : List Field) → i + n ≤ 14 → i + n ≤ length ns → Holding (along (askedOf (Coordinates left)) (row c 5 n ++ L) i ns t)
+      → (j : ℕ) → j < n → Fits (c + 5 * j) (i + j)
+  row-fits c i zero ns L l m h j p = absurd (omega arith)
+  row-fits c i (suc n) ns L l m h zero p =
+      let x : c + 5 * 0 ≡ c = omega arith in
+      let y : i + 0 ≡ i = omega arith in
+      rw (x, y) (first-fits c i ns (row (c + 5) 5 n ++ L) (omega arith) (omega arith) h .0)
+  row-fits c i (suc n) ns L l m h (suc j) p =
+      let x : c + 5 * suc j ≡ c + 5 + 5 * j = omega arith in
+      let y : i + suc j ≡ suc i + j = omega arith in
+      rw (x, y)
+      (row-fits (c + 5) (suc i) n (withNumber ns i t c 5) L (omega arith) (rw length-set (omega arith))
+      (first-fits c i ns (row (c + 5) 5 n ++ L) (omega arith) (omega arith) h .1) j (omega arith))
+
+  -- so a record's points
+  point-sound : Holding (checksOf (Coordinates left) t) → (c j : ℕ) → c ≡ 1 + 5 * j → j < 14 → j / 2 < left → SoundAt t c
+  unfolding checksOf layoutOf faultOf isPoint
+  point-sound h c j e l m =
+      let f = row-fits 1 0 14 zeros (field.Blank 71 2 ∷ []) (lit≤ tt) (lit≤ tt) h j l in
+      let z : 0 + j ≡ j = omega arith in
+      rw e (sound-by t (1 + 5 * j) (numberAt t (1 + 5 * j) 5) refl (f .0) (rw (z, lt-ltb (j / 2) left m) at (f .1)))
+
+-- ---- the points of a line
+
+-- a line counts no more points than the walk does
+count-most : (v : ℤ) → countOf v ≤ size v
+count-most (pos n) = omega arith
+count-most (negsuc n) = omega arith
+
+-- behind the first k records there are points left
+module _ (file : List ℕ) (h : firstBroken (stageTwo file) ≡ Fine) (k : ℕ) (l : k ≤ recordsOf file) where
+  points-quiet : (q : ℕ) → 7 * q < stateAt file k .points → Quiet (stateAt file k) (q + 1)
+  points-quiet q m = quiet-points (stateAt file k) (q + 1) (omega arith) (omega arith)
+
+  points-due : (q : ℕ) → 7 * q < stateAt file k .points → (j : ℕ) → j ≤ q → dueOf (stateAt file (k + j)) ≡ Coordinates (stateAt file k .points - 7 * j)
+  points-due q m j i = passed-due file k refl (points-quiet q m) j (omega arith) ∙ rw (lt-ltb 0 (stateAt file k .points) (omega arith))
+
+  -- their records are there
+  points-there : (q : ℕ) → 7 * q < stateAt file k .points → k + q < recordsOf file
+  points-there q m = by (ltb (k + q) (recordsOf file)) refl
+    where
+      by : (b : Bool) → ltb (k + q) (recordsOf file) ≡ b → k + q < recordsOf file
+      by true e = ltb-true _ _ e
+      by false e =
+          let g : recordsOf file ≤ k + q = ltb-false _ _ e in
+          let n : k + (recordsOf file - k) ≡ recordsOf file = omega arith in
+          absurd (false≢true (sym (ap mayEnd (points-due q m (recordsOf file - k) (omega arith))) ∙ rw n (ended file h)))
+
+  points-sound : (q n : ℕ) → n ≤ 7 → 7 * q + n ≤ stateAt file k .points → SoundPairs (recordOf file (k + 1 + q)) n
+  points-sound q n a b = record { pair = λ i c. (one i c (2 * i) (1 + 10 * i) (omega arith) (omega arith) (omega arith), one i c (2 * i + 1) (6 + 10 * i) (omega arith) (omega arith) (omega arith)) }
+    where
+      one : (i : ℕ) → i < n → (j c : ℕ) → c ≡ 1 + 5 * j → j / 2 ≡ i → j < 14 → SoundAt (recordOf file (k + 1 + q)) c
+      one i d j c e f g =
+          let z : k + 1 + q ≡ k + q + 1 = omega arith in
+          rw z
+          (point-sound (stateAt file k .points - 7 * q) (recordOf file (k + q + 1))
+          (two-holds file h (k + q) (points-there q (omega arith)) (points-due q (omega arith) q (omega arith)))
+          c j e g (omega arith))
+
+-- the line whose L is record k + 1
+line-sound : (file : List ℕ) → firstBroken (stageTwo file) ≡ Fine → (k : ℕ) → k < recordsOf file → {layer m : ℕ} → dueOf (stateAt file k) ≡ Line layer m → Sound file (suc k)
+unfolding stateAt nextOf pointCount numberIn sizeIn
+line-sound file h k l e = record {
+  points = λ q n a b. points-sound file h (suc k) (omega arith) q n a (rw e (omega (arith, count-most (valueOf (numberAt (recordOf file (suc k)) 50 6)))));
+}
+
+-- ---- the file
+
+pub table-sound : (file : List ℕ) → firstBroken (stageTwo file) ≡ Fine → SoundTable file (tableOf file) (basesIn file)
+table-sound file h = record {
+  layers = λ i l. record {
+    sound = λ m a.
+        let p = line-laid file (ended file h) i m l a in
+        let e = sym (line-named (tableOf file) (layerOf file i) m a) ∙ p .1 .word in
+        rw e (line-sound file h (p .0) (p .1 .within) (p .1 .due));
+  };
+}
