@@ -4,7 +4,6 @@
 //
 // The contracts cite `specs/`: `Measures` says what a line's, a loop's and an area's measure is,
 // `Points` which points a line of a file has.
-use fields::Glance;
 use fields::Number;
 ghost use mathlib.Core.Path.{_≡_};
 ghost use Prim.Native.Nat.{ℕ, _+_, _*_, _≤_};
@@ -21,7 +20,7 @@ struct Walk {
 
 // The coordinate that starts at a column: a number of width 5 from 0 to 10000. Anything else counts
 // as 0.
-fn read_coordinate(s: &[u8], column: usize) -> i64
+fn coordinate(s: &[u8], column: usize) -> i64
     ensures { λ r. ⌜ r ≡ coordinateIn (now (s .entry)) column ⌝ }
 {
     let answer = fields::read_number(s, column, 5);
@@ -35,20 +34,6 @@ fn read_coordinate(s: &[u8], column: usize) -> i64
         return 0;
     }
     v as i64
-}
-
-// The same, at a glance where that is sure.
-fn coordinate(s: &[u8], column: usize) -> i64
-    ensures { λ r. ⌜ r ≡ coordinateIn (now (s .entry)) column ⌝ }
-{
-    let g = fields::glance_number(s, column);
-    let Glance::Sure(n) = g else {
-        return read_coordinate(s, column);
-    };
-    if 10000 < n {
-        return 0;
-    }
-    n as i64
 }
 
 // One step: "x2*y1 - x1*y2" from where the walk stands.
