@@ -189,10 +189,13 @@ pub fn next(s: State, t: &[u8]) -> State
         u.entries = 0;
         return u;
     }
+    // each of these has a local of its own, which keeps `u` out of memory
     if 0 < s.layers {
-        return behind_layer(s, t);
+        let head = behind_layer(s, t);
+        return head;
     }
-    behind_mesh(t)
+    let mesh = behind_mesh(t);
+    mesh
 }
 
 // ---- quiet records
