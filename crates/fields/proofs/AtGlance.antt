@@ -3,13 +3,14 @@ use mathlib.Core.Bool.{Bool, true, false, not, _&&_}
 use mathlib.Core.List.{List, [], _∷_, _++_}
 use mathlib.Core.Path.{_≡_, refl, sym, ap, _∙_}
 use Prim.Native.Nat.{ℕ, zero, suc, _+_, _-_, _*_, _^_, _≤_, _<_}
-use native.Mathlib.Nat.{pow-le-pow-right}
+use native.Mathlib.Nat.{sub-self, pow-le-pow-right}
 use native.Mathlib.Omega.{arith}
 use lib.Dec.{leb, eqb, lit<, lit≤}
 use lib.IntN.{pos}
 use lib.ListN.{length, getD, take, drop, replicate, length-append, length-replicate, length-drop, drop-of-length-le}
 use lib.Seq.{drop-cons}
-use borrow.Author.Tests.{le-leb, leb-true, eqb-true, eqb-false, eq-eqb, not-true, not-false}
+use borrow.Author.Tests.{le-leb, leb-true, leb-false, eqb-true, eqb-false, eq-eqb, not-true, not-false}
+use Rattle.fields.specs.Answer.{valueOf}
 use Rattle.fields.specs.Ending.{DigitsFrom, Plain}
 use Rattle.fields.specs.Glimpse.{Glanced}
 use Rattle.fields.specs.Number.{isDigit, numberOf, afterBlanks}
@@ -18,7 +19,7 @@ use Rattle.fields.specs.declared.Glance.{Glance}
 use Rattle.fields.specs.declared.Glance.the-variants.{Sure}
 use Rattle.fields.specs.declared.Number.{Number}
 use Rattle.fields.specs.declared.Number.the-variants.{Value}
-use Rattle.fields.proofs.FromRight.{digits-none, digits-more, taken-plain}
+use Rattle.fields.proofs.FromRight.{digits-none, digits-more, too-wide, taken-plain, refused-other}
 use Rattle.fields.proofs.Places.{both}
 
 -- what a sure glance says of the answer n
@@ -42,10 +43,13 @@ abbrev pub bytes : ℕ → ℕ → ℕ → ℕ → ℕ → List ℕ
 bytes a b c d e = a ∷ b ∷ c ∷ d ∷ e ∷ []
 
 -- the last byte alone
+last-digit : (f : List ℕ) → 0 < length f → Digit (getD f (length f - 1) 0) → DigitsFrom f (length f - 1) (getD f (length f - 1) 0 - 48)
+last-digit f p h =
+    let z : 0 + (getD f (length f - 1) 0 - 48) * 1 ≡ getD f (length f - 1) 0 - 48 = omega arith in
+    rw z at (digits-more f (length f) 0 1 p (rw sub-self) (digits-none f) (h .low) (h .high) .0)
+
 pub one-digit : (a b c d e : ℕ) → Digit e → DigitsFrom (bytes a b c d e) 4 (e - 48)
-one-digit a b c d e h =
-    let z : 0 + (e - 48) * 1 ≡ e - 48 = omega arith in
-    rw z at (digits-more (bytes a b c d e) 5 0 1 (lit< tt) refl (digits-none (bytes a b c d e)) (h .low) (h .high) .0)
+one-digit a b c d e h = last-digit (bytes a b c d e) (lit< tt) h
 
 -- the byte at index i before them
 pub next-digit : (f : List ℕ) (i n u : ℕ) → 0 < i → u ≡ 10 ^ (length f - i) → DigitsFrom f i n → Digit (getD f (i - 1) 0) → DigitsFrom f (i - 1) (n + (getD f (i - 1) 0 - 48) * u)
@@ -132,3 +136,29 @@ long-is f w b =
     let l : 0 < length f = omega arith in
     let e : f ≡ 32 ∷ drop 1 f = drop-cons f 0 0 l ∙ rw b in
     rw (entries-are f 1 5 (omega arith)) (ap numberOf e ∙ space-before (drop 1 f) (rw length-drop (omega arith)) (rw length-drop (omega arith)))
+
+-- ---- a field that ends in a space and a "0"
+
+-- the zero is the value, or the field is refused
+module _ (f : List ℕ) (l : 2 ≤ length f) (z : getD f (length f - 1) 0 ≡ 48) (s : getD f (length f - 1 - 1) 0 ≡ 32) where
+  zero-plain : length f ≤ 6 → Plain f (length f - 1) 0
+  zero-plain h =
+      let n : getD f (length f - 1) 0 - 48 ≡ 0 = rw z in
+      record {
+        ends = record { digits = rw n at (last-digit f (omega arith) (record { low = omega arith; high = omega arith })); all = λ q. rw s };
+        some = omega arith;
+        narrow = h;
+        alone = λ q. omega arith;
+      }
+
+  zero-by : (w b : Bool) → leb (length f) 6 ≡ w → isBlanks (take (length f - 1) f) ≡ b → valueOf (numberOf f) ≡ pos 0
+  zero-by true true h b = ap valueOf (taken-plain (zero-plain (leb-true _ _ h)) b)
+  zero-by true false h b = ap valueOf (refused-other (zero-plain (leb-true _ _ h)) (omega arith) (λ q. omega arith) b)
+  zero-by false _ h b = ap valueOf (too-wide f (leb-false _ _ h))
+
+-- with the code's test
+pub zero-alone : (f : List ℕ) → 2 ≤ length f → eqb (getD f (length f - 1) 0) 48 && eqb (getD f (length f - 2) 0) 32 ≡ true → valueOf (numberOf f) ≡ pos 0
+zero-alone f l t =
+    let x = both (eqb (getD f (length f - 1) 0) 48) (eqb (getD f (length f - 2) 0) 32) t in
+    let e : length f - 1 - 1 ≡ length f - 2 = omega arith in
+    zero-by f l (eqb-true _ _ (x .0)) (rw e (eqb-true _ _ (x .1))) (leb (length f) 6) (isBlanks (take (length f - 1) f)) refl refl

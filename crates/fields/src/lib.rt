@@ -4,6 +4,7 @@
 //
 // The contracts cite `specs/`: `Number` and `Spelling` say what a number field is, `Text` what the
 // other two are, `Answer` which refusal of document 01 an answer stands for.
+ghost use mathlib.Core.Bool.{true};
 ghost use mathlib.Core.Path.{_≡_};
 ghost use mathlib.Core.List.{[], _∷_, _++_};
 ghost use Prim.Native.Nat.{ℕ, _+_, _<_, _≤_};
@@ -13,7 +14,7 @@ ghost use Rattle.fields.specs.Place.{isInside};
 ghost use Rattle.fields.specs.Number.{isDigit, numberOf, numberAt, holds};
 ghost use Rattle.fields.specs.Spelling.{lastOf, restOf, columns, leftOf, spell};
 ghost use Rattle.fields.specs.Text.{isPair, isName, isBlanks, textAt};
-ghost use Rattle.fields.specs.Answer.{numberFits, nameFits, Wrote};
+ghost use Rattle.fields.specs.Answer.{valueOf, numberFits, nameFits, Wrote};
 ghost use Rattle.fields.specs.Ending.{EndsIn, Plain};
 ghost use Rattle.fields.specs.Glimpse.{Glanced, remainders};
 ghost use Rattle.fields.specs.declared.Number.the-variants as number;
@@ -263,6 +264,36 @@ pub fn read_number(s: &[u8], column: usize, width: usize) -> Number
         return number_of(f);
     };
     Number::Value(n as i32)
+}
+
+// Whether a field ends in a space and a "0": then its number is 0, or it has none. It is here for
+// speed alone.
+fn lone_zero(f: &[u8]) -> bool
+    ensures { λ r. ⌜ (r ≡ true → valueOf (numberOf (now (f .entry))) ≡ pos 0) ⌝ }
+{
+    let n = f.len();
+    if n < 2 {
+        return false;
+    }
+    (f[n - 1] == 48) & (f[n - 2] == 32)
+}
+
+// The number that a whole field says, and 0 where it says none.
+pub fn value_of(f: &[u8]) -> i32
+    ensures { λ r. ⌜ r ≡ valueOf (numberOf (now (f .entry))) ⌝ }
+{
+    if lone_zero(f) {
+        return 0;
+    }
+    let g = glance_in(f);
+    let Glance::Sure(n) = g else {
+        let answer = number_of(f);
+        let Number::Value(v) = answer else {
+            return 0;
+        };
+        return v;
+    };
+    n as i32
 }
 
 // ---- reading a name or a blank

@@ -456,13 +456,25 @@ pub fn record_view(file: &[u8], k: usize) -> &[u8]
 }
 
 // The number in the `width` columns from `column` on of record `k` of a file, and 0 where there is
-// none.
+// none. Its bytes are taken from the file and not from the record's view, for speed alone.
 pub fn number_at(file: &[u8], k: usize, column: usize, width: usize) -> i32
     ensures { λ r. ⌜ r ≡ numberIn (now (file .entry)) k column width ⌝ }
 {
-    let answer = fields::read_number(record_view(file, k), column, width);
-    let Number::Value(v) = answer else {
+    if k == 0 {
         return 0;
-    };
-    v
+    }
+    if file.len() / 74 < k {
+        return 0;
+    }
+    if column == 0 {
+        return 0;
+    }
+    if 74 < width {
+        return 0;
+    }
+    if 74 - width < column - 1 {
+        return 0;
+    }
+    let at = k * 74 - 74 + (column - 1);
+    fields::value_of(&file[at..at + width])
 }

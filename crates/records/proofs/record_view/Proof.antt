@@ -1,15 +1,10 @@
 -- `records::record_view` meets its contract: the two tests are the definition's, and the part is 74 bytes. Assumes nothing.
-use mathlib.Core.Path.{_≡_}
-use Prim.Native.Nat.{ℕ, _-_, _*_, _≤_}
+use mathlib.Core.Path.{sym}
 use native.Mathlib.Omega.{arith}
 use borrow.Author.Needs.{needs}
-use borrow.Author.Tests.{le-leb, lt-leb}
-use Rattle.records.specs.View.{recordOf}
+use Rattle.records.proofs.Numbers.{record-none, record-past, record-there}
 use Rattle.records.proofs.record_view.Statement.{statement}
 use Rattle.records.proofs.record_view.Tie as tie
-
-whole : (k : ℕ) → 1 ≤ k → k * 74 - (k * 74 - 74) ≡ 74
-whole k h = omega arith
 
 sub-result : tie.Need-sub-result
 sub-result c = search needs
@@ -21,8 +16,7 @@ part-result-end : tie.Need-part-result-end
 part-result-end c = search needs
 
 returns : tie.Need-returns
-unfolding recordOf
-returns c = simp (lt-leb 1 (c .before .before .args .k) (omega (arith, c .before .if1 .taken)))
+returns c = sym (record-none _ _ (c .before .if1 .taken))
 
 sub-result-2 : tie.Need-sub-result-2
 sub-result-2 c = search needs
@@ -34,8 +28,7 @@ part-result-end-2 : tie.Need-part-result-end-2
 part-result-end-2 c = search needs
 
 returns-2 : tie.Need-returns-2
-unfolding recordOf
-returns-2 c = simp (le-leb 1 (c .before .before .before .args .k) (omega arith), lt-leb _ _ (c .before .if2 .taken))
+returns-2 c = sym (record-past _ _ (c .before .if2 .taken))
 
 mul-e : tie.Need-mul-e
 mul-e c = search needs
@@ -53,10 +46,7 @@ part-result-end-3 : tie.Need-part-result-end-3
 part-result-end-3 c = search needs
 
 returns-3 : tie.Need-returns-3
-unfolding recordOf
-returns-3 c = let k = c .before .before .before .args .k in
-    let h : 1 ≤ k = omega arith in
-    simp (le-leb 1 k h, le-leb _ _ (c .before .if2 .left), whole k h)
+returns-3 c = sym (record-there _ _ (omega arith) (c .before .if2 .left))
 
 pub record-view-spec : {M : Type 1} → statement M
 record-view-spec =
