@@ -41,12 +41,22 @@ const IN_MESH: usize = 86_000;
 /// So many meshes of a file are drawn. Further ones are the same again, under other codes.
 const DRAWN: usize = 8;
 
-/// A file with plain content: areas with islands and lakes, lines of many points, both layers. About so many records.
+/// A file with plain content: areas with islands and lakes, lines of many points, both layers, numbered in the order in which
+/// they are drawn, as a supplier's are. About so many records.
 pub fn plain(records: usize) -> File {
+    drawn(records, false)
+}
+
+/// The same with numbers at random: what a number names may stand anywhere in its layer.
+pub fn scattered(records: usize) -> File {
+    drawn(records, true)
+}
+
+fn drawn(records: usize, shuffled: bool) -> File {
     let meshes = records.div_ceil(IN_MESH);
     let random = &mut Random::new(records as u64);
-    let side = side_for(records / meshes);
-    let drawn: Vec<Mesh> = (0..meshes.min(DRAWN)).map(|_| plain_mesh(random, side)).collect();
+    let side = side_for(records / meshes, shuffled);
+    let drawn: Vec<Mesh> = (0..meshes.min(DRAWN)).map(|_| mesh(random, side, shuffled)).collect();
     let mut file = File { bytes: Vec::new(), kinds: Vec::new() };
     for k in 0..meshes {
         file.put(Mesh { code: mesh_code(k), ..drawn[k % DRAWN].clone() });
@@ -55,17 +65,17 @@ pub fn plain(records: usize) -> File {
 }
 
 /// How many cells wide and high a mesh is for about so many records. A first guess is drawn and set right.
-fn side_for(records: usize) -> usize {
+fn side_for(records: usize, shuffled: bool) -> usize {
     let mut side = (records as f64 / 20.0).sqrt().max(1.0);
     for _ in 0..2 {
-        let drawn = plain_mesh(&mut Random::new(records as u64), side as usize).length();
+        let drawn = mesh(&mut Random::new(records as u64), side as usize, shuffled).length();
         side = (side * (records as f64 / drawn as f64).sqrt()).max(1.0);
     }
     side as usize
 }
 
 /// A mesh of both layers, so many cells wide and high.
-fn plain_mesh(random: &mut Random, side: usize) -> Mesh {
+fn mesh(random: &mut Random, side: usize, shuffled: bool) -> Mesh {
     let shape = Shape {
         columns: side,
         rows: side,
@@ -76,6 +86,7 @@ fn plain_mesh(random: &mut Random, side: usize) -> Mesh {
         petals: 2,
         cut: 20,
         points: 30,
+        shuffled,
     };
     let layers = [1, 5].map(|code| layer(random, code, &shape).expect("the lines fit")).to_vec();
     Mesh { code: 0, name: two_byte_spaces(), layers }

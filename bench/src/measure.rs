@@ -2,7 +2,7 @@
 
 use crate::proved::Proved;
 use crate::{Call, Options, CALLS};
-use bench::files::{plain, worst, File};
+use bench::files::{plain, scattered, worst, File};
 use bench::lean::Lean;
 use second::judge::Outcome;
 use second::product::{Product, Second};
@@ -212,7 +212,8 @@ fn mean_judge(who: Who, file: &File, buffers: &mut Buffers) -> Duration {
 /// The judge over files of rising size, by the proved library and the lean judge in turn.
 fn flat_cost(options: &Options) {
     let sizes: &[usize] = if options.quick { &[1, 2, 4] } else { &[1, 4, 16, 64, 400] };
-    let files: Vec<File> = sizes.iter().map(|size| plain(records_in(*size))).collect();
+    let mut files: Vec<File> = sizes.iter().map(|size| plain(records_in(*size))).collect();
+    files.extend(sizes.last().map(|size| scattered(records_in(*size))));
     let mut buffers: Vec<Buffers> = files.iter().map(accepted).collect();
     let mut best = vec![[Duration::MAX; 2]; files.len()];
     for _ in 0..options.rounds {
@@ -222,7 +223,7 @@ fn flat_cost(options: &Options) {
             }
         }
     }
-    println!("\nFlat cost: the judge on plain files of rising size");
+    println!("\nFlat cost: the judge on plain files of rising size, and, last, with numbers at random");
     println!("{:>8} {:>9}   {:>23}   {:>23}", "", "", "proved library", "lean judge");
     println!("{:>8} {:>9}   {FLAT_HEAD}   {FLAT_HEAD}", "MB", "records");
     for (file, times) in files.iter().zip(&best) {

@@ -30,6 +30,8 @@ pub struct Shape {
     pub cut: usize,
     /// The most points inside a border.
     pub points: i32,
+    /// Lines, areas and nodes are numbered at random; else in the order in which they are drawn.
+    pub shuffled: bool,
 }
 
 impl Shape {
@@ -46,6 +48,7 @@ impl Shape {
             petals: *random.pick(&[0, 0, 5, 20, 90]),
             cut: *random.pick(&[0, 30, 100]),
             points: *random.pick(&[0, 0, 2, 5, 8, 40]),
+            shuffled: true,
         }
     }
 }
@@ -521,10 +524,14 @@ pub fn layer(random: &mut Random, code: i32, shape: &Shape) -> Option<Layer> {
             reverse(chain);
         }
     }
-    random.shuffle(&mut chains);
+    if shape.shuffled {
+        random.shuffle(&mut chains);
+    }
     let loops = loops_of(&chains);
     let mut faces: Vec<usize> = loops.keys().copied().collect();
-    random.shuffle(&mut faces);
+    if shape.shuffled {
+        random.shuffle(&mut faces);
+    }
     let mut areas = Vec::new();
     let mut sides = BTreeMap::from([(0, OUTSIDE)]);
     for (index, face) in faces.iter().enumerate() {
@@ -534,7 +541,9 @@ pub fn layer(random: &mut Random, code: i32, shape: &Shape) -> Option<Layer> {
     }
     let around = halves_around(&chains);
     let mut corners: Vec<usize> = around.keys().copied().collect();
-    random.shuffle(&mut corners);
+    if shape.shuffled {
+        random.shuffle(&mut corners);
+    }
     let mut serials = BTreeMap::new();
     let mut nodes = Vec::new();
     for (index, corner) in corners.iter().enumerate() {
@@ -745,6 +754,7 @@ pub fn long_lines(random: &mut Random) -> Sheet {
         petals: 20,
         cut: 20,
         points: 4000,
+        shuffled: true,
     };
     let code = mesh_codes(random, 1)[0];
     let layers = vec![layer(random, 1, &shape).expect("few lines fit")];
@@ -763,6 +773,7 @@ pub fn long_loops(random: &mut Random) -> Sheet {
         petals: *random.pick(&[0, 0, 0, 30]),
         cut: *random.pick(&[80, 100]),
         points: *random.pick(&[0, 0, 3]),
+        shuffled: true,
     };
     let code = mesh_codes(random, 1)[0];
     let layer_code = *random.pick(&[1, 5]);

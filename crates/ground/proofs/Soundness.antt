@@ -4,11 +4,10 @@ use mathlib.Core.Bool.{Bool, true, false, not, _&&_, false≢true}
 use mathlib.Core.List.{List, [], _∷_, _++_}
 use mathlib.Core.Path.{_≡_, refl, sym, _∙_, ap}
 use Prim.Native.Nat.{ℕ, zero, suc, _+_, _-_, _*_, _/_, _≤_, _<_}
-use native.Mathlib.Numerals.{add-one}
 use native.Mathlib.Omega.{arith}
 use lib.Dec.{leb, ltb, eqb, lit≤}
 use lib.IntN.{ℤ, pos, negsuc}
-use lib.ListN.{length, getD, set, length-set}
+use lib.ListN.{length, length-set}
 use lib.Seq.{getD-set-same}
 use borrow.Author.Tests.{leb-true, lt-ltb, ltb-true, ltb-false}
 use Rattle.fields.specs.Answer.{numberRefusal, valueOf}
@@ -31,8 +30,7 @@ use Rattle.rules.specs.Permitted.{natural, size, within, isPoint}
 use Rattle.rules.specs.Asks.{permitted, at, coordinateAsks, asksOf, askedOf}
 use Rattle.rules.specs.Checks.{free, formChecks, valueChecks, withNumber, along, checksOf}
 use Rattle.rules.proofs.Slots.{row-at}
-use Rattle.walk.specs.declared.State.{State}
-use Rattle.walk.specs.States.{sizeIn, dueOf, nextOf, stateAt, countsAt}
+use Rattle.walk.specs.States.{sizeIn, dueOf, nextOf, stateAt}
 use Rattle.walk.specs.Stages.{recordsOf, mayEnd, stageTwo}
 use Rattle.walk.specs.Table.{tableOf}
 use Rattle.walk.specs.Quiet.{Quiet}
