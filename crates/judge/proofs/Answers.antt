@@ -9,15 +9,18 @@ use native.Mathlib.Omega.{arith}
 use lib.Dec.{leb, lit<}
 use lib.IntN.{ℤ}
 use lib.ListN.{length}
+use borrow.Author.Tests.{leb-true}
 use Rattle.verdict.specs.declared.Verdict.{Verdict}
-use Rattle.verdict.specs.declared.Verdict.the-variants.{Fine}
-use Rattle.verdict.specs.Rules.{Rule, check}
+use Rattle.verdict.specs.declared.Verdict.the-variants.{Fine, Broken}
+use Rattle.verdict.specs.Rules.{Rule, check, firstBroken, toldOf}
 use Rattle.verdict.specs.Order.{In, Answer, Sorted}
 use Rattle.verdict.proofs.Orders.{answers, only, block-sorted, block-in, UpTo, Of, stage-sorted, stage-up}
+use Rattle.verdict.proofs.Numbers.{above0, upTo9-above0, above9-above0, Numbered, block-numbered, append-numbered, broken-number}
+use Rattle.walk.specs.declared.Counts.{Counts}
 use Rattle.walk.specs.States.{countsAt}
 use Rattle.walk.specs.Stages.{recordsOf, third, early, needOf}
 use Rattle.walk.specs.Table.{tableOf}
-use Rattle.walk.proofs.InOrder.{early-sorted, early-up}
+use Rattle.walk.proofs.InOrder.{early-sorted, early-up, early-numbered}
 use Rattle.totals.specs.Totals.{fourth, stageThree}
 use Rattle.totals.proofs.Summing.{three-sorted, three-of}
 use Rattle.layers.specs.declared.Bases.{Bases}
@@ -30,6 +33,7 @@ use Rattle.sides.specs.Sides.{seventh, stageSix}
 use Rattle.sides.proofs.InOrder.{six-sorted, six-of}
 use Rattle.judge.specs.Rulebook.{late, rulesOf, eighth, measureRule, layerRule, judgeRules, sumsRules, verdictOf, sumsVerdict}
 use Rattle.judge.specs.Outcomes.{outcomeBy, outcomeOf, tableBy, tableAfter, measuresBy, measuresAfter, sumsBy, sumsOf, tableAfterSums}
+use Rattle.judge.proofs.Loading.{late-numbered}
 
 -- ---- the rules stand in order
 
@@ -112,3 +116,43 @@ unfolding sumsOf tableAfterSums
 sums-only file words i v a =
     let e : v ≡ sumsVerdict file (length words) i = only (sumsRules file (length words) i) v (sumsVerdict file (length words) i) a (sums-answers file (length words) i) in
     (ap (λ v. sumsBy v file i) e, ap (λ v. tableBy v file words) e)
+
+-- ---- the number 0
+
+stages-numbered : (file : List ℕ) (room : ℕ) → Numbered above0 (rulesOf file room)
+unfolding rulesOf
+stages-numbered file room =
+    append-numbered above0 (early file room) (late file)
+    (λ a i. upTo9-above0 (a .number) (early-numbered file room a i))
+    (λ a i. above9-above0 (a .number) (late-numbered file a i))
+
+-- a verdict whose number is 0, of rules of which none bears that number
+none-broken : (rs : List Rule) → Numbered above0 rs → (v : Verdict) → v ≡ firstBroken rs → toldOf v .number ≡ 0 → v ≡ Fine
+none-broken rs h Fine e z = refl
+none-broken rs h (Broken n r c) e z = let b = leb-true 1 n (broken-number above0 rs h (sym e)) in absurd (omega arith)
+
+told-by : (v : Verdict) (c : Counts) (records need : ℕ) → outcomeBy v c records need .number ≡ toldOf v .number
+told-by Fine c records need = refl
+told-by (Broken n r p) c records need = refl
+
+-- "Acceptance is number 0": it is told of an accepted file alone
+pub zero-accepts : (file : List ℕ) (room places : ℕ) → outcomeOf file room places .number ≡ 0 → verdictOf file room places ≡ Fine
+unfolding outcomeOf verdictOf measureRule
+zero-accepts file room places e =
+    none-broken (judgeRules file room places)
+    (append-numbered above0 (rulesOf file room) _ (stages-numbered file room) (block-numbered above0 eighth 0 (check 0 19 (leb (countsAt file (recordsOf file) .areas) places) ∷ []) refl))
+    (verdictOf file room places) refl
+    (sym (told-by (verdictOf file room places) (countsAt file (recordsOf file)) (recordsOf file) (needOf file)) ∙ e)
+
+sums-told : (v : Verdict) (file : List ℕ) (i : ℕ) → sumsBy v file i .number ≡ toldOf v .number
+sums-told Fine file i = refl
+sums-told (Broken n r p) file i = refl
+
+-- and so it is of the layer sums
+pub zero-sums : (file : List ℕ) (room i : ℕ) → sumsOf file room i .number ≡ 0 → sumsVerdict file room i ≡ Fine
+unfolding sumsOf sumsVerdict layerRule
+zero-sums file room i e =
+    none-broken (sumsRules file room i)
+    (append-numbered above0 (rulesOf file room) _ (stages-numbered file room) (block-numbered above0 eighth 0 (check 0 22 (leb 1 i && leb i (countsAt file (recordsOf file) .layers)) ∷ []) refl))
+    (sumsVerdict file room i) refl
+    (sym (sums-told (sumsVerdict file room i) file i) ∙ e)

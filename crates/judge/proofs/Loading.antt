@@ -12,6 +12,7 @@ use Rattle.verdict.specs.declared.Verdict.{Verdict}
 use Rattle.verdict.specs.declared.Verdict.the-variants.{Fine, Broken}
 use Rattle.verdict.specs.Rules.{firstBroken}
 use Rattle.verdict.proofs.Parts.{stands, goes-on, both-fine}
+use Rattle.verdict.proofs.Orders.{and-both}
 use Rattle.verdict.proofs.Numbers.{upTo9, above9, Numbered, append-numbered, broken-number}
 use Rattle.walk.specs.declared.Tabled.{Tabled}
 use Rattle.walk.specs.declared.Counts.{Counts}
@@ -39,7 +40,7 @@ use Rattle.judge.specs.Rulebook.{late, rulesOf}
 use Rattle.judge.specs.Outcomes.{judgedOf, tableBy, tableJudged}
 
 -- behind refusal 9 every rule has a number above 9
-late-numbered : (file : List ℕ) → Numbered above9 (late file)
+pub late-numbered : (file : List ℕ) → Numbered above9 (late file)
 unfolding late
 late-numbered file =
     let t : List ℕ = tableOf file in
@@ -125,7 +126,7 @@ module _ (file : List ℕ) (room : ℕ) {t : Tabled} (e : t ≡ tabledOf file ro
     early-table words after l h =
         let v : firstBroken (early file room) ≡ Broken n r c = sym tabled ∙ q in
         let u : firstBroken (rulesOf file room) ≡ Broken n r c = sym early-verdict ∙ q in
-        let b : leb n 9 ≡ true = broken-number upTo9 (early file room) (early-numbered file room) v in
+        let b : leb n 9 ≡ true = and-both (leb 1 n) (leb n 9) (broken-number upTo9 (early file room) (early-numbered file room) v) .1 in
         rw (← l, u, b) (rw v at h)
 
   -- not refused so: the counts are those of all records, and the first words of the table are the file's table

@@ -6,6 +6,7 @@ use mathlib.Core.Path.{_≡_, refl, ap, _∙_}
 use Prim.Native.Nat.{ℕ, zero, suc}
 use native.Mathlib.Omega.{arith}
 use lib.Dec.{leb}
+use borrow.Author.Tests.{le-leb, leb-true}
 use Rattle.verdict.specs.declared.Verdict.the-variants.{Broken}
 use Rattle.verdict.specs.Rules.{Rule, brokenAt, firstBroken, Check, block, rows}
 use Rattle.verdict.specs.Order.{In}
@@ -13,10 +14,20 @@ use Rattle.verdict.proofs.Orders.{in-append, and-both}
 
 -- refusals 1 to 9, and those behind them
 abbrev pub upTo9 : ℕ → Bool
-upTo9 n = leb n 9
+upTo9 n = leb 1 n && leb n 9
 
 abbrev pub above9 : ℕ → Bool
 above9 n = leb 10 n
+
+-- any refusal
+abbrev pub above0 : ℕ → Bool
+above0 n = leb 1 n
+
+pub upTo9-above0 : (n : ℕ) → upTo9 n ≡ true → above0 n ≡ true
+upTo9-above0 n h = and-both (leb 1 n) (leb n 9) h .0
+
+pub above9-above0 : (n : ℕ) → above9 n ≡ true → above0 n ≡ true
+above9-above0 n h = le-leb 1 n (omega (arith, leb-true 10 n h))
 
 module _ (p : ℕ → Bool) where
   -- of a record's checks; it computes
