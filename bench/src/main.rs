@@ -2,8 +2,6 @@
 
 #[cfg(product)]
 mod measure;
-#[cfg(product)]
-mod proved;
 
 use std::process::ExitCode;
 

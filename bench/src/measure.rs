@@ -1,11 +1,11 @@
 //! The measuring: rounds, best times and tables.
 
-use crate::proved::Proved;
 use crate::{Call, Options, CALLS};
 use bench::files::{plain, scattered, worst, File};
 use bench::lean::Lean;
 use second::judge::Outcome;
 use second::product::{Product, Second};
+use second::proved::Proved;
 use second::records::Refusal;
 use second::sums::Sums;
 use std::collections::BTreeMap;

@@ -8,6 +8,8 @@ pub mod judge;
 pub mod layout;
 pub mod positions;
 pub mod product;
+#[cfg(product)]
+pub mod proved;
 pub mod random;
 pub mod records;
 pub mod sheet;

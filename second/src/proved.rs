@@ -1,9 +1,9 @@
 //! The proved library, linked as a C library. include/stragumella.h is the authority for these calls.
 
-use second::judge::{Counts, Outcome};
-use second::product::{Product, RawValue};
-use second::records::Refusal;
-use second::sums::Sums;
+use crate::judge::{Counts, Outcome};
+use crate::product::{Product, RawValue};
+use crate::records::Refusal;
+use crate::sums::Sums;
 
 #[repr(C)]
 struct CallOutcome {
