@@ -16,7 +16,7 @@ use Rattle.verdict.proofs.Orders.{and-both}
 use Rattle.verdict.proofs.Parts.{stands, goes-on, both-fine, check-none, check-kept, check-broken}
 use Rattle.walk.specs.declared.Tabled.{Tabled}
 use Rattle.walk.specs.declared.Counts.{Counts}
-use Rattle.walk.specs.States.{noCounts, Countable, countsAt}
+use Rattle.walk.specs.States.{Countable, countsAt}
 use Rattle.walk.specs.Stages.{recordsOf, stageOne, stageTwo, roomRule, walkedBy, walkedOf, needOf, early}
 use Rattle.walk.specs.Table.{tableOf, filled}
 use Rattle.walk.proofs.Walking.{counts-small, countable}
@@ -31,7 +31,6 @@ use Rattle.layers.specs.Passing.{basesOf, basesIn, layerOf}
 use Rattle.layers.proofs.Laid.{areas-all}
 use Rattle.links.specs.Links.{stageFour}
 use Rattle.loops.specs.Loops.{stageFive}
-use Rattle.sides.specs.Sides.{stageSix}
 use Rattle.ground.specs.Layers.{areasSum, outsideSum}
 use Rattle.ground.proofs.Kept.{Passed, lines-limit}
 use Rattle.ground.proofs.Soundness.{table-sound}

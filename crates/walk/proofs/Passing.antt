@@ -1,6 +1,6 @@
 -- Quiet records, passed in one step: the state, the counts and the table behind them, and what they are due as. Assumes nothing.
 use mathlib.Core.Bool.{Bool, true, false, cond, false≢true}
-use mathlib.Core.List.{List, [], _++_, append-nil}
+use mathlib.Core.List.{List, [], append-nil}
 use mathlib.Core.Logic.{_⊎_, inl, inr}
 use mathlib.Core.Path.{_≡_, refl, sym, _∙_, ap}
 use Prim.Native.Nat.{ℕ, zero, suc, _+_, _-_, _*_, _/_, _≤_, _<_}
@@ -19,7 +19,7 @@ use Rattle.walk.specs.declared.State.{State}
 use Rattle.walk.specs.declared.Counts.{Counts}
 use Rattle.walk.specs.States.{dueOf, nextFor, nextOf, stateAt, countedFor, countsAt}
 use Rattle.walk.specs.Table.{gather}
-use Rattle.walk.specs.Quiet.{isQuiet, nodesOf, passed, quietDue, Quiet, countedPast, FineAhead}
+use Rattle.walk.specs.Quiet.{isQuiet, passed, quietDue, Quiet, countedPast, FineAhead}
 use Rattle.walk.proofs.Judging.{rulesOf}
 
 -- ---- one more
