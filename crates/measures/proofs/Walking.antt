@@ -8,7 +8,7 @@ use native.Mathlib.Nat.{add-suc, add-zero}
 use native.Mathlib.Numerals.{add-one}
 use native.Mathlib.Omega.{arith}
 use lib.Dec.{leb, ltb, lit≤, lit<}
-use lib.IntN.{ℤ, pos, negsuc, negℤ, natAbs, _+ℤ_, _-ℤ_, +ℤ-idl}
+use lib.IntN.{ℤ, pos, negsuc, natAbs, _+ℤ_, +ℤ-idl}
 use lib.ListN.{length}
 use lib.Signed.{ltZ}
 use mir.Facts.{toZ-ofZ}
@@ -28,7 +28,7 @@ use Rattle.records.specs.View.{recordOf, numberIn}
 use Rattle.fields.proofs.FieldLaws.{number-in-range}
 use Rattle.fields.proofs.Range.{holds-small}
 use Rattle.fields.proofs.Signs.{is-negative, is-natural}
-use Rattle.measures.proofs.Bounds.{mul-small, sub-small, add-small, neg-small, small-le, read-back, fits-by, zero-minus}
+use Rattle.measures.proofs.Bounds.{mul-small, sub-small, add-small, small-le, read-back}
 use Rattle.measures.proofs.MeasureLaws.{cross-origin, line-none, line-one, line-more}
 
 -- ---- a coordinate
@@ -250,19 +250,10 @@ measure-small file r =
     let n = count-le file r in
     rw (← measure-is file r refl) (small-le 200000000000000 (line-near file r (pointCount file r) .sum) (omega arith))
 
--- the measure m, as the machine gives it back, and turned
+-- the measure m, as the machine gives it back
 module _ (file : List ℕ) (r : ℕ) {m : ℤ} (e : m ≡ measureIn file r) where
   here : Small 200000000000000 m
   here = rw e (measure-small file r)
 
   pub forwards : toZ w64 (ofZ w64 m) ≡ measureIn file r
   forwards = read-back w64 here tt ∙ e
-
-  turned-is : pos 0 -ℤ toZ w64 (ofZ w64 m) ≡ negℤ m
-  turned-is = rw (read-back w64 here tt) (zero-minus m)
-
-  pub turned-fits : SFits w64 (pos 0 -ℤ toZ w64 (ofZ w64 m))
-  turned-fits = rw turned-is (fits-by (neg-small here) tt)
-
-  pub backwards : toZ w64 (ofZ w64 (pos 0 -ℤ toZ w64 (ofZ w64 m))) ≡ negℤ (measureIn file r)
-  backwards = toZ-ofZ turned-fits ∙ turned-is ∙ ap negℤ e

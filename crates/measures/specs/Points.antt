@@ -1,12 +1,11 @@
 -- The points of a line in a file (document 01, "L": points 50-55; "Coordinates": seven X, Y pairs of width 5 in 1-70). Assumes nothing.
 --   linePoints file r   the points of the line whose L is record r: as many as it counts, from the records behind it
 --   measureIn file r    the line's measure
---   walkedIn file r b   the same, of the line walked backwards if b
-use mathlib.Core.Bool.{Bool, cond}
+use mathlib.Core.Bool.{cond}
 use mathlib.Core.List.{List, [], _∷_, _++_}
 use Prim.Native.Nat.{ℕ, zero, suc, _+_, _*_, _/_, _%_}
 use lib.Dec.{leb}
-use lib.IntN.{ℤ, pos, negsuc, negℤ}
+use lib.IntN.{ℤ, pos, negsuc}
 use Rattle.fields.specs.Number.{numberAt}
 use Rattle.fields.specs.Answer.{valueOf}
 use Rattle.records.specs.View.{recordOf, numberIn}
@@ -46,7 +45,3 @@ linePoints file r = firstOf (pointAt file r) (pointCount file r)
 
 unfoldable pub measureIn : List ℕ → ℕ → ℤ
 measureIn file r = lineMeasure (linePoints file r)
-
--- "negated for a line walked backwards"
-unfoldable pub walkedIn : List ℕ → ℕ → Bool → ℤ
-walkedIn file r back = cond back (negℤ (measureIn file r)) (measureIn file r)

@@ -1,13 +1,12 @@
 // Measures of lines (document 01, "Measures"): i64 sums of signed cross products over the coordinate
-// records of a file, negated for a line walked backwards. Every public function takes every file and
-// every record number.
+// records of a file. Every public function takes every file and every record number.
 //
 // The contracts cite `specs/`: `Measures` says what a line's, a loop's and an area's measure is,
 // `Points` which points a line of a file has.
 use fields::Number;
 ghost use mathlib.Core.Path.{_≡_};
 ghost use Prim.Native.Nat.{ℕ, _+_, _*_, _≤_};
-ghost use Rattle.measures.specs.Points.{coordinateIn, pointIn, pointCount, measureIn, walkedIn};
+ghost use Rattle.measures.specs.Points.{coordinateIn, pointIn, pointCount, measureIn};
 ghost use Rattle.measures.specs.Walks.{Small, Near, Seven, stepTo, along};
 ghost use Rattle.measures.specs.Sound.{SoundAt, SoundPairs, Sound};
 
@@ -108,17 +107,6 @@ pub fn line_measure(file: &[u8], line: usize) -> i64
         left -= part;
     }
     w.sum
-}
-
-// The same, taken away for a line that is walked backwards.
-pub fn walked_measure(file: &[u8], line: usize, backwards: bool) -> i64
-    ensures { λ r. ⌜ r ≡ walkedIn (now (file .entry)) line backwards ⌝ }
-{
-    let m = line_measure(file, line);
-    if backwards {
-        return -m;
-    }
-    m
 }
 
 // ---- the same, of lines that are known to be well formed
