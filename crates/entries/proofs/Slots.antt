@@ -1,27 +1,25 @@
 -- Loop records and their counts: a number of width 4 is at most 9999, and every number of a record that the file has not is 0.
 -- Assumes nothing.
 use mathlib.Core.Bool.{true}
-use mathlib.Core.List.{List, []}
+use mathlib.Core.List.{List}
 use mathlib.Core.Path.{_≡_, refl}
-use Prim.Native.Nat.{ℕ, _+_, _-_, _/_, _^_, _≤_, _<_}
+use Prim.Native.Nat.{ℕ, _+_, _/_, _^_, _≤_, _<_}
 use native.Mathlib.Omega.{arith}
-use lib.Dec.{leb, lit≤, lit<}
+use lib.Dec.{lit≤}
 use lib.IntN.{ℤ, pos, negsuc}
 use lib.ListN.{length}
 use lib.Signed.{mag}
 use mir.Syntax.{w32}
 use mir.Val.{toZ, ofZ, hbits}
-use borrow.Author.Tests.{le-leb, lt-leb}
 use Rattle.fields.specs.Answer.{valueOf}
 use Rattle.fields.specs.Number.{numberAt, holds}
-use Rattle.fields.specs.Place.{isInside}
 use Rattle.fields.specs.declared.Number as numbers
 use Rattle.fields.specs.declared.Number.the-variants as number
 use Rattle.fields.proofs.FieldLaws.{number-in-range}
 use Rattle.fields.proofs.Range.{holds-size, holds-minus}
 use Rattle.records.specs.View.{recordOf, numberIn}
+use Rattle.records.proofs.Numbers.{record-past, number-none}
 use Rattle.rules.specs.Permitted.{size}
-use Rattle.rules.proofs.Matches.{and-false}
 use Rattle.links.specs.Links.{loopEntry}
 use Rattle.links.proofs.Numbers.{told}
 use Rattle.entries.specs.Entries.{slotOf, recordsFor, countAt, loopsAt, recordsTo, slotsOf}
@@ -50,21 +48,13 @@ four-told file k c f e h =
 
 -- ---- a record that the file has not
 
-pub no-number : (c w : ℕ) → 0 < w → numberAt [] c w ≡ number.Refused
-unfolding numberAt isInside
-no-number c w h = rw (lt-leb (c - 1 + w) 0 (omega arith), and-false (leb 1 c))
-
-pub number-none : (file : List ℕ) (k c w : ℕ) → length file / 74 < k → 0 < w → numberIn file k c w ≡ pos 0
-unfolding numberIn recordOf
-number-none file k c w h p = rw (le-leb 1 k (omega arith), lt-leb k (length file / 74) h, no-number c w p)
-
 pub slot-none : (file : List ℕ) (f e : ℕ) → length file / 74 < f → slotOf file f e ≡ pos 0
 unfolding slotOf loopEntry
-slot-none file f e h = number-none file (f + e / 12) _ 5 (omega arith) (lit< tt)
+slot-none file f e h = number-none file (f + e / 12) _ 5 (record-past file (f + e / 12) (omega arith))
 
 pub slots-none : (file : List ℕ) (a : ℕ) → length file / 74 < a → slotsOf file a ≡ 0
 unfolding slotsOf loopsAt recordsTo
-slots-none file a h = rw (number-none file a 25 4 h (lit< tt))
+slots-none file a h = rw (number-none file a 25 4 (record-past file a h))
 
 -- ---- records
 

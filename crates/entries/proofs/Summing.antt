@@ -5,7 +5,7 @@ use mathlib.Core.Path.{_≡_, refl, sym, _∙_, ap}
 use Prim.Native.Nat.{ℕ, zero, suc, _+_, _*_, _-_, _^_, _≤_, _<_}
 use native.Mathlib.Numerals.{add-one}
 use native.Mathlib.Omega.{arith}
-use lib.Dec.{eqb, ltb, lit<}
+use lib.Dec.{eqb, ltb}
 use lib.IntN.{ℤ, pos, negsuc, negℤ, natAbs, _+ℤ_, _-ℤ_, +ℤ-idr}
 use lib.ListN.{length, take, set, getD, length-set}
 use lib.Seq.{length-take-le, getD-take, getD-set-same, getD-set-other}
@@ -15,7 +15,6 @@ use mir.Syntax.{w32, w64}
 use mir.Val.{SFits, toZ, ofZ, hbits}
 use borrow.Author.Tests.{eqb-true, eqb-false, ltb-true, ltb-false}
 use Rattle.verdict.proofs.Orders.{and-both}
-use Rattle.records.specs.View.{recordOf, numberIn}
 use Rattle.rules.specs.Permitted.{natural, size}
 use Rattle.rules.proofs.Signs.{own-told}
 use Rattle.layers.specs.declared.Layer.{Layer}
@@ -23,15 +22,14 @@ use Rattle.layers.specs.Naming.{namesLine, lineOf}
 use Rattle.measures.specs.Measures.{entryMeasure, loopMeasure}
 use Rattle.measures.specs.Sum.{sum}
 use Rattle.measures.specs.Walks.{Small}
-use Rattle.measures.specs.Points.{firstOf, linePoints, pointCount, measureIn}
+use Rattle.measures.specs.Points.{measureIn}
 use Rattle.measures.proofs.Bounds.{add-small, neg-small, small-le, fits-by, read-back, zero-minus}
-use Rattle.measures.proofs.Walking.{measure-small, forwards}
-use Rattle.measures.proofs.MeasureLaws.{line-none}
+use Rattle.records.proofs.Numbers.{record-none}
+use Rattle.measures.proofs.Walking.{measure-none, measure-small, forwards}
 use Rattle.measures.proofs.SumLaws.{sum-append}
 use Rattle.entries.specs.Entries.{slotOf, entryOf, entriesTo}
 use Rattle.entries.specs.Loops.{measureOf, slotMeasure}
 use Rattle.entries.specs.Keeping.{Kept}
-use Rattle.entries.proofs.Slots.{no-number}
 
 -- ---- what the machine gives back
 
@@ -99,8 +97,7 @@ room i n m h =
 
 -- record 0 is none
 measure-zero : (file : List ℕ) → measureIn file 0 ≡ pos 0
-unfolding measureIn linePoints pointCount numberIn recordOf firstOf
-measure-zero file = rw (no-number 50 6 (lit< tt)) line-none
+measure-zero file = measure-none file 0 (record-none file 0 refl)
 
 module _ (file t : List ℕ) (l : Layer) where
   -- an entry's sign does not say which line is meant

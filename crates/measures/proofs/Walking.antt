@@ -9,7 +9,6 @@ use native.Mathlib.Numerals.{add-one}
 use native.Mathlib.Omega.{arith}
 use lib.Dec.{leb, ltb, lit≤, lit<}
 use lib.IntN.{ℤ, pos, negsuc, natAbs, _+ℤ_, +ℤ-idl}
-use lib.ListN.{length}
 use lib.Signed.{ltZ}
 use mir.Facts.{toZ-ofZ}
 use mir.Syntax.{w32, w64}
@@ -17,7 +16,6 @@ use mir.Val.{SFits, toZ, ofZ}
 use borrow.Author.Tests.{ltb-true, ltb-false, le-leb, lt-leb, leb-true}
 use Rattle.fields.specs.Answer.{valueOf}
 use Rattle.fields.specs.Number.{numberAt}
-use Rattle.fields.specs.Place.{isInside}
 use Rattle.fields.specs.declared.Number as numbers
 use Rattle.fields.specs.declared.Number.the-variants as number
 use Rattle.measures.specs.Measures.{Point, cross, lineMeasure}
@@ -25,6 +23,7 @@ use Rattle.measures.specs.Points.{coordinateOf, coordinateIn, pointIn, p
 use Rattle.measures.specs.Walks.{Small, Near, Seven, stepTo, along, begin}
 use Rattle.measures.specs.declared.Walk.{Walk}
 use Rattle.records.specs.View.{recordOf, numberIn}
+use Rattle.records.proofs.Numbers.{number-none}
 use Rattle.fields.proofs.FieldLaws.{number-in-range}
 use Rattle.fields.proofs.Range.{holds-small}
 use Rattle.fields.proofs.Signs.{is-negative, is-natural}
@@ -192,13 +191,9 @@ walk-measure f (suc (suc n)) =
 
 -- ---- no line at all
 
-no-number : numberAt [] 50 6 ≡ number.Refused
-unfolding numberAt isInside
-no-number = refl
-
-pub measure-none : (file : List ℕ) (r : ℕ) → length file / 74 < r → measureIn file r ≡ pos 0
-unfolding measureIn linePoints pointCount numberIn recordOf firstOf
-measure-none file r h = rw (le-leb 1 r (omega arith), lt-leb r (length file / 74) h, no-number) line-none
+pub measure-none : (file : List ℕ) (r : ℕ) → recordOf file r ≡ [] → measureIn file r ≡ pos 0
+unfolding measureIn linePoints pointCount firstOf
+measure-none file r h = rw (number-none file r 50 6 h) line-none
 
 pub measure-is : (file : List ℕ) (r : ℕ) {n : ℕ} → n ≡ pointCount file r → along begin (pointAt file r) n .sum ≡ measureIn file r
 unfolding measureIn linePoints

@@ -10,6 +10,7 @@ use Rattle.measures.specs.Points.{pointAt}
 use Rattle.measures.specs.Sound.{Sound}
 use Rattle.measures.specs.Walks.{Near, along, begin}
 use Rattle.measures.proofs.Sounding.{pairs-on}
+use Rattle.records.proofs.Numbers.{record-past}
 use Rattle.measures.proofs.Walking.{some, turn, sum-back, near-le, line-near, measure-none, measure-is, full}
 use Rattle.measures.proofs.sound_measure.Statement.{statement}
 use Rattle.measures.proofs.sound_measure.Tie as tie
@@ -27,7 +28,7 @@ abbrev μ-loop : tie.MeasureT-loop
 μ-loop file line n left₀ k₀ w₀ left k w = left
 
 returns : tie.Need-returns Inv-loop μ-loop
-returns c = λ h. sym (measure-none (now (c .before .before .args .file)) (c .before .before .args .line) (c .if1 .taken))
+returns c = λ h. sym (measure-none (now (c .before .before .args .file)) (c .before .before .args .line) (record-past _ _ (c .if1 .taken)))
 
 point-count-requires : tie.Need-point-count-requires Inv-loop μ-loop
 point-count-requires c κs = search needs
