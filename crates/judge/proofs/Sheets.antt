@@ -101,7 +101,7 @@ pub sheet-outcomes :
 unfolding writing judging walkedOf needOf outcomeOf
 sheet-outcomes = (refl, refl, refl)
 
--- RULES 8.3: refused with 1 to 9, the lent words are as they were; refused later, or accepted, the table stands in the first of them
+-- RULES 8.3: refused with 1 to 9, all words are as they were; refused later, or accepted, the table stands in front, the rest is as it was
 pub sheet-words :
     (tableAfter sheetS 1 (replicate 5 99) ≡ replicate 5 99)
     × (tableAfter sheetS 1 (replicate 8 99) ≡ 2 ∷ 1 ∷ 1 ∷ 1 ∷ 4 ∷ 6 ∷ 99 ∷ 99 ∷ [])

@@ -30,11 +30,12 @@ use Rattle.judge.specs.Rulebook.{rulesOf, verdictOf, sumsVerdict}
 unfoldable pub judgedOf : List ℕ → ℕ → Tabled
 judgedOf file room = record { verdict = firstBroken (rulesOf file room); counts = walkedOf file .counts }
 
--- RULES 8.3: refused with 1 to 9, the lent words are as they were; refused later, or accepted, the table stands in the first of them
+-- RULES 8.3: refused with 1 to 9, all words are as they were; refused later, or accepted, the table stands in front, the rest is as it was
 abbrev pub tableBy : Verdict → List ℕ → List ℕ → List ℕ
 tableBy Fine file words = filled (tableOf file) words
 tableBy (Broken number r c) file words = cond (leb number 9) words (filled (tableOf file) words)
 
+-- RULES 8.3: the table behind all stages
 unfoldable pub tableJudged : List ℕ → List ℕ → List ℕ
 tableJudged file words = tableBy (firstBroken (rulesOf file (length words))) file words
 
@@ -80,6 +81,7 @@ abbrev pub measuresBy : Verdict → List ℕ → List ℤ → List ℤ
 measuresBy Fine file ms = filled (measuresOf file) ms
 measuresBy (Broken number r c) file ms = ms
 
+-- RULES 8.4, 9.1: the measures behind the judge
 unfoldable pub measuresAfter : List ℕ → ℕ → List ℤ → List ℤ
 measuresAfter file room ms = measuresBy (verdictOf file room (length ms)) file ms
 
@@ -94,6 +96,7 @@ sumsBy Fine file i =
     sumsWith Fine (areasSum file (tableOf file) (layerOf file (i - 1))) (outsideSum file (tableOf file) (layerOf file (i - 1)))
 sumsBy (Broken number r column) file i = sumsWith (Broken number r column) (pos 0) (pos 0)
 
+-- RULES 9.2: the answer of the layer sums
 unfoldable pub sumsOf : List ℕ → ℕ → ℕ → Sums
 sumsOf file room i = sumsBy (sumsVerdict file room i) file i
 

@@ -37,7 +37,7 @@ rulesOf file room = early file room ++ late file
 abbrev pub eighth : ℕ
 eighth = 8
 
--- RULES 6.10, 19: there are as many places for measures as areas; it names no place
+-- RULES 6.10, 19: there are no fewer places for measures than areas; it names no place
 unfoldable pub measureRule : List ℕ → ℕ → List Rule
 measureRule file places = block eighth 0 (check 0 19 (leb (countsAt file (recordsOf file) .areas) places) ∷ [])
 
@@ -52,9 +52,10 @@ judgeRules file room places = rulesOf file room ++ measureRule file places
 abbrev pub sumsRules : List ℕ → ℕ → ℕ → List Rule
 sumsRules file room i = rulesOf file room ++ layerRule file i
 
--- RULES 6.1: the answer is the first broken rule, or acceptance
+-- RULES 6.1, 9.1: the answer of the judge is the first broken rule, or acceptance
 unfoldable pub verdictOf : List ℕ → ℕ → ℕ → Verdict
 verdictOf file room places = firstBroken (judgeRules file room places)
 
+-- RULES 6.1, 9.2: and so it is of the layer sums
 unfoldable pub sumsVerdict : List ℕ → ℕ → ℕ → Verdict
 sumsVerdict file room i = firstBroken (sumsRules file room i)

@@ -1,6 +1,6 @@
 // The judge (RULES 6, 8, 9.1, 9.2): one answer to every file, the first broken rule in the order of
-// RULES 6.1; the table and the measures in the lent buffers; and a
-// layer's two sums. Every public function takes every file and every buffer.
+// RULES 6.1; the table and the measures in the lent buffers; and a layer's two sums. Every public
+// function takes every file and every buffer.
 //
 // The contracts cite `specs/`: `Rulebook` has the rules in that order, `Outcomes` what is answered and
 // what each lent buffer holds afterwards.
