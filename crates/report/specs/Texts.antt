@@ -33,13 +33,14 @@ unfoldable pub signed : ℤ → List ℕ
 signed (pos n) = decimal n
 signed (negsuc n) = 45 ∷ decimal (suc n)
 
+-- RULES 12.3: each printed line ends with one
 abbrev pub lineFeed : List ℕ
 lineFeed = 10 ∷ []
 
 abbrev pub lineOf : List ℕ → ℕ → List ℕ
 lineOf name n = (name ++ decimal n) ++ lineFeed
 
--- "status=ok\n"
+-- RULES 12.1: "status=ok\n"
 abbrev pub statusOk : List ℕ
 statusOk = 115 ∷ 116 ∷ 97 ∷ 116 ∷ 117 ∷ 115 ∷ 61 ∷ 111 ∷ 107 ∷ 10 ∷ []
 
@@ -67,7 +68,7 @@ areasName = 97 ∷ 114 ∷ 101 ∷ 97 ∷ 115 ∷ 61 ∷ []
 abbrev pub recordsName : List ℕ
 recordsName = 114 ∷ 101 ∷ 99 ∷ 111 ∷ 114 ∷ 100 ∷ 115 ∷ 61 ∷ []
 
--- "status=refused\n"
+-- RULES 12.1: "status=refused\n"
 abbrev pub statusRefused : List ℕ
 statusRefused = 115 ∷ 116 ∷ 97 ∷ 116 ∷ 117 ∷ 115 ∷ 61 ∷ 114 ∷ 101 ∷ 102 ∷ 117 ∷ 115 ∷ 101 ∷ 100 ∷ 10 ∷ []
 
@@ -83,11 +84,11 @@ recordName = 114 ∷ 101 ∷ 99 ∷ 111 ∷ 114 ∷ 100 ∷ 61 ∷ []
 abbrev pub columnName : List ℕ
 columnName = 99 ∷ 111 ∷ 108 ∷ 117 ∷ 109 ∷ 110 ∷ 61 ∷ []
 
--- "status=toolong\n"
+-- RULES 12.1: "status=toolong\n"
 abbrev pub statusTooLong : List ℕ
 statusTooLong = 115 ∷ 116 ∷ 97 ∷ 116 ∷ 117 ∷ 115 ∷ 61 ∷ 116 ∷ 111 ∷ 111 ∷ 108 ∷ 111 ∷ 110 ∷ 103 ∷ 10 ∷ []
 
--- "mesh="
+-- RULES 12.2: "mesh="
 abbrev pub meshName : List ℕ
 meshName = 109 ∷ 101 ∷ 115 ∷ 104 ∷ 61 ∷ []
 
