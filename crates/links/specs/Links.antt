@@ -136,6 +136,7 @@ firstPointChecks file l q r left = cond (ltb 1 left && eqb left (size (numberIn 
 unfoldable pub lastPointChecks : List ℕ → layers.Layer → ℕ → ℕ → ℕ → List Check
 lastPointChecks file l q r left = cond (ltb 0 left && leb left 7) (check (1 + 10 * (left - 1)) 12 (atNode file l (numberIn file q 24 5) r (left - 1)) ∷ []) []
 
+-- RULES 6.7, 12: both, by column
 unfoldable pub pointChecks : List ℕ → layers.Layer → ℕ → ℕ → ℕ → List Check
 pointChecks file l q r left = firstPointChecks file l q r left ++ lastPointChecks file l q r left
 
