@@ -49,6 +49,7 @@ unfoldable pub recordsTo : List ℕ → ℕ → ℕ → ℕ
 recordsTo file a zero = 0
 recordsTo file a (suc n) = recordsTo file a n + recordsFor (countAt file (a + 1 + recordsTo file a n))
 
+-- RULES 4.7: twelve a record, of all its loops
 unfoldable pub slotsOf : List ℕ → ℕ → ℕ
 slotsOf file a = 12 * recordsTo file a (loopsAt file a)
 
@@ -58,6 +59,7 @@ slotsOf file a = 12 * recordsTo file a (loopsAt file a)
 unfoldable pub loopAt : List ℕ → ℕ → List Entry
 loopAt file f = entriesTo file f (12 * recordsFor (countAt file f))
 
+-- RULES 1.2, 2.3: an area's loops, its first one first
 unfoldable pub loopsTo : List ℕ → ℕ → ℕ → List (List Entry)
 loopsTo file a zero = []
 loopsTo file a (suc n) = loopsTo file a n ++ (loopAt file (a + 1 + recordsTo file a n) ∷ [])
