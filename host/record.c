@@ -1,4 +1,4 @@
-/* One record, field by field, with document 01's names.
+/* One record, field by field (docs/RULES.md 4).
  *
  * A record's kind is known from its position. Where the file keeps stages 1 and 2 the library's table tells it:
  * the table has every H, L and A record, nodes stand behind their H, coordinates behind their L, loops behind

@@ -1,7 +1,7 @@
 /* A file with the library's answer, and its table read by rows.
  *
- * The table (document 01): one row a layer, in file order: H record, nodes, lines, areas; after all rows every
- * line's L record; then every area's A record.
+ * The table (docs/RULES.md 8.1): a row for each layer, in file order: H record, nodes, lines, areas; behind all rows
+ * each line's L record; then each area's A record.
  */
 #ifndef SHEET_H
 #define SHEET_H

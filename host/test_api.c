@@ -1,5 +1,5 @@
 /*
- * Tries include/stragumella.h on every call: document 01's sheet S and its neighbours, with buffers of length 0, short
+ * Tries include/stragumella.h on every call: sheet S and its neighbours (RULES 11), with buffers of length 0, short
  * by one, exact and longer, and every lent buffer held to what the header says of it, untouched parts too. Each lent
  * buffer is a block of its own of just its length, so that a memory checker sees a step past it. Prints one line; the
  * exit status is 0 or 1.

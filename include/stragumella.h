@@ -19,7 +19,7 @@
  * Lengths count elements: bytes of a file, 32-bit words of a table, 64-bit places of measures.
  * Records count from 1, and so do columns. Record k of a file is its 74 bytes from file + 74 * (k - 1) on.
  *
- * Refusals
+ * Refusals (docs/RULES.md 6)
  *   An answer has a number, and most have a place: a record and a column. Number 0 at 0, 0 is acceptance. Of several
  *   broken rules one is named: the stages run over the whole file, one after another; within a stage the first record
  *   counts, then the least column, then the least number. "-" is a refusal that names no place; it stands at 0, 0.

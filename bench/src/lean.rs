@@ -1,8 +1,8 @@
-//! A lean judge: the rules of document 01, written for speed in ordinary safe Rust and without proofs.
+//! A lean judge: the rules of docs/RULES.md, written for speed in ordinary safe Rust and without proofs.
 //!
 //! The file is walked once. Each field is decoded once. What the later stages ask of a layer is kept in lists, which the
 //! next layer uses again. A layer is judged by stages 3 to 6 as soon as it has been walked over, while its lists are
-//! near. The stages still answer in 01's order: of the refusals of several stages the earliest stage's counts.
+//! near. The stages still answer in the order of RULES 6.1: of the refusals of several stages the earliest stage's counts.
 
 mod fields;
 mod reader;

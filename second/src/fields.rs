@@ -1,6 +1,6 @@
 //! Fields: numbers (I), names (N) and blanks (X).
 
-/// The widest number field of document 01 has six columns; eight leave room.
+/// The widest number field has six columns (RULES 3.2); eight leave room.
 const WIDEST: usize = 8;
 
 /// The one spelling of a number in a field of this width: right aligned, spaces in front.

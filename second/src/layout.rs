@@ -99,7 +99,7 @@ fn blanks(letters: bool, named: &[Field]) -> Vec<Field> {
 
 type Columns = (usize, usize);
 
-/// Letters, name columns and number columns, as document 01 names them.
+/// Letters, name columns and number columns, as the tables of RULES 4 have them.
 fn named(kind: Kind) -> (Option<[u8; 2]>, Option<Columns>, Vec<Columns>) {
     match kind {
         Kind::M => (

@@ -1,4 +1,4 @@
-//! A second program for document 01: it judges the same files, written another way.
+//! A second program for the rules (docs/RULES.md): it judges the same files, written another way.
 
 pub mod compare;
 pub mod damage;

@@ -203,7 +203,7 @@ pub fn two_byte_spaces<const LENGTH: usize>() -> [u8; LENGTH] {
     std::array::from_fn(|index| if index % 2 == 0 { 0x81 } else { 0x40 })
 }
 
-/// Sheet S, the smallest sheet of document 01.
+/// Sheet S, the smallest sheet (RULES 11.1).
 pub fn sheet_s() -> Sheet {
     let line = Line {
         item: 9,

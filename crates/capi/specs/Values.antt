@@ -1,4 +1,4 @@
--- The records of C: a kind is a number there (document 01, "A single record", refusals 20 and 21). Assumes nothing.
+-- The records of C: a kind is a number there (RULES 4.8, 9.4, 9.5). Assumes nothing.
 --   kindOf n         the kind that the number n stands for, if it stands for one: 1 M, 2 H, 3 N, 4 L, 5 coordinates, 6 A, 7 loop
 --   numberOf k       the number that stands for the kind k
 --   recordOf k v     the value v as a record of kind k, and valueOf r the record r with its kind as a number
@@ -23,7 +23,7 @@ use Rattle.capi.specs.declared.Found.{Found}
 
 -- ---- the kinds by number
 
--- in 01's order, from number 0 on, which stands for none
+-- in the order of RULES 4.1 to 4.7, from number 0 on, which stands for none
 abbrev pub kinds : List Meant
 kinds = Nothing ∷ A Mesh ∷ A Layer ∷ A Node ∷ A Line ∷ A Coordinates ∷ A Area ∷ A Loop ∷ []
 
@@ -39,7 +39,7 @@ numberOf Coordinates = 5
 numberOf Area = 6
 numberOf Loop = 7
 
--- "A record's value is its kind, its numbers in column order and its name bytes"
+-- RULES 4.8: a record's value is its kind, its numbers in column order and its name bytes
 abbrev pub recordOf : Kind → Value → Record
 recordOf k v = record { kind = k; numbers = v .numbers; name = v .name }
 
@@ -59,13 +59,13 @@ abbrev pub foundBy : Meant → List ℕ → Found
 foundBy (A k) s = foundIn (readingOf k s)
 foundBy Nothing s = noKind
 
--- "A single record, of the kind the caller names"
+-- RULES 9.4: a single record of the kind that the caller names
 unfoldable pub foundOf : ℕ → List ℕ → Found
 foundOf n s = foundBy (kindOf n) s
 
 -- ---- writing
 
--- "21: buffer under 74 bytes, judged before 20"; a value of no kind doesn't fit, and the buffer is untouched
+-- RULES 9.5: 21 where the buffer has under 74 bytes, judged first; a value of no kind doesn't fit, and the buffer is untouched
 pub record NotWritten (before : List ℕ) (number : ℕ) (after : List ℕ) : Type 0 where
   pub answer : number ≡ cond (leb 74 (length before)) 20 21
   pub buffer : after ≡ before
@@ -74,5 +74,6 @@ abbrev pub WrittenBy : Meant → List ℕ → Value → ℕ → List ℕ → Typ
 WrittenBy (A k) before v number after = Written before (recordOf k v) number after
 WrittenBy Nothing before v number after = NotWritten before number after
 
+-- RULES 9.5: the writer's answer and its buffer behind it
 unfoldable pub WrittenValue : List ℕ → Value → ℕ → List ℕ → Type 0
 WrittenValue before v number after = WrittenBy (kindOf (v .kind)) before v number after

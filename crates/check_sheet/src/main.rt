@@ -1,4 +1,4 @@
-// Document 01's program `check`, over standard input.
+// The program `check` over standard input (RULES 12.1).
 fn main() {
     report::check(0);
 }

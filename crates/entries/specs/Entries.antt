@@ -1,6 +1,6 @@
--- The entries of a loop and of an area (document 01, "Loop": "line count 6-9; twelve line numbers of width 5 in 10-69"; "loops
--- ceil(n/12)"; "for each area one A and its loop records"). An area's loops follow its A one after another, so its slots stand in one
--- row, twelve a record. A slot that is 0 is no entry: "Slots past the count are 0". Assumes nothing.
+-- The entries of a loop and of an area (RULES 2.3, 2.6, 4.7): a loop record has its line count at 6 and twelve slots of width 5 from 10 on,
+-- and a loop of n lines takes n/12 records, rounded up. An area's loops follow its A one after another, so its slots stand in one
+-- row, twelve a record. A slot that is 0 is no entry (RULES 1.3); those past the count are 0 (RULES 5.9). Assumes nothing.
 --   slotOf file f e      slot e, counted from 0, of the loop records from record f on
 --   entriesTo file f n   the entries in the first n of these slots
 --   countAt, loopsAt     a loop's line count; how many loops an A has
@@ -16,10 +16,11 @@ use Rattle.rules.specs.Permitted.{size}
 use Rattle.measures.specs.Measures.{Entry, plus, minus}
 use Rattle.links.specs.Links.{loopEntry}
 
+-- RULES 4.7: twelve slots a record
 unfoldable pub slotOf : List ℕ → ℕ → ℕ → ℤ
 slotOf file f e = loopEntry file (f + e / 12) (e % 12)
 
--- +n, -n, or none
+-- RULES 1.2, 1.3: +n, -n, or none
 abbrev pub entryOf : ℤ → List Entry
 entryOf (pos zero) = []
 entryOf (pos (suc n)) = plus (suc n) ∷ []
@@ -31,30 +32,34 @@ entriesTo file f (suc n) = entriesTo file f n ++ entryOf (slotOf file f n)
 
 -- ---- records
 
--- "loops ceil(n/12)"; a loop that counts no line has its one record
+-- RULES 2.6: n/12, rounded up; a loop that counts no line has its one record
 unfoldable pub recordsFor : ℕ → ℕ
 recordsFor n = (n - 1) / 12 + 1
 
--- a loop's "line count 6-9"
+-- RULES 4.7: a loop's line count, at 6
 unfoldable pub countAt : List ℕ → ℕ → ℕ
 countAt file f = size (numberIn file f 6 4)
 
--- an A's "loops 25-28"
+-- RULES 4.6: an A's loops, at 25
 unfoldable pub loopsAt : List ℕ → ℕ → ℕ
 loopsAt file a = size (numberIn file a 25 4)
 
+-- RULES 2.3, 2.6: each loop begins behind the one before it, the first behind the A
 unfoldable pub recordsTo : List ℕ → ℕ → ℕ → ℕ
 recordsTo file a zero = 0
 recordsTo file a (suc n) = recordsTo file a n + recordsFor (countAt file (a + 1 + recordsTo file a n))
 
+-- RULES 4.7: twelve a record, of all its loops
 unfoldable pub slotsOf : List ℕ → ℕ → ℕ
 slotsOf file a = 12 * recordsTo file a (loopsAt file a)
 
 -- ---- loops
 
+-- RULES 2.6, 4.7: a loop's entries are those in the slots of its records
 unfoldable pub loopAt : List ℕ → ℕ → List Entry
 loopAt file f = entriesTo file f (12 * recordsFor (countAt file f))
 
+-- RULES 1.2, 2.3: an area's loops, its first one first
 unfoldable pub loopsTo : List ℕ → ℕ → ℕ → List (List Entry)
 loopsTo file a zero = []
 loopsTo file a (suc n) = loopsTo file a n ++ (loopAt file (a + 1 + recordsTo file a n) ∷ [])

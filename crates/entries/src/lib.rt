@@ -1,4 +1,4 @@
-// The entries of loops and areas, and the measures of loops (document 01, "Loop" and "Measures"). Every
+// The entries of loops and areas (RULES 2.6, 4.7), and the measures of loops (RULES 7.2). Every
 // public function takes every file, table and record number.
 //
 // The contracts cite `specs/`: `Entries` says which entries a loop and an area have, `Loops` what their

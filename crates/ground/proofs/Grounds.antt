@@ -1,4 +1,4 @@
--- NO GROUND IS LOST (document 01, "Measures"): in a file that keeps stages 2, 4, 5 and 6 every area lists its own entries and no others,
+-- NO GROUND IS LOST (RULES 7.5, 13.3): in a file that keeps stages 2, 4, 5 and 6 every area lists its own entries and no others,
 -- by refusals 11, 13, 17 and 18; so in each layer the areas measure as much as the outside sum. Assumes nothing.
 use mathlib.Core.Bool.{Bool, true, false, cond, _||_}
 use mathlib.Core.List.{List}
@@ -102,7 +102,7 @@ module _ (file : List ℕ) (p : Passed file) (i : ℕ) (l : i < countsAt file (r
       → Listed (layerOf file i .lines) (leftOf file (tableOf file) (layerOf file i)) (rightOf file (tableOf file) (layerOf file i)) a (entriesOf file (tableOf file) (layerOf file i) a)
   listed a o m = listed-by file (tableOf file) (layerOf file i) a o lines-kept (slots-kept a o m)
 
-  -- "the sum of all areas' measures" is the outside sum
+  -- RULES 7.5: the sum of all areas' measures is the outside sum
   pub ground-agrees : areasSum file (tableOf file) (layerOf file i) ≡ outsideSum file (tableOf file) (layerOf file i)
   unfolding areasSum outsideSum
   ground-agrees =

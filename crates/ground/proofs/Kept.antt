@@ -79,7 +79,7 @@ an-h (Coordinates left) h = absurd (false≢true h)
 an-h (Area layer last) h = absurd (false≢true h)
 an-h (Loop last count left) h = absurd (false≢true h)
 
--- "H lines at most 9999"
+-- RULES 4.2: the lines of an H are at most 9999
 pub lines-limit : (file : List ℕ) → Passed file → (i : ℕ) → i < countsAt file (recordsOf file) .layers → layerOf file i .lines ≤ 9999
 lines-limit file p i l =
     let q = row-laid file i l in

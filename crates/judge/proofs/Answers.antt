@@ -1,6 +1,6 @@
--- THE THEOREM OF DEMAND 2: a file is accepted exactly when no rule is broken; otherwise the answer is the least broken rule in 01's order;
--- no second answer fits, and the answer settles what the call tells and what each lent buffer holds. The rules stand in 01's order, so
--- the first broken one is the least. Assumes nothing.
+-- THE THEOREM OF DEMAND 2 (RULES 13.2): a file is accepted exactly when no rule is broken; otherwise the answer is the least broken rule in
+-- the order of RULES 6.1; no second answer fits, and the answer settles what the call tells and what each lent buffer holds. The rules
+-- stand in that order, so the first broken one is the least. Assumes nothing.
 use mathlib.Core.Bool.{true, _&&_}
 use mathlib.Core.List.{List, [], _∷_, _++_, append-assoc}
 use mathlib.Core.Path.{_≡_, refl, subst, sym, _∙_, ap}
@@ -87,7 +87,7 @@ verdict-answers file room places = answers (judgeRules file room places) (judge-
 pub verdict-only : (file : List ℕ) (room places : ℕ) (v : Verdict) → Answer (judgeRules file room places) v → v ≡ verdictOf file room places
 verdict-only file room places v a = only (judgeRules file room places) v (verdictOf file room places) a (verdict-answers file room places)
 
--- "A file is accepted exactly when it keeps the published layouts and the rules of document 01, the room lent included"
+-- RULES 13.2: a file is accepted exactly when it keeps the rules, the room lent included
 pub accepted-keeps : (file : List ℕ) (room places : ℕ) → verdictOf file room places ≡ Fine → (r : Rule) → In r (judgeRules file room places) → r .holds ≡ true
 accepted-keeps file room places e = subst (Answer (judgeRules file room places)) e (verdict-answers file room places)
 
@@ -135,7 +135,7 @@ told-by : (v : Verdict) (c : Counts) (records need : ℕ) → outcomeBy v c reco
 told-by Fine c records need = refl
 told-by (Broken n r p) c records need = refl
 
--- "Acceptance is number 0": it is told of an accepted file alone
+-- RULES 6.1: acceptance is number 0; it is told of an accepted file alone
 pub zero-accepts : (file : List ℕ) (room places : ℕ) → outcomeOf file room places .number ≡ 0 → verdictOf file room places ≡ Fine
 unfolding outcomeOf verdictOf measureRule
 zero-accepts file room places e =

@@ -1,5 +1,5 @@
--- THE THEOREM OF DEMAND 3, "No ground lost": "In every layer of an accepted file the sum of all areas' measures equals the sum walked along
--- the lines between an area and the outside, and these are the figures reported." Both sums are whole numbers that document 01 defines
+-- THE THEOREM OF DEMAND 3, no ground lost (RULES 13.3): in every layer of an accepted file the sum of all areas' measures is the sum walked
+-- along the lines between an area and the outside, and these are the figures reported. Both sums are whole numbers that RULES 7 defines
 -- from the coordinates (`areasSum` and `outsideSum` of `ground`). By 11, 13, 17 and 18 each side of each line stands once in its area and
 -- nowhere else. Assumes nothing.
 use mathlib.Core.Bool.{_&&_}

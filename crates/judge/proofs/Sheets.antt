@@ -1,4 +1,4 @@
--- What is answered to sheet S and its neighbours, computed. Assumes nothing.
+-- What is answered to sheet S and its neighbours (RULES 11), computed. Assumes nothing.
 use mathlib.Core.List.{List, [], _∷_, map}
 use mathlib.Core.Path.{_≡_, refl}
 use Prim.Native.Nat.{ℕ}
@@ -73,7 +73,7 @@ abbrev pub All : List Case → Type 0
 All [] = Unit {0}
 All (c ∷ cs) = Holds c × All cs
 
--- 01's proved cases
+-- RULES 11.2: the cases
 pub cases-hold : All cases
 unfolding writing judging cases
 cases-hold = (refl, (refl, (refl, (refl, (refl, (refl, (refl, (refl, (refl, (refl, (refl, (refl, (refl, (refl, (refl, tt)))))))))))))))
@@ -83,7 +83,7 @@ pub further-judged : map (λ (c : List ℕ × Verdict). verdictOf (c .0) 12 2) f
 unfolding writing judging further twoMeshes node line coordinates area loop heads sheetT shore sheetU withoutHole
 further-judged = refl
 
--- "Table: 2 1 1 1 4 6."; the table of two meshes
+-- RULES 11.1: the table of S is 2 1 1 1 4 6; the table of two meshes
 pub sheet-table :
     (length sheetS ≡ 518)
     × (needOf sheetS ≡ 6)
@@ -92,7 +92,7 @@ pub sheet-table :
 unfolding writing judging walkedOf needOf twoMeshes
 sheet-table = (refl, refl, refl, refl)
 
--- S is answered with its counts; with 9 and the need where the table is too short, with 19 where there is no place for the measure; a
+-- RULES 9.1: S is answered with its counts; with 9 and the need where the table is too short, with 19 where there is no place for the measure; a
 -- refused call counts nothing
 pub sheet-outcomes :
     (outcomeOf sheetS 6 1 ≡ record { number = 0; place = 0; column = 0; meshes = 1; layers = 1; nodes = 1; lines = 1; areas = 1; records = 7; need = 0 })
@@ -101,7 +101,7 @@ pub sheet-outcomes :
 unfolding writing judging walkedOf needOf outcomeOf
 sheet-outcomes = (refl, refl, refl)
 
--- "Refused with 1 to 9: untouched. Refused later, or accepted: the table stands in its first words, the rest untouched."
+-- RULES 8.3: refused with 1 to 9, all words are as they were; refused later, or accepted, the table stands in front, the rest is as it was
 pub sheet-words :
     (tableAfter sheetS 1 (replicate 5 99) ≡ replicate 5 99)
     × (tableAfter sheetS 1 (replicate 8 99) ≡ 2 ∷ 1 ∷ 1 ∷ 1 ∷ 4 ∷ 6 ∷ 99 ∷ 99 ∷ [])
@@ -110,7 +110,7 @@ pub sheet-words :
 unfolding writing judging tableAfter
 sheet-words = (refl, refl, refl, refl)
 
--- "Measure 200000000"; "only on acceptance; otherwise, and past them, it is untouched"; an area with a hole, and the one in it
+-- RULES 11.1, 8.4: the area of S measures 200000000; measures stand in front, on acceptance only; an area with a hole, and the one in it
 pub sheet-measures :
     (measuresAfter sheetS 6 (pos 5 ∷ pos 6 ∷ []) ≡ pos 200000000 ∷ pos 6 ∷ [])
     × (measuresAfter sheetS 5 (pos 5 ∷ pos 6 ∷ []) ≡ pos 5 ∷ pos 6 ∷ [])
@@ -118,7 +118,7 @@ pub sheet-measures :
 unfolding writing judging measuring node line coordinates area loop heads shore sheetU
 sheet-measures = (refl, refl, refl)
 
--- "and so are both sums"; "22: no such layer (1 is the file's first)"; no ground is lost in a hole
+-- RULES 11.1, 9.2: both sums of S are as much; 22 where there is no such layer, both sums 0 if refused; no ground is lost in a hole
 pub sheet-sums :
     (sumsOf sheetS 6 1 ≡ record { number = 0; place = 0; column = 0; areas = pos 200000000; outside = pos 200000000 })
     × (sumsOf sheetS 6 0 ≡ record { number = 22; place = 0; column = 0; areas = pos 0; outside = pos 0 })

@@ -1,4 +1,4 @@
--- The rules of a file in 01's order (document 01, "Order of judgement and refusal numbers"). A record's rules stand in `rules`, those of
+-- The rules of a file in the order of judgement (RULES 6.1). A record's rules stand in `rules`, those of
 -- stages 1 and 2 and refusal 9 in `walk`, those of stage 3 in `totals`, of stage 4 in `links`, of stage 5 in `loops` and of stage 6 in
 -- `sides`. Assumes nothing.
 --   late file                  the rules behind refusal 9
@@ -21,6 +21,7 @@ use Rattle.links.specs.Links.{stageFour}
 use Rattle.loops.specs.Loops.{stageFive}
 use Rattle.sides.specs.Sides.{stageSix}
 
+-- RULES 6.1: turns 4 to 7, stages 3 to 6
 unfoldable pub late : List ℕ → List Rule
 late file =
     stageThree file
@@ -28,31 +29,33 @@ late file =
     ++ (stageFive file (tableOf file) (basesIn file)
     ++ stageSix file (tableOf file) (basesIn file)))
 
--- "The stages run over the whole file, one after another."
+-- RULES 6.1: the stages run over the whole file, one after another
 unfoldable pub rulesOf : List ℕ → ℕ → List Rule
 rulesOf file room = early file room ++ late file
 
--- what a call asks behind all stages is judged eighth
+-- RULES 6.1: what a call asks behind all stages is judged eighth
 abbrev pub eighth : ℕ
 eighth = 8
 
--- "19: measure buffer shorter than the areas"; it names no place
+-- RULES 6.10, 19: there are no fewer places for measures than areas; it names no place
 unfoldable pub measureRule : List ℕ → ℕ → List Rule
 measureRule file places = block eighth 0 (check 0 19 (leb (countsAt file (recordsOf file) .areas) places) ∷ [])
 
--- "22: no such layer (1 is the file's first), judged after acceptance"
+-- RULES 6.10, 22: the file has layer number i, 1 being its first; it names no place
 unfoldable pub layerRule : List ℕ → ℕ → List Rule
 layerRule file i = block eighth 0 (check 0 22 (leb 1 i && leb i (countsAt file (recordsOf file) .layers)) ∷ [])
 
--- the judge's rules, and the layer sums'
+-- RULES 9.1, 9.2: the judge's rules, with 19 behind all stages, and the layer sums', with 22
 abbrev pub judgeRules : List ℕ → ℕ → ℕ → List Rule
 judgeRules file room places = rulesOf file room ++ measureRule file places
 
 abbrev pub sumsRules : List ℕ → ℕ → ℕ → List Rule
 sumsRules file room i = rulesOf file room ++ layerRule file i
 
+-- RULES 6.1, 9.1: the answer of the judge is the first broken rule, or acceptance
 unfoldable pub verdictOf : List ℕ → ℕ → ℕ → Verdict
 verdictOf file room places = firstBroken (judgeRules file room places)
 
+-- RULES 6.1, 9.2: and so it is of the layer sums
 unfoldable pub sumsVerdict : List ℕ → ℕ → ℕ → Verdict
 sumsVerdict file room i = firstBroken (sumsRules file room i)

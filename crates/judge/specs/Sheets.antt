@@ -1,8 +1,8 @@
--- The smallest sheet and its neighbours (document 01, the section of that name), and what is answered to each. Assumes nothing.
+-- The smallest sheet and its neighbours (RULES 11), and what is answered to each. Assumes nothing.
 --   mRecord, .., loopRecord   a record of sheet S, as a function of what its neighbours change
 --   sheetS                    sheet S, 518 bytes
 --   changed k c bytes         S with these bytes in record k, from column c on; withMesh: with another M
---   cases                     01's proved cases, each with its answer
+--   cases                     the cases of RULES 11.2, each with its answer
 --   further                   more files, of each refusal
 --   twoMeshes, sheetT, sheetU accepted files: two meshes; two lines round one area; a lake in an area, with a hole for it
 use mathlib.Core.List.{List, [], _∷_, _++_}
@@ -21,7 +21,7 @@ use Rattle.verdict.specs.declared.Verdict.the-variants.{Fine, Broken}
 
 -- ---- the seven records
 
--- "Names are 81 40 throughout."
+-- RULES 11.1: all names are 81 40 throughout
 abbrev pub wide : ℕ → List ℕ
 wide zero = []
 wide (suc n) = 0x81 ∷ 0x40 ∷ wide n
@@ -30,43 +30,43 @@ wide (suc n) = 0x81 ∷ 0x40 ∷ wide n
 unfoldable pub written : Kind → List ℤ → List ℕ
 written k ns = lineOf (record { kind = k; numbers = ns; name = wide 20 })
 
--- "M (533945; totals 1,1,1,1,0,7)": mesh code, layers, records
+-- RULES 11.1: record 1, M, by its mesh code, layers and records
 unfoldable pub mRecord : ℕ → ℕ → ℕ → List ℕ
 mRecord code layers records = written Mesh (pos code ∷ pos layers ∷ pos 1 ∷ pos 1 ∷ pos 1 ∷ pos 0 ∷ pos records ∷ [])
 
--- "H (layer 1; 1,1,1,0; records 6; dates 0)": records
+-- RULES 11.1: record 2, H, by its records
 unfoldable pub hRecord : ℕ → List ℕ
 hRecord records = written Layer (pos 1 ∷ pos 1 ∷ pos 1 ∷ pos 1 ∷ pos 0 ∷ pos records ∷ pos 0 ∷ pos 0 ∷ [])
 
--- "N (item 3, serial 1, (0,0), frame 1, count 2: 1, -1)": layer, frame, count, second slot
+-- RULES 11.1: record 3, N, by its layer, frame, count and second slot
 unfoldable pub nRecord : ℕ → ℕ → ℕ → ℤ → List ℕ
 nRecord layer frame count second = written Node (pos layer ∷ pos 3 ∷ pos 1 ∷ pos 0 ∷ pos 0 ∷ pos frame ∷ pos count ∷ pos 1 ∷ second ∷ [])
 
--- "L (item 9, kind 9, nodes 1 and 1, links 2, left 88888/0, right 13101/1, 5 points)": left code and area, right code and area
+-- RULES 11.1: record 4, L, by its left code and area, right code and area
 unfoldable pub lRecord : ℕ → ℕ → ℕ → ℕ → List ℕ
 lRecord leftCode left rightCode right =
     written Line (
     pos 1 ∷ pos 9 ∷ pos 1 ∷ pos 9 ∷ pos 1 ∷ pos 2 ∷ pos 1 ∷ pos 2
     ∷ pos leftCode ∷ pos left ∷ pos rightCode ∷ pos right ∷ pos 5 ∷ [])
 
--- "(0,0) (0,10000) (10000,10000) (10000,0) (0,0)": the last Y, and the X behind it
+-- RULES 11.1: record 5, coordinates, by the last Y and the X behind it
 unfoldable pub points : ℕ → ℕ → List ℕ
 points lastY sixthX =
     written Coordinates (
     pos 0 ∷ pos 0 ∷ pos 0 ∷ pos 10000 ∷ pos 10000 ∷ pos 10000 ∷ pos 10000 ∷ pos 0 ∷ pos 0 ∷ pos lastY
     ∷ pos sixthX ∷ [])
 
--- "A (13101, serial 1, (5000,5000), 1 loop, 1 line)": lines
+-- RULES 11.1: record 6, A, by its lines
 unfoldable pub aRecord : ℕ → List ℕ
 aRecord lines = written Area (pos 1 ∷ pos 13101 ∷ pos 1 ∷ pos 5000 ∷ pos 5000 ∷ pos 1 ∷ pos lines ∷ [])
 
--- "loop 1, count 1, entry 1": count, entry
+-- RULES 11.1: record 7, loop, by its count and entry
 unfoldable pub loopRecord : ℕ → ℤ → List ℕ
 loopRecord count entry = written Loop (pos 1 ∷ pos count ∷ entry ∷ [])
 
 -- ---- the sheets
 
--- "Sheet S, 7 records"
+-- RULES 11.1: sheet S, seven records
 unfoldable pub sheetS : List ℕ
 sheetS =
     mRecord 533945 1 7
@@ -87,25 +87,25 @@ number n = spell 5 (pos n)
 abbrev pub withMesh : ℕ → ℕ → ℕ → List ℕ
 withMesh code layers records = changed 1 1 (mRecord code layers records)
 
--- "Proved: ..": a sheet and the judge's verdict, where the lent buffers are long enough; or a field of width 5 and what it says
+-- RULES 11.2: a sheet and the judge's verdict, where the lent buffers are long enough; or a field of width 5 and what it says
 pub data Case : Type 0 where
   sheet : List ℕ → Verdict → Case
   field : List ℕ → Number → Case
 
--- in 01's order
+-- RULES 11.2: S, then S changed in one place, then fields of five columns, in that order
 unfoldable pub cases : List Case
 cases =
-    sheet sheetS Fine  -- "S accepted"
-    ∷ sheet (withMesh 533945 1 6) (Broken 10 1 52)  -- "S with M records 6: 10 at 1,52"
-    ∷ sheet (changed 3 1 (nRecord 1 0 2 (negsuc 0))) (Broken 6 3 22)  -- "frame 0: 6 at 3,22"
-    ∷ sheet (changed 3 1 (nRecord 1 1 1 (pos 0))) (Broken 14 4 24)  -- "count 1: 14 at 4,24 (slot two 0)"
-    ∷ sheet (changed 5 1 (points 1 0)) (Broken 12 5 41)  -- "last point (0,1): 12 at 5,41"
-    ∷ sheet (changed 5 1 (points 0 7)) (Broken 6 5 51)  -- "sixth X 7: 6 at 5,51"
-    ∷ sheet (changed 7 1 (loopRecord 1 (negsuc 0))) (Broken 16 7 1)  -- "loop entry -1: 16 at 7,1"
-    ∷ sheet (changed 4 1 (lRecord 13101 1 88888 0)) (Broken 17 7 10)  -- "left and right exchanged: 17 at 7,10"
-    ∷ sheet (take (74 * 6) sheetS) (Broken 4 7 1)  -- "without record 7: 4 at 7,1"
-    ∷ sheet (changed 2 2 (49 ∷ [])) (Broken 7 2 1)  -- "H1: 7 at 2,1"
-    ∷ sheet (withMesh 533985 1 7) (Broken 6 1 3)  -- "mesh 533985: 6 at 1,3"
+    sheet sheetS Fine  -- S is accepted
+    ∷ sheet (withMesh 533945 1 6) (Broken 10 1 52)  -- M's records 6: 10 at 1,52
+    ∷ sheet (changed 3 1 (nRecord 1 0 2 (negsuc 0))) (Broken 6 3 22)  -- frame 0: 6 at 3,22
+    ∷ sheet (changed 3 1 (nRecord 1 1 1 (pos 0))) (Broken 14 4 24)  -- node count 1, second slot 0: 14 at 4,24
+    ∷ sheet (changed 5 1 (points 1 0)) (Broken 12 5 41)  -- last point (0,1): 12 at 5,41
+    ∷ sheet (changed 5 1 (points 0 7)) (Broken 6 5 51)  -- sixth X 7: 6 at 5,51
+    ∷ sheet (changed 7 1 (loopRecord 1 (negsuc 0))) (Broken 16 7 1)  -- loop entry -1: 16 at 7,1
+    ∷ sheet (changed 4 1 (lRecord 13101 1 88888 0)) (Broken 17 7 10)  -- left and right exchanged: 17 at 7,10
+    ∷ sheet (take (74 * 6) sheetS) (Broken 4 7 1)  -- without record 7: 4 at 7,1
+    ∷ sheet (changed 2 2 (49 ∷ [])) (Broken 7 2 1)  -- H1: 7 at 2,1
+    ∷ sheet (withMesh 533985 1 7) (Broken 6 1 3)  -- mesh 533985: 6 at 1,3
     ∷ field (32 ∷ 32 ∷ 32 ∷ 45 ∷ 49 ∷ []) (Value (negsuc 0))  -- width 5: "   -1" is -1
     ∷ field (48 ∷ 48 ∷ 48 ∷ 48 ∷ 49 ∷ []) Refused  -- "00001" is 5
     ∷ field (32 ∷ 32 ∷ 32 ∷ 45 ∷ 48 ∷ []) Refused  -- "   -0" is 5
@@ -114,7 +114,7 @@ cases =
 
 -- ---- further files
 
--- "Meshes follow one another, codes strictly rising, first four digits all equal."
+-- RULES 2.2: meshes follow one another, codes rise strictly, the first four digits are the same
 unfoldable pub twoMeshes : List ℕ
 twoMeshes = sheetS ++ withMesh 533946 1 7
 

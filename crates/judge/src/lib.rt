@@ -1,8 +1,8 @@
-// The judge (document 01, "Order of judgement and refusal numbers", "Measures"): one answer to every
-// file, the first broken rule in 01's order; the table and the measures in the lent buffers; and a
-// layer's two sums. Every public function takes every file and every buffer.
+// The judge (RULES 6, 8, 9.1, 9.2): one answer to every file, the first broken rule in the order of
+// RULES 6.1; the table and the measures in the lent buffers; and a layer's two sums. Every public
+// function takes every file and every buffer.
 //
-// The contracts cite `specs/`: `Rulebook` has the rules in 01's order, `Outcomes` what is answered and
+// The contracts cite `specs/`: `Rulebook` has the rules in that order, `Outcomes` what is answered and
 // what each lent buffer holds afterwards.
 use layers::Bases;
 use layers::Layer;
@@ -224,7 +224,7 @@ fn outside_sum(file: &[u8], table: &[u32], l: Layer, kept: &[i64]) -> i64
 
 // ---- the calls
 
-// A verdict by 01's numbers, with the need where it is told; the counts and records of acceptance.
+// A verdict by refusal numbers, with the need where it is told; the counts and records of acceptance.
 fn outcome_of(v: Verdict, c: Counts, records: usize) -> Outcome
     requires { ⌜ Countable c × (records ≤ 6399936) ⌝ }
     ensures { λ r. ⌜ r ≡ outcomeBy v c records (c .words) ⌝ }

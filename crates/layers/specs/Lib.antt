@@ -1,3 +1,3 @@
--- What the contracts of `layers` cite: document 01, "a number names only a record of its own layer".
+-- What the contracts of `layers` cite: what a number names, only in its own layer (RULES 2.7, 6.7).
 pub mod Naming
 pub mod Passing

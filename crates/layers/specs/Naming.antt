@@ -1,6 +1,6 @@
--- What a number names (document 01: "Node, line and area serials start again at 1 in each layer of each mesh, and a number names only a
--- record of its own layer"). A layer is a row of the table t: its H record, how many nodes, lines and areas it has, and where its lines
--- and areas begin in the table. Assumes nothing.
+-- What a number names (RULES 2.7, 6.7): nodes, lines and areas are numbered from 1 in each layer of each mesh, and a number names only a
+-- record of its own layer. A layer is a row of the table t: its H record, how many nodes, lines and areas it has, and where its lines
+-- and areas begin in the table (RULES 8.1). Assumes nothing.
 --   layerIn t b i    layer i of the table t, counted from 0; b says where the lines and the areas of all layers begin
 --   names n v        v is one of the serials 1 to n
 --   namesLine n v    v, with or without its sign turned, is one of them
@@ -17,7 +17,7 @@ use Rattle.walk.specs.Stages.{mostRecords}
 use Rattle.layers.specs.declared.Bases.{Bases}
 use Rattle.layers.specs.declared.Layer.{Layer}
 
--- word j of row i: "H record, nodes, lines, areas"
+-- RULES 8.1: word j of row i, which is four words: H record, nodes, lines, areas
 abbrev pub rowWord : List ℕ → ℕ → ℕ → ℕ
 rowWord t i j = getD t (rowLength * i + j) 0
 
@@ -26,6 +26,7 @@ unfoldable pub wordsBefore : List ℕ → ℕ → ℕ → ℕ
 wordsBefore t j zero = 0
 wordsBefore t j (suc i) = wordsBefore t j i + rowWord t i j
 
+-- RULES 8.1: the layer of row i; its lines and its areas stand behind those of the rows before it
 abbrev pub rowLayer : List ℕ → Bases → ℕ → Layer
 rowLayer t b i = record {
   head = rowWord t i 0;
@@ -39,25 +40,26 @@ rowLayer t b i = record {
 abbrev pub noLayer : Layer
 noLayer = record { head = 0; nodes = 0; lines = 0; areas = 0; line = 0; area = 0 }
 
--- a file has no more layers than records
+-- RULES 2.1: a file has no more layers than records
 unfoldable pub layerIn : List ℕ → Bases → ℕ → Layer
 layerIn t b i = cond (leb i mostRecords) (rowLayer t b i) noLayer
 
+-- RULES 2.7: numbers count from 1, so 0 names nothing
 unfoldable pub names : ℕ → ℤ → Bool
 names n v = within 1 n v
 
--- an entry names a line whatever its sign, which says how the line is walked
+-- RULES 1.2, 6.7: an entry names a line by its size, whatever its sign, which says how the line is walked
 unfoldable pub namesLine : ℕ → ℤ → Bool
 namesLine n v = leb 1 (size v) && leb (size v) n
 
--- nodes stand behind their H, one record each
+-- RULES 2.3: nodes stand behind their H, one record each
 unfoldable pub nodeOf : Layer → ℤ → ℕ
 nodeOf l v = cond (names (l .nodes) v) (l .head + size v) 0
 
--- "every line's L record"
+-- RULES 8.1: the table has each line's L record
 unfoldable pub lineOf : List ℕ → Layer → ℤ → ℕ
 lineOf t l v = cond (namesLine (l .lines) v) (getD t (l .line + (size v - 1)) 0) 0
 
--- "every area's A record"
+-- RULES 8.1: and each area's A record
 unfoldable pub areaOf : List ℕ → Layer → ℤ → ℕ
 areaOf t l v = cond (names (l .areas) v) (getD t (l .area + (size v - 1)) 0) 0

@@ -1,4 +1,4 @@
--- The layer of a record (document 01, "a number names only a record of its own layer"): each H begins another one. Assumes nothing.
+-- The layer of a record, in which its numbers name records (RULES 2.3, 2.7): each H begins another one. Assumes nothing.
 --   isLayer d           an H is due
 --   basesOf c           where the lines and the areas begin in the table of a file with the counts c
 --   layerAt file t b k  the layer of the record behind the first k
@@ -25,11 +25,11 @@ isLayer (Coordinates left) = false
 isLayer (Area layer last) = false
 isLayer (Loop last count left) = false
 
--- "one row a layer in file order ..; after all rows every line's L record; then every area's A record"
+-- RULES 8.1: a row for each layer; behind all rows each line's L record; then each area's A record
 unfoldable pub basesOf : Counts → Bases
 basesOf c = record { lines = rowLength * c .layers; areas = rowLength * c .layers + c .lines }
 
--- the layer of the record behind the first k
+-- RULES 2.7: the layer of the record behind the first k
 unfoldable pub layerAt : List ℕ → List ℕ → Bases → ℕ → layers.Layer
 layerAt file t b k = layerIn t b (countsAt file k .layers - 1)
 

@@ -1,5 +1,5 @@
-// What a number names (document 01, "a number names only a record of its own layer"): the layers of a
-// table, and the records of their nodes, lines and areas. Every public function takes every input.
+// What a number names (RULES 2.7, 6.7): the layers of a table (RULES 8.1), and the records of their
+// nodes, lines and areas. Every public function takes every input.
 //
 // The contracts cite `specs/`: `Naming` says what a number names, `Passing` the layer of a record.
 use rules::Due;

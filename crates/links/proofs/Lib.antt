@@ -1,5 +1,5 @@
 -- Laws of stage 4. `NodeLaws` has the slots of an N, `LineLaws` the checks of lines, points and loop records, `StageLaws` the loop over
--- all records, `InOrder` that the rules stand in 01's order; `Numbers` has what an answer says of a number that was passed on.
+-- all records, `InOrder` that the rules stand in the order of RULES 6.1; `Numbers` has what an answer says of a number that was passed on.
 pub mod Numbers
 pub mod NodeLaws
 pub mod LineLaws

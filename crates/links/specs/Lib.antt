@@ -1,3 +1,3 @@
--- What the contracts of `links` cite: document 01, stage 4.
+-- What the contracts of `links` cite: stage 4 (RULES 6.7).
 pub mod Links
 pub mod Scanning

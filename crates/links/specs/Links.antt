@@ -1,12 +1,12 @@
--- Stage 4 (document 01, refusals 11 to 14): what the numbers of a layer name, and whether both sides say the same. The table t says where
--- lines and areas stand; l is the layer of the record. "A check that needs a number which names nothing waits: 11 speaks for it."
+-- Stage 4 (RULES 6.7, refusals 11 to 14): what the numbers of a layer name, and whether both sides say the same. The table t says where
+-- lines and areas stand; l is the layer of the record. A check waits where a number that it needs names nothing: 11 speaks for it.
 -- Assumes nothing.
 --   nodeChecks ..     of an N's entries: 11, 12, 13
 --   lineEndChecks ..  of one end of a line: its node number (11, 14) and its link (12)
 --   sideChecks ..     of one side of a line: its code (12) and its area number (11)
 --   pointChecks ..    of a line's first and last point (12)
 --   entryChecks ..    of a loop record's entries: 11
---   stageFour file t b   all of them, in 01's order; b says where the lines and the areas begin in the table
+--   stageFour file t b   all of them, in the order of RULES 6.1; b says where the lines and the areas begin in the table
 use mathlib.Core.Bool.{Bool, true, false, cond, _&&_, _||_, not}
 use mathlib.Core.List.{List, [], _∷_, _++_}
 use Prim.Native.Nat.{ℕ, zero, suc, _+_, _*_, _-_}
@@ -34,7 +34,7 @@ isZero v = eqb (size v) 0
 unfoldable pub equal : ℤ → ℤ → Bool
 equal a b = same (natural a) (natural b) && eqb (size a) (size b)
 
--- the entry v is +n; or, backwards, -n
+-- RULES 1.2: the entry v is +n; or, backwards, -n
 unfoldable pub entryIs : Bool → ℕ → ℤ → Bool
 entryIs back n v = eqb (size v) n && same back (not (natural v))
 
@@ -43,32 +43,33 @@ unfoldable pub some : ℕ → (ℕ → Bool) → Bool
 some zero f = false
 some (suc n) f = some n f || f n
 
--- a record's own serial: of an N and of an L, "serial 7-11"
+-- RULES 4.3, 4.4: a record's own serial, at 7 in an N and in an L
 abbrev pub serialIn : List ℕ → ℕ → ℕ
 serialIn file r = size (numberIn file r 7 5)
 
 -- ---- N
 
--- slot i of an N: "nine line numbers of width 5 in 26-70"
+-- RULES 4.3: slot i of an N, of nine of width 5 from 26 on
 unfoldable pub nodeEntry : List ℕ → ℕ → ℕ → ℤ
 nodeEntry file r i = numberIn file r (26 + 5 * i) 5
 
--- the node where line v starts, or, backwards, ends: "start node 18-22", "end node 24-28"
+-- RULES 4.4: the node where line v starts, at 18, or, backwards, ends, at 24
 unfoldable pub endNode : List ℕ → List ℕ → layers.Layer → ℤ → ℤ
 endNode file t l v = numberIn file (lineOf t l v) (cond (natural v) 18 24) 5
 
--- "12: a node entry +n where line n doesn't start there, or -n where it doesn't end there"
+-- RULES 6.7, 12: the line of an entry +n starts at this node, that of -n ends here; it waits where the entry names no line, or that end of
+-- the line no node
 unfoldable pub meets : List ℕ → List ℕ → layers.Layer → ℕ → ℤ → Bool
 meets file t l r v =
     not (namesLine (l .lines) v)
     || (not (names (l .nodes) (endNode file t l v))
     || eqb (size (endNode file t l v)) (serialIn file r))
 
--- "13: an entry repeats an earlier one of the same node"
+-- RULES 6.7, 13: an entry of a node is the same, sign and all, as an earlier one of that node
 unfoldable pub repeatsNode : List ℕ → ℕ → ℕ → Bool
 repeatsNode file r i = some i (λ j. equal (nodeEntry file r i) (nodeEntry file r j))
 
--- a slot that is 0 is no entry
+-- RULES 6.7, 11 to 13: slot i of an N; a slot that is 0 is empty (RULES 1.3)
 unfoldable pub nodeSlot : List ℕ → List ℕ → layers.Layer → ℕ → ℕ → List Check
 nodeSlot file t l r i =
     check (26 + 5 * i) 11 (isZero (nodeEntry file r i) || namesLine (l .lines) (nodeEntry file r i))
@@ -76,20 +77,22 @@ nodeSlot file t l r i =
     ∷ check (26 + 5 * i) 13 (isZero (nodeEntry file r i) || not (repeatsNode file r i))
     ∷ []
 
+-- RULES 6.7: an N's nine slots
 unfoldable pub nodeChecks : List ℕ → List ℕ → layers.Layer → ℕ → List Check
 nodeChecks file t l r = spread 9 (nodeSlot file t l r)
 
 -- ---- L
 
--- the N at record r lists +n, or, backwards, -n
+-- RULES 6.7, 14: the N at record r lists +n, or, backwards, -n
 unfoldable pub listed : List ℕ → ℕ → Bool → ℕ → Bool
 listed file r back n = some 9 (λ i. entryIs back n (nodeEntry file r i))
 
--- "12: a link that is 0 on a frame node or not 0 elsewhere": "frame 22-23"
+-- RULES 6.7, 12: a link is 0 exactly where its node's frame is 0
 unfoldable pub linkFits : ℤ → ℤ → Bool
 linkFits link frame = same (isZero link) (isZero frame)
 
--- the end of the line at record r whose node number stands at column c and whose link stands at column k
+-- RULES 6.7, 11, 14, 12: the end of the line at record r whose node number stands at column c and whose link stands at column k; an N's
+-- frame is at 22 (RULES 4.3)
 unfoldable pub lineEndChecks : List ℕ → layers.Layer → ℕ → ℕ → ℕ → Bool → List Check
 lineEndChecks file l r c k back =
     check c 11 (names (l .nodes) (numberIn file r c 5))
@@ -97,15 +100,16 @@ lineEndChecks file l r c k back =
     ∷ check k 12 (not (names (l .nodes) (numberIn file r c 5)) || linkFits (numberIn file r k 1) (numberIn file (nodeOf l (numberIn file r c 5)) 22 2))
     ∷ []
 
--- the side whose code stands at column c and whose area number stands at column a: "12: an L's code unlike its area's"; "11: (area 0
--- aside)"; an A's "code 5-9"
+-- RULES 6.7, 12, 11: the side whose code stands at column c and whose area number stands at column a: the code is that of its area, at 5
+-- of the A (RULES 4.6); the area number names an area or is 0
 unfoldable pub sideChecks : List ℕ → List ℕ → layers.Layer → ℕ → ℕ → ℕ → List Check
 sideChecks file t l r c a =
     check c 12 (not (names (l .areas) (numberIn file r a 5)) || equal (numberIn file r c 5) (numberIn file (areaOf t l (numberIn file r a 5)) 5 5))
     ∷ check a 11 (isZero (numberIn file r a 5) || names (l .areas) (numberIn file r a 5))
     ∷ []
 
--- "start node 18-22, its link 23; end node 24-28, its link 29; left code 30-34, left area 35-39; right code 40-44, right area 45-49"
+-- RULES 4.4: start node at 18, its link at 23; end node at 24, its link at 29; left code at 30, left area at 35; right code at 40, right
+-- area at 45
 unfoldable pub lineChecks : List ℕ → List ℕ → layers.Layer → ℕ → List Check
 lineChecks file t l r =
     lineEndChecks file l r 18 23 false
@@ -115,36 +119,40 @@ lineChecks file t l r =
 
 -- ---- coordinates
 
--- pair i of the coordinate record r is where the N that v names stands: "X 12-16", "Y 17-21"
+-- RULES 6.7, 12: pair i of the coordinate record r is where the N that v names stands, by its X at 12 and its Y at 17 (RULES 4.3, 4.5); it
+-- waits where v names none
 unfoldable pub atNode : List ℕ → layers.Layer → ℤ → ℕ → ℕ → Bool
 atNode file l v r i =
     not (names (l .nodes) v)
     || (equal (numberIn file r (1 + 10 * i) 5) (numberIn file (nodeOf l v) 12 5)
     && equal (numberIn file r (6 + 10 * i) 5) (numberIn file (nodeOf l v) 17 5))
 
--- "12: a line's first or last point unlike its node (at that point's X)". `left` points are left of the line whose L is record q, this
--- record's among them: the first point is pair 0 where all are left, the last one is pair `left - 1` where no more than seven are
+-- RULES 6.7, 12: a line's first point is where its start node is; at that point's X. `left` points are left of the line whose L is record q,
+-- this record's among them: the first point is pair 0 where all are left, the last one is pair `left - 1` where no more than seven are
 unfoldable pub firstPointChecks : List ℕ → layers.Layer → ℕ → ℕ → ℕ → List Check
 firstPointChecks file l q r left = cond (ltb 1 left && eqb left (size (numberIn file q 50 6))) (check 1 12 (atNode file l (numberIn file q 18 5) r 0) ∷ []) []
 
+-- RULES 6.7, 12: its last point is where its end node is
 unfoldable pub lastPointChecks : List ℕ → layers.Layer → ℕ → ℕ → ℕ → List Check
 lastPointChecks file l q r left = cond (ltb 0 left && leb left 7) (check (1 + 10 * (left - 1)) 12 (atNode file l (numberIn file q 24 5) r (left - 1)) ∷ []) []
 
+-- RULES 6.7, 12: both, by column
 unfoldable pub pointChecks : List ℕ → layers.Layer → ℕ → ℕ → ℕ → List Check
 pointChecks file l q r left = firstPointChecks file l q r left ++ lastPointChecks file l q r left
 
 -- ---- loop records
 
--- slot i of a loop record: "twelve line numbers of width 5 in 10-69"
+-- RULES 4.7: slot i of a loop record, of twelve of width 5 from 10 on
 unfoldable pub loopEntry : List ℕ → ℕ → ℕ → ℤ
 loopEntry file r i = numberIn file r (10 + 5 * i) 5
 
+-- RULES 6.7, 11: each entry of a loop record names a line
 unfoldable pub entryChecks : List ℕ → layers.Layer → ℕ → List Check
 entryChecks file l r = spread 12 (λ i. check (10 + 5 * i) 11 (isZero (loopEntry file r i) || namesLine (l .lines) (loopEntry file r i)) ∷ [])
 
 -- ---- the stage
 
--- record r, due as d, in the layer l; `line` lines of the layer came before it
+-- RULES 6.7: record r, due as d, in the layer l; `line` lines of the layer came before it
 abbrev pub linkChecks : Due → List ℕ → List ℕ → layers.Layer → ℕ → ℕ → List Check
 linkChecks (Mesh last) file t l line r = []
 linkChecks (Layer last) file t l line r = []
@@ -154,10 +162,11 @@ linkChecks (Coordinates left) file t l line r = pointChecks file l (getD t (l .l
 linkChecks (Area layer last) file t l line r = []
 linkChecks (Loop last count left) file t l line r = entryChecks file l r
 
--- stage 4 is judged fifth
+-- RULES 6.1: stage 4 is judged fifth
 abbrev pub fifth : ℕ
 fifth = 5
 
+-- RULES 6.7: the whole stage, record by record
 unfoldable pub stageFour : List ℕ → List ℕ → Bases → List Rule
 stageFour file t b =
     rows (recordsOf file) (λ k. block fifth (k + 1) (linkChecks (dueOf (stateAt file k)) file t (layerAt file t b k) (stateAt file k .line) (k + 1)))

@@ -1,4 +1,4 @@
-// Stage 4 of the judge (document 01, refusals 11 to 14): what the numbers of a layer name, and whether
+// Stage 4 of the judge (RULES 6.7, refusals 11 to 14): what the numbers of a layer name, and whether
 // both sides say the same. Every public function takes every file and every table.
 //
 // The contracts cite `specs/Links.antt`.

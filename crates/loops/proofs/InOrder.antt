@@ -1,4 +1,4 @@
--- The rules of stage 5 stand in 01's order, all are of the sixth turn, and every one has a number above 9. Assumes nothing.
+-- The rules of stage 5 stand in the order of RULES 6.1, all are of the sixth turn, and every one has a number above 9. Assumes nothing.
 use mathlib.Core.Bool.{Bool, true, false, cond}
 use mathlib.Core.List.{List, [], _∷_, _++_}
 use mathlib.Core.Path.{_≡_, refl}

@@ -1,3 +1,3 @@
--- What the contracts of `loops` cite: document 01, stage 5.
+-- What the contracts of `loops` cite: stage 5 (RULES 6.8).
 pub mod Loops
 pub mod Scanning

@@ -1,11 +1,11 @@
--- Stage 5 (document 01, refusals 13 in an area, 15, 16 and 17): whether an area's loops close, turn the right way round and have the area
+-- Stage 5 (RULES 6.8, refusals 13 in an area, 15, 16 and 17): whether an area's loops close, turn the right way round and have the area
 -- on their right hand. The table t says where lines and areas stand; l is the layer of the loop record r. Assumes nothing.
 --   repeatsArea file a e   slot e of the area whose A is record a repeats an earlier one
 --   joins ..               an entry begins where the one before it ends
 --   winds serial m         a loop's measure m has the sign that its serial asks for
 --   rightArea ..           the area on an entry's right hand
 --   loopChecks ..          all of them, of a loop record
---   stageFive file t b     of all loop records, in 01's order
+--   stageFive file t b     of all loop records, in the order of RULES 6.1
 use mathlib.Core.Bool.{Bool, cond, _||_, not}
 use mathlib.Core.List.{List, [], _∷_, _++_}
 use Prim.Native.Nat.{ℕ, _+_, _*_, _-_, _/_}
@@ -30,27 +30,28 @@ use Rattle.entries.specs.Loops.{loopMeasureIn}
 
 -- ---- slots
 
--- "13: an entry repeats an earlier one of .. the same area"
+-- RULES 6.8, 13: an entry of an area is the same, sign and all, as an earlier one of that area, in whichever loop
 unfoldable pub repeatsArea : List ℕ → ℕ → ℕ → Bool
 repeatsArea file a e = some e (λ j. equal (slotOf file (a + 1) e) (slotOf file (a + 1) j))
 
--- the node where line v ends or, backwards, starts
+-- RULES 4.4: the node where line v ends, at 24, or, backwards, starts, at 18
 unfoldable pub lastNode : List ℕ → List ℕ → layers.Layer → ℤ → ℤ
 lastNode file t l v = numberIn file (lineOf t l v) (cond (natural v) 24 18) 5
 
--- "the entry before it (for the first: .. the loop's last)"; f is the loop's first record
+-- RULES 6.8, 15: the entry before a loop's first is the loop's last; f is the loop's first record
 unfoldable pub entryBefore : List ℕ → ℕ → ℕ → ℤ
 entryBefore file f e = slotOf file f (cond (eqb e 0) (countAt file f - 1) (e - 1))
 
--- "15: an entry's first node is not the last node of the entry before it"
+-- RULES 6.8, 15: the node where an entry begins is the node where the entry before it ends
 unfoldable pub joins : List ℕ → List ℕ → layers.Layer → ℕ → ℕ → ℤ → Bool
 joins file t l f e v = equal (endNode file t l v) (lastNode file t l (entryBefore file f e))
 
--- "17: +n in an area that is not n's right, -n in one that is not its left": "left area 35-39", "right area 45-49"
+-- RULES 6.8, 17: the area that has to have the entry: of +n line n's right one, at 45; of -n its left one, at 35 (RULES 4.4)
 unfoldable pub rightArea : List ℕ → List ℕ → layers.Layer → ℤ → ℤ
 rightArea file t l v = numberIn file (lineOf t l v) (cond (natural v) 45 35) 5
 
--- slot i of the loop record r, of the area `area` whose A is record a, in the loop whose first record is f. A slot that is 0 is no entry
+-- RULES 6.8, 13, 15, 17: slot i of the loop record r, of the area `area` whose A is record a, in the loop whose first record is f. A slot
+-- that is 0 is no entry (RULES 1.3)
 unfoldable pub loopSlot : List ℕ → List ℕ → layers.Layer → ℕ → ℕ → ℕ → ℕ → ℕ → List Check
 loopSlot file t l a area f r i =
     check (10 + 5 * i) 13 (isZero (loopEntry file r i) || not (repeatsArea file a (12 * (r - (a + 1)) + i)))
@@ -60,22 +61,23 @@ loopSlot file t l a area f r i =
 
 -- ---- the loop
 
--- "the first clockwise, the others counterclockwise"; "clockwise is above 0"
+-- RULES 6.8, 16: the first loop is clockwise, above 0; the others, whose serials are below 0, counterclockwise, below 0
 unfoldable pub winds : ℤ → ℤ → Bool
 winds serial m = cond (natural serial) (ltZ (pos 0) m) (ltZ m (pos 0))
 
--- "16: loop measure 0, or its sign unlike the serial's (loop's first record)". Entries are left of a loop that has begun
+-- RULES 6.8, 16: a loop's measure has the sign of its serial; at column 1 of its first record. Entries are left of a loop that has begun
 unfoldable pub windChecks : List ℕ → List ℕ → layers.Layer → ℕ → ℕ → List Check
 windChecks file t l r left = cond (ltb 0 left) [] (check 1 16 (winds (numberIn file r 1 5) (loopMeasureIn file t l r)) ∷ [])
 
--- the loop's first record: of its `count` entries `left` are left, twelve a record
+-- RULES 2.6: the loop's first record: of its `count` entries `left` are left, twelve a record
 unfoldable pub firstRecord : ℕ → ℕ → ℕ → ℕ
 firstRecord r count left = cond (ltb 0 left) (r - (count - left) / 12) r
 
--- the A of the layer's area `area`
+-- RULES 8.1: the A of the layer's area `area`
 unfoldable pub areaRecord : List ℕ → layers.Layer → ℕ → ℕ
 areaRecord t l area = getD t (l .area + (area - 1)) 0
 
+-- RULES 6.8: a loop record: its loop, then its twelve slots
 unfoldable pub loopChecks : List ℕ → List ℕ → layers.Layer → ℕ → ℕ → ℕ → ℕ → List Check
 loopChecks file t l area count left r =
     windChecks file t l r left
@@ -83,7 +85,7 @@ loopChecks file t l area count left r =
 
 -- ---- the stage
 
--- record r, due as d, in the layer l; its last area is `area`
+-- RULES 6.8: record r, due as d, in the layer l; its last area is `area`
 abbrev pub areaChecks : Due → List ℕ → List ℕ → layers.Layer → ℕ → ℕ → List Check
 areaChecks (Mesh last) file t l area r = []
 areaChecks (Layer last) file t l area r = []
@@ -93,10 +95,11 @@ areaChecks (Coordinates left) file t l area r = []
 areaChecks (Area layer last) file t l area r = []
 areaChecks (Loop last count left) file t l area r = loopChecks file t l area count left r
 
--- stage 5 is judged sixth
+-- RULES 6.1: stage 5 is judged sixth
 abbrev pub sixth : ℕ
 sixth = 6
 
+-- RULES 6.8: the whole stage, record by record
 unfoldable pub stageFive : List ℕ → List ℕ → Bases → List Rule
 stageFive file t b =
     rows (recordsOf file) (λ k. block sixth (k + 1) (areaChecks (dueOf (stateAt file k)) file t (layerAt file t b k) (stateAt file k .area) (k + 1)))

@@ -1,4 +1,4 @@
-// Stage 5 of the judge (document 01, refusals 13 in an area, 15, 16 and 17): whether an area's loops
+// Stage 5 of the judge (RULES 6.8, refusals 13 in an area, 15, 16 and 17): whether an area's loops
 // close, turn the right way round and have the area on their right hand. Every public function takes
 // every file and every table.
 //

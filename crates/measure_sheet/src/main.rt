@@ -1,4 +1,4 @@
-// Document 01's program `measure`, over standard input.
+// The program `measure` over standard input (RULES 12.2).
 fn main() {
     report::measure(0);
 }

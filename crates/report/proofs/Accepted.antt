@@ -14,7 +14,7 @@ use Rattle.judge.specs.Rulebook.{verdictOf}
 use Rattle.judge.specs.Outcomes.{measuresOf, measuresAfter}
 use Rattle.report.specs.Texts.{shownIn, measuresTold}
 
--- "serial 10-14", "code 5-9"
+-- RULES 4.6: an A's serial at 10, its code at 5
 pub serial-told : (file : List ℕ) (s : State) (k : ℕ) → shownIn s (recordOf file k) .area ≡ size (numberIn file k 10 5)
 unfolding shownIn sizeIn numberIn
 serial-told file s k = refl
@@ -28,7 +28,7 @@ module _ (file : List ℕ) (h : verdictOf file 3540 443 ≡ Fine) where
   unfolding measuresAfter
   measures-stand = rw h
 
-  -- "one line an area in file order": measure i is the file's
+  -- RULES 12.2: one line an area, in file order: measure i is the file's
   pub measure-told : (i : ℕ) → i < length (measuresOf file) → getD (measuresTold file) i (pos 0) ≡ getD (measuresOf file) i (pos 0)
   measure-told i l =
       ap (λ ms. getD ms i (pos 0)) measures-stand ∙ List·getD-append (measuresOf file) (drop (length (measuresOf file)) (replicate 443 (pos 0))) (pos 0) i l

@@ -1,4 +1,4 @@
--- What the programs `check` and `measure` print (document 01, "The smallest sheet and its neighbours"). Assumes nothing.
+-- What the programs `check` and `measure` print (RULES 12). Assumes nothing.
 --   decimal n          a number below 10^20: digits, no leading zeros
 --   signed z           a signed one: "-" before the digits where it is below 0
 --   lineOf name n      a line: the name, the number, a line feed
@@ -33,13 +33,14 @@ unfoldable pub signed : ℤ → List ℕ
 signed (pos n) = decimal n
 signed (negsuc n) = 45 ∷ decimal (suc n)
 
+-- RULES 12.3: each printed line ends with one
 abbrev pub lineFeed : List ℕ
 lineFeed = 10 ∷ []
 
 abbrev pub lineOf : List ℕ → ℕ → List ℕ
 lineOf name n = (name ++ decimal n) ++ lineFeed
 
--- "status=ok\n"
+-- RULES 12.1: "status=ok\n"
 abbrev pub statusOk : List ℕ
 statusOk = 115 ∷ 116 ∷ 97 ∷ 116 ∷ 117 ∷ 115 ∷ 61 ∷ 111 ∷ 107 ∷ 10 ∷ []
 
@@ -67,7 +68,7 @@ areasName = 97 ∷ 114 ∷ 101 ∷ 97 ∷ 115 ∷ 61 ∷ []
 abbrev pub recordsName : List ℕ
 recordsName = 114 ∷ 101 ∷ 99 ∷ 111 ∷ 114 ∷ 100 ∷ 115 ∷ 61 ∷ []
 
--- "status=refused\n"
+-- RULES 12.1: "status=refused\n"
 abbrev pub statusRefused : List ℕ
 statusRefused = 115 ∷ 116 ∷ 97 ∷ 116 ∷ 117 ∷ 115 ∷ 61 ∷ 114 ∷ 101 ∷ 102 ∷ 117 ∷ 115 ∷ 101 ∷ 100 ∷ 10 ∷ []
 
@@ -83,11 +84,11 @@ recordName = 114 ∷ 101 ∷ 99 ∷ 111 ∷ 114 ∷ 100 ∷ 61 ∷ []
 abbrev pub columnName : List ℕ
 columnName = 99 ∷ 111 ∷ 108 ∷ 117 ∷ 109 ∷ 110 ∷ 61 ∷ []
 
--- "status=toolong\n"
+-- RULES 12.1: "status=toolong\n"
 abbrev pub statusTooLong : List ℕ
 statusTooLong = 115 ∷ 116 ∷ 97 ∷ 116 ∷ 117 ∷ 115 ∷ 61 ∷ 116 ∷ 111 ∷ 111 ∷ 108 ∷ 111 ∷ 110 ∷ 103 ∷ 10 ∷ []
 
--- "mesh="
+-- RULES 12.2: "mesh="
 abbrev pub meshName : List ℕ
 meshName = 109 ∷ 101 ∷ 115 ∷ 104 ∷ 61 ∷ []
 
@@ -107,7 +108,7 @@ codeName = 32 ∷ 99 ∷ 111 ∷ 100 ∷ 101 ∷ 61 ∷ []
 abbrev pub measureName : List ℕ
 measureName = 32 ∷ 109 ∷ 101 ∷ 97 ∷ 115 ∷ 117 ∷ 114 ∷ 101 ∷ 61 ∷ []
 
--- "A refused file gives four lines"
+-- RULES 12.1: of a refused file four lines
 unfoldable pub refusedText : Outcome → List ℕ
 refusedText o =
     statusRefused
@@ -115,7 +116,7 @@ refusedText o =
     ++ (lineOf recordName (o .place)
     ++ lineOf columnName (o .column)))
 
--- "For S it prints, whole": "Counts are over the whole file."
+-- RULES 12.1: of an accepted file seven lines, with the counts over the whole file
 unfoldable pub okText : Outcome → List ℕ
 okText o =
     statusOk
@@ -126,12 +127,13 @@ okText o =
     ++ (lineOf areasName (o .areas)
     ++ lineOf recordsName (o .records))))))
 
+-- RULES 12.1: number 0 is acceptance
 unfoldable pub outcomeText : Outcome → List ℕ
 outcomeText o = cond (eqb (o .number) 0) (okText o) (refusedText o)
 
 -- ---- the areas
 
--- "mesh=533945 layer=1 area=1 code=13101 measure=200000000", and a line feed
+-- RULES 12.2, 12.3: as mesh=533945 layer=1 area=1 code=13101 measure=200000000, and a line feed
 unfoldable pub areaText : Shown → ℤ → List ℕ
 areaText x m =
     (meshName ++ decimal (x .mesh))
@@ -142,11 +144,11 @@ areaText x m =
     ++ (signed m
     ++ lineFeed)))))
 
--- of the A record t, due in the state s: "code 5-9; serial 10-14"; "layer being the layer code"
+-- RULES 12.2: of the A record t, due in the state s: its code at 5, its serial at 10 (RULES 4.6); layer is the layer code
 unfoldable pub shownIn : State → List ℕ → Shown
 shownIn s t = record { mesh = s .mesh; layer = s .layer; area = sizeIn t 10 5; code = sizeIn t 5 5 }
 
--- of the record t, due as d, where m is the measure: only an A has a line
+-- RULES 12.2: of the record t, due as d, where m is the measure: only an A has a line
 unfoldable pub recordText : Due → State → List ℕ → ℤ → List ℕ
 recordText (Mesh last) s t m = []
 recordText (Layer last) s t m = []
@@ -166,7 +168,7 @@ areaCount (Coordinates left) = 0
 areaCount (Area layer last) = 1
 areaCount (Loop last count left) = 0
 
--- of the first k records, "one line an area in file order"; ms has the areas' measures
+-- RULES 12.2: of the first k records, one line an area, in file order; ms has the areas' measures
 unfoldable pub areasText : List ℕ → List ℤ → ℕ → List ℕ
 areasText file ms zero = []
 areasText file ms (suc k) =
@@ -175,11 +177,11 @@ areasText file ms (suc k) =
 
 -- ---- the programs
 
--- "up to 65,490 bytes (885 records; beyond, it prints only `status=toolong`)"
+-- RULES 12.1: up to 65,490 bytes, 885 records; of a longer input only `status=toolong`
 abbrev pub bounded : List ℕ → List ℕ → List ℕ
 bounded input text = cond (ltb 65490 (length input)) statusTooLong text
 
--- the judge's answer, with buffers that are long enough for 885 records
+-- RULES 12.3: the judge's answer, with buffers that are long enough for 885 records
 abbrev pub answerTo : List ℕ → Outcome
 answerTo file = outcomeOf file 3540 443
 
@@ -187,11 +189,11 @@ answerTo file = outcomeOf file 3540 443
 abbrev pub measuresTold : List ℕ → List ℤ
 measuresTold file = measuresAfter file 3540 (replicate 443 (pos 0))
 
--- "Program `check`"
+-- RULES 12.1: the program `check`
 unfoldable pub checkText : List ℕ → List ℕ
 checkText input = bounded input (outcomeText (answerTo input))
 
--- "Program `measure`, same input and bound, prints .. one line an area in file order ..; other outcomes as in `check`"
+-- RULES 12.2: the program `measure`: of an accepted file one line an area, in file order; otherwise what `check` prints
 unfoldable pub measureText : List ℕ → List ℕ
 measureText input =
     bounded input (cond (eqb (answerTo input .number) 0) (areasText input (measuresTold input) (recordsOf input)) (refusedText (answerTo input)))

@@ -1,6 +1,6 @@
-// What the programs `check` and `measure` print of an input (document 01, "The smallest sheet and its
-// neighbours"). The text is put into a buffer, and the contracts say which text; what is printed is that
-// buffer's first bytes, written in one call.
+// What the programs `check` and `measure` print of an input (RULES 12). The text is put into a
+// buffer, and the contracts say which text; what is printed is that buffer's first bytes, written in
+// one call.
 //
 // The contracts cite `specs/`: `Texts` has the text of every input.
 use judge::Outcome;

@@ -1,4 +1,4 @@
--- The rules of stage 6 stand in 01's order, all are of the seventh turn, and every one has a number above 9. Assumes nothing.
+-- The rules of stage 6 stand in the order of RULES 6.1, all are of the seventh turn, and every one has a number above 9. Assumes nothing.
 use mathlib.Core.Bool.{true}
 use mathlib.Core.List.{List}
 use mathlib.Core.Path.{_≡_, refl}

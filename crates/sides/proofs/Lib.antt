@@ -1,5 +1,5 @@
 -- Laws of stage 6. `Marked` has the search of an area and the marks that spare it, `StageLaws` the checks of a line and the loop over all
--- records, `InOrder` that the rules stand in 01's order.
+-- records, `InOrder` that the rules stand in the order of RULES 6.1.
 pub mod Marked
 pub mod StageLaws
 pub mod InOrder

@@ -1,3 +1,3 @@
--- What the contracts of `sides` cite: document 01, stage 6.
+-- What the contracts of `sides` cite: stage 6 (RULES 6.9).
 pub mod Sides
 pub mod Marking

@@ -1,9 +1,9 @@
--- Stage 6 (document 01, refusal 18): whether each side of each line is listed in its area. The table t says where areas stand; l is the
+-- Stage 6 (RULES 6.9, refusal 18): whether each side of each line is listed in its area. The table t says where areas stand; l is the
 -- layer of the L at record r. Assumes nothing.
 --   lists file a back n    the area whose A is record a has the entry +n or, backwards, -n
 --   sideListed ..          the area that stands at a column has it; area 0 is nobody
 --   listChecks ..          of both sides of a line
---   stageSix file t b      of all lines, in 01's order
+--   stageSix file t b      of all lines, in the order of RULES 6.1
 use mathlib.Core.Bool.{Bool, true, false, _||_}
 use mathlib.Core.List.{List, [], _∷_}
 use Prim.Native.Nat.{ℕ, _+_}
@@ -20,21 +20,22 @@ use Rattle.layers.specs.Passing.{layerAt}
 use Rattle.links.specs.Links.{isZero, entryIs, some}
 use Rattle.entries.specs.Entries.{slotOf, slotsOf}
 
+-- RULES 6.9, 18: some entry of the area, in whichever loop, is +n or, backwards, -n
 unfoldable pub lists : List ℕ → ℕ → Bool → ℕ → Bool
 lists file a back n = some (slotsOf file a) (λ e. entryIs back n (slotOf file (a + 1) e))
 
--- line n's area at column c
+-- RULES 6.9, 18: line n's area at column c is 0, or has +n or, backwards, -n
 unfoldable pub sideListed : List ℕ → List ℕ → layers.Layer → ℕ → ℕ → Bool → ℕ → Bool
 sideListed file t l r c back n = isZero (numberIn file r c 5) || lists file (areaOf t l (numberIn file r c 5)) back n
 
--- "18: line n's left area, not 0, has no entry -n, or its right area, not 0, no entry +n": "left area 35-39", "right area 45-49"
+-- RULES 6.9, 18: line n's left area, at 35, is 0 or has the entry -n; its right area, at 45, is 0 or has +n
 unfoldable pub listChecks : List ℕ → List ℕ → layers.Layer → ℕ → ℕ → List Check
 listChecks file t l r n =
     check 35 18 (sideListed file t l r 35 true n)
     ∷ check 45 18 (sideListed file t l r 45 false n)
     ∷ []
 
--- record r, due as d, in the layer l; the line behind line `last` is the next
+-- RULES 6.9: record r, due as d, in the layer l; the line behind line `last` is the next
 abbrev pub lineListChecks : Due → List ℕ → List ℕ → layers.Layer → ℕ → List Check
 lineListChecks (Mesh last) file t l r = []
 lineListChecks (Layer last) file t l r = []
@@ -44,10 +45,11 @@ lineListChecks (Coordinates left) file t l r = []
 lineListChecks (Area layer last) file t l r = []
 lineListChecks (Loop last count left) file t l r = []
 
--- stage 6 is judged seventh
+-- RULES 6.1: stage 6 is judged seventh
 abbrev pub seventh : ℕ
 seventh = 7
 
+-- RULES 6.9: the whole stage, record by record
 unfoldable pub stageSix : List ℕ → List ℕ → Bases → List Rule
 stageSix file t b =
     rows (recordsOf file) (λ k. block seventh (k + 1) (lineListChecks (dueOf (stateAt file k)) file t (layerAt file t b k) (k + 1)))

@@ -1,4 +1,4 @@
-// Stage 6 of the judge (document 01, refusal 18): whether each side of each line is listed in its area.
+// Stage 6 of the judge (RULES 6.9, refusal 18): whether each side of each line is listed in its area.
 // Every public function takes every file and every table.
 //
 // The contracts cite `specs/`: `Sides` has the rules of the stage, `Marking` the marks that spare searches.
