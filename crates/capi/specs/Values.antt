@@ -1,4 +1,4 @@
--- The records of C: a kind is a number there (RULES 4.8, 9.4, 9.5). Assumes nothing.
+-- The records of C: a kind is a number there (RULES 9.7; 4.8, 9.4, 9.5). Assumes nothing.
 --   kindOf n         the kind that the number n stands for, if it stands for one: 1 M, 2 H, 3 N, 4 L, 5 coordinates, 6 A, 7 loop
 --   numberOf k       the number that stands for the kind k
 --   recordOf k v     the value v as a record of kind k, and valueOf r the record r with its kind as a number
@@ -23,7 +23,7 @@ use Rattle.capi.specs.declared.Found.{Found}
 
 -- ---- the kinds by number
 
--- in the order of RULES 4.1 to 4.7, from number 0 on, which stands for none
+-- RULES 9.7: in the order of RULES 4.1 to 4.7, from number 0 on, which stands for none
 abbrev pub kinds : List Meant
 kinds = Nothing ∷ A Mesh ∷ A Layer ∷ A Node ∷ A Line ∷ A Coordinates ∷ A Area ∷ A Loop ∷ []
 
@@ -51,7 +51,7 @@ valueOf r = record { kind = numberOf (r .kind); numbers = r .numbers; name = r .
 abbrev pub foundIn : Reading → Found
 foundIn r = record { number = r .number; place = r .place; column = r .column; value = valueOf (r .value) }
 
--- a number that stands for no kind is 3 at record 1, column 1, whatever the bytes: no letters are those of a kind that there isn't. All else is 0
+-- RULES 9.7: a number that stands for no kind is 3 at record 1, column 1, whatever the bytes: no letters are those of a kind that there isn't. All else is 0
 abbrev pub noKind : Found
 noKind = record { number = 3; place = 1; column = 1; value = record { kind = 0; numbers = zeros; name = noName } }
 
@@ -65,7 +65,7 @@ foundOf n s = foundBy (kindOf n) s
 
 -- ---- writing
 
--- RULES 9.5: 21 where the buffer has under 74 bytes, judged first; a value of no kind doesn't fit, and the buffer is untouched
+-- RULES 9.5, 9.7: 21 where the buffer has under 74 bytes, judged first; a value of no kind doesn't fit, and the buffer is untouched
 pub record NotWritten (before : List ℕ) (number : ℕ) (after : List ℕ) : Type 0 where
   pub answer : number ≡ cond (leb 74 (length before)) 20 21
   pub buffer : after ≡ before
