@@ -29,6 +29,7 @@ abbrev pub valueOf : Number → ℤ
 valueOf (number.Value v) = v
 valueOf number.Refused = pos 0
 
+-- RULES 3.5: the same of a name or a blank field
 abbrev pub textRefusal : Text → ℕ
 textRefusal text.WellFormed = 0
 textRefusal text.Refused = 5

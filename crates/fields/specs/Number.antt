@@ -59,6 +59,7 @@ signedOf (b ∷ bs) = cond (isMinus b) (minus (plainOf bs)) (plainOf (b ∷ bs))
 abbrev pub isWidth : ℕ → Bool
 isWidth w = leb 1 w && leb w 6
 
+-- RULES 3.1, 3.2: a field of that width, by what follows the spaces
 unfoldable pub numberOf : List ℕ → Number
 numberOf f = cond (isWidth (length f)) (signedOf (afterBlanks f)) Refused
 

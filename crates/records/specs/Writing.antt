@@ -74,8 +74,8 @@ pub record SpelledAs (r : Record) (ok : Bool) (bytes : List ℕ) : Type 0 where
   pub answer : ok ≡ fitsAll r
   pub text : ok ≡ true → bytes ≡ lineOf r
 
--- RULES 9.5: 21 for a buffer under 74 bytes, judged first; 20 for what does not fit; the record stands in the first 74 bytes on
--- success, and nothing else changes
+-- RULES 9.5: 21 for a buffer under 74 bytes, judged first; 20 for what does not fit; on success the record stands in the first 74
+-- bytes and nothing else changes; on a refusal nothing does
 pub record Written (before : List ℕ) (r : Record) (number : ℕ) (after : List ℕ) : Type 0 where
   pub answer : number ≡ cond (leb 74 (length before)) (cond (fitsAll r) 0 20) 21
   pub buffer : after ≡ cond (leb 74 (length before) && fitsAll r) (lineOf r ++ drop 74 before) before

@@ -128,7 +128,7 @@ lined s t = record {
   entries = s .entries;
 }
 
--- RULES 2.6: behind a coordinate record, which has seven points
+-- RULES 2.6: behind a coordinate record: it takes seven of the points that are left
 abbrev pub pointed : State → State
 pointed s = record {
   mesh = s .mesh;
@@ -166,7 +166,7 @@ bounded s t = record {
   entries = 0;
 }
 
--- RULES 2.5, 2.6: behind a loop's first record: line count 6-9; behind a later one; each has twelve entries
+-- RULES 2.5, 2.6: behind a loop's first record: line count 6-9; behind a later one; each takes twelve of the entries that are left
 abbrev pub begunLoop : State → ℕ → State
 begunLoop s n = record {
   mesh = s .mesh;
