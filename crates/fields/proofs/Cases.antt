@@ -1,5 +1,5 @@
--- Document 01's worked number fields ("The smallest sheet and its neighbours", "Proved"), with the ends of the range of width 1 and of
--- width 2, as one list under one theorem. Assumes nothing.
+-- The worked number fields of RULES 11.2, with the ends of the range of width 1 and of width 2, as one list under one theorem.
+-- Assumes nothing.
 use mathlib.Core.List.{List, [], _∷_, map}
 use mathlib.Core.Path.{_≡_, refl}
 use Prim.Native.Nat.{ℕ}
@@ -20,7 +20,7 @@ cases =
     ∷ (45 ∷ 57 ∷ [])
     ∷ []
 
--- "   -1" is -1; "00001", "   -0" and five spaces are 5; "0" and "9" are 0 and 9, "-" is 5, "-9" is -9
+-- RULES 11.2: "   -1" is -1; "00001", "   -0" and five spaces are 5. Beside it: "0" and "9" are 0 and 9, "-" is 5, "-9" is -9
 unfoldable pub answers : List Number
 answers =
     Value (negsuc 0) ∷ Refused ∷ Refused ∷ Refused ∷ Value (pos 0) ∷ Value (pos 9) ∷ Refused ∷ Value (negsuc 8) ∷ []

@@ -45,7 +45,7 @@ pub number-read : (s : List ℕ) (c w : ℕ) (v : ℤ) → Says s c w v → numb
 unfolding numberAt
 number-read s c w v h = rw (h .there, h .spelled) (read-spelled w v (h .held))
 
--- the answer by document 01's numbers: 0 with the value that the field says, or 5 where it says none
+-- the answer by refusal number (RULES 6.2): 0 with the value that the field says, or 5 where it says none
 answer-by : (s : List ℕ) (c w : ℕ) (r : Number) → numberAt s c w ≡ r
     → ((numberRefusal r ≡ 0) × Says s c w (valueOf r)) ⊎ ((numberRefusal r ≡ 5) × ((v : ℤ) → Says s c w v → ⊥))
 answer-by s c w (number.Value v) e = inl (refl, number-says s c w v e)
@@ -167,7 +167,7 @@ blank-written-read s c w i = text-written-read isBlanks s c w (replicate w 32) i
 pub blank-read-written : (s : List ℕ) (c w : ℕ) → textAt isBlanks s c w ≡ text.WellFormed → put s c (replicate w 32) ≡ s
 blank-read-written s c w e = rw (← blank-bytes s c w e) (text-read-written isBlanks s c w e)
 
--- ---- the other answers by document 01's numbers: 5 for what is not well formed, 20 for what does not fit
+-- ---- the other answers by refusal number (RULES 6.2): 5 for what is not well formed, 20 for what does not fit
 
 text-number-by : (t : Bool) → textRefusal (cond t text.WellFormed text.Refused) ≡ cond t 0 5
 text-number-by true = refl

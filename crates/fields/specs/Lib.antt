@@ -1,4 +1,4 @@
--- What the contracts of `fields` cite: document 01, "Fields", a file for each notion.
+-- What the contracts of `fields` cite: RULES 3 (Fields), a file for each notion.
 pub mod Place
 pub mod Number
 pub mod Spelling

@@ -1,5 +1,4 @@
--- What a number field says (document 01, "Fields": "I is decimal, right aligned, spaces in front"), for every width at once.
--- Assumes nothing.
+-- What a number field says (RULES 3.1, 3.2), for every width at once. Assumes nothing.
 --   numberOf f       the answer to the bytes f of a whole field: their value, or a refusal
 --   numberAt s c w   the answer to the w columns of s from column c on
 --   holds w v        width w holds the value v
@@ -24,49 +23,50 @@ isMinus b = eqb b 45
 abbrev pub isDigit : ℕ → Bool
 isDigit b = leb 48 b && leb b 57
 
--- "spaces in front": what follows them
+-- RULES 3.1: spaces stand in front; what follows them
 unfoldable pub afterBlanks : List ℕ → List ℕ
 afterBlanks [] = []
 afterBlanks (b ∷ bs) = cond (isBlank b) (afterBlanks bs) (b ∷ bs)
 
--- "decimal": the digits up to the end, where those before them came to n
+-- RULES 3.1: decimal digits up to the end, where those before them came to n
 unfoldable pub digitsOf : ℕ → List ℕ → Number
 digitsOf n [] = Value (pos n)
 digitsOf n (b ∷ bs) = cond (isDigit b) (digitsOf (n * 10 + (b - 48)) bs) Refused
 
--- "zero is "0"": after a first digit 0 there is nothing
+-- RULES 3.1, ours: zero is "0"; after a first digit 0 there is nothing
 abbrev pub zeroThen : List ℕ → Number
 zeroThen [] = Value (pos 0)
 zeroThen (b ∷ bs) = Refused
 
--- "no leading zeros"; no digit at all is wrong
+-- RULES 3.1, ours: no leading zeros; no digit at all is wrong
 unfoldable pub plainOf : List ℕ → Number
 plainOf [] = Refused
 plainOf (b ∷ bs) = cond (eqb b 48) (zeroThen bs) (digitsOf 0 (b ∷ bs))
 
--- "no "-0""
+-- RULES 3.1, ours: never "-0"
 abbrev pub minus : Number → Number
 minus (Value (pos zero)) = Refused
 minus (Value (pos (suc n))) = Value (negsuc n)
 minus (Value (negsuc n)) = Refused
 minus Refused = Refused
 
--- ""-" directly before the digits"; "all blank is wrong"
+-- RULES 3.1, ours: a minus sign stands directly before the digits; a field of spaces alone is wrong
 unfoldable pub signedOf : List ℕ → Number
 signedOf [] = Refused
 signedOf (b ∷ bs) = cond (isMinus b) (minus (plainOf bs)) (plainOf (b ∷ bs))
 
--- the widths that 01's number fields have
+-- RULES 3.2: number fields are 1 to 6 columns wide
 abbrev pub isWidth : ℕ → Bool
 isWidth w = leb 1 w && leb w 6
 
+-- RULES 3.1, 3.2: a field of that width, by what follows the spaces
 unfoldable pub numberOf : List ℕ → Number
 numberOf f = cond (isWidth (length f)) (signedOf (afterBlanks f)) Refused
 
 unfoldable pub numberAt : List ℕ → ℕ → ℕ → Number
 numberAt s c w = cond (isInside s c w) (numberOf (bytesAt s c w)) Refused
 
--- "Width w holds -(10^(w-1)-1) to 10^w-1; width 1 holds 0 to 9"
+-- RULES 3.2: a field of w columns holds -(10^(w-1) - 1) to 10^w - 1; one column holds 0 to 9
 abbrev pub lowest : ℕ → ℤ
 lowest w = negℤ (pos (10 ^ (w - 1) - 1))
 

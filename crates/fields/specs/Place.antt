@@ -1,4 +1,4 @@
--- Where a field stands (document 01, "The file": "Columns and records count from 1"). Assumes nothing.
+-- Where a field stands (RULES 1.4: columns count from 1). Assumes nothing.
 --   isInside s c w   the w columns from column c on lie within s
 --   bytesAt s c w    their bytes
 --   put s c t        s with the bytes t from column c on
@@ -8,7 +8,7 @@ use Prim.Native.Nat.{ℕ, _+_, _-_}
 use lib.Dec.{leb}
 use lib.ListN.{length, take, drop}
 
--- there is no column 0
+-- RULES 1.4: there is no column 0
 unfoldable pub isInside : List ℕ → ℕ → ℕ → Bool
 isInside s c w = leb 1 c && leb (c - 1 + w) (length s)
 

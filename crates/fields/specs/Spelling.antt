@@ -1,4 +1,4 @@
--- How a value is spelled in a number field (document 01, "Fields": "right aligned, spaces in front"), column by column from the right.
+-- How a value is spelled in a number field (RULES 3.1: digits at the right end, spaces in front), column by column from the right.
 -- Assumes nothing.
 --   spell w v        the w columns of the value v
 --   columns w l      the last w columns, where l is still to be written
@@ -20,7 +20,7 @@ lastOf Blanks = 32
 lastOf Minus = 45
 lastOf (Digits n minus) = 48 + n % 10
 
--- what is left before it: the other digits, ""-" directly before the digits", "spaces in front"
+-- RULES 3.1: what is left before it: the other digits, a minus sign directly before the digits, spaces in front
 abbrev pub restOf : Left → Left
 restOf Blanks = Blanks
 restOf Minus = Blanks

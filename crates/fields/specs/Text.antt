@@ -1,4 +1,4 @@
--- The other fields (document 01, "Fields"): N is two-byte Shift JIS, X is spaces. Assumes nothing.
+-- The other fields (RULES 3.3, 3.4): a name is two-byte characters of Shift JIS, a blank is spaces. Assumes nothing.
 --   isName f         the bytes f are two-byte characters
 --   isBlanks f       the bytes f are spaces
 --   textAt p s c w   the answer to the w columns of s from column c on, where p says what is well formed
@@ -13,17 +13,17 @@ use Rattle.fields.specs.declared.Text.the-variants.{WellFormed, Refused}
 abbrev pub within : ℕ → ℕ → ℕ → Bool
 within low high b = leb low b && leb b high
 
--- "lead 81-9F or E0-FC, trail 40-7E or 80-FC"
+-- RULES 3.3: the first byte is 81 to 9F or E0 to FC, the second 40 to 7E or 80 to FC
 abbrev pub isPair : ℕ → ℕ → Bool
 isPair a b = (within 0x81 0x9f a || within 0xe0 0xfc a) && (within 0x40 0x7e b || within 0x80 0xfc b)
 
--- "N is two-byte Shift JIS"
+-- RULES 3.3: two-byte characters from end to end
 unfoldable pub isName : List ℕ → Bool
 isName [] = true
 isName (a ∷ []) = false
 isName (a ∷ b ∷ bs) = cond (isPair a b) (isName bs) false
 
--- "X is spaces"
+-- RULES 3.4: spaces alone
 unfoldable pub isBlanks : List ℕ → Bool
 isBlanks [] = true
 isBlanks (b ∷ bs) = cond (eqb b 32) (isBlanks bs) false

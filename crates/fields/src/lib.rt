@@ -1,9 +1,9 @@
-// The fields of a record (document 01, "Fields"): numbers, names and blanks, read and written in
+// The fields of a record (RULES 3): numbers, names and blanks, read and written in
 // place. A field is named by the buffer it stands in, its first column, counted from 1, and its
 // width. Every public function takes every buffer, column and width.
 //
 // The contracts cite `specs/`: `Number` and `Spelling` say what a number field is, `Text` what the
-// other two are, `Answer` which refusal of document 01 an answer stands for.
+// other two are, `Answer` which refusal number an answer stands for.
 ghost use mathlib.Core.Bool.{true};
 ghost use mathlib.Core.Path.{_≡_};
 ghost use mathlib.Core.List.{[], _∷_, _++_};
@@ -250,7 +250,7 @@ pub fn sum_of_five(s: &[u8], column: usize) -> u32
 }
 
 // Reads the number field of `width` columns from `column` on. Refused: a field that is not in `s`,
-// a width that is not 1 to 6, and every spelling but the one that document 01 gives to a value.
+// a width that is not 1 to 6, and every spelling but the one that RULES 3.1 gives to a value.
 pub fn read_number(s: &[u8], column: usize, width: usize) -> Number
     ensures { λ r. ⌜ r ≡ numberAt (now (s .entry)) column width ⌝ }
 {
@@ -312,8 +312,8 @@ fn blanks(f: &[u8]) -> bool
     true
 }
 
-// Whether `a`, `b` is a two-byte character of Shift JIS: "lead 81-9F or E0-FC, trail 40-7E or
-// 80-FC".
+// Whether `a`, `b` is a two-byte character of Shift JIS (RULES 3.3): the first byte is 81 to 9F or
+// E0 to FC, the second 40 to 7E or 80 to FC.
 fn pair(a: u8, b: u8) -> bool
     ensures { λ r. ⌜ r ≡ isPair a b ⌝ }
 {
@@ -424,8 +424,8 @@ fn fill(buf: &mut [u8], at: usize, width: usize, left: Left)
     }
 }
 
-// Whether `width` columns hold `value`: "Width w holds -(10^(w-1)-1) to 10^w-1; width 1 holds 0 to
-// 9".
+// Whether `width` columns hold `value` (RULES 3.2): w columns hold -(10^(w-1) - 1) to 10^w - 1, and
+// one column 0 to 9.
 fn in_range(width: usize, value: i32) -> bool
     ensures { λ r. ⌜ r ≡ holds width value ⌝ }
 {

@@ -1,4 +1,4 @@
--- What the rules say of an area's entries (document 01, refusals 11, 13, 17 and 18), without a file: n lines, each with a left and a
+-- What the rules say of an area's entries (RULES 6.7 to 6.9: 11, 13, 17 and 18), without a file: n lines, each with a left and a
 -- right area, and the entries of an area. Assumes nothing.
 --   stands e es                       e is one of the entries es
 --   Known, NoRepeat, Own, Present     rules 11, 13, 17, 18
@@ -39,19 +39,20 @@ areaOf left right (minus i) = left i
 abbrev pub Named : ℕ → Entry → Type 0
 Named n e = (0 < lineOf e) × (lineOf e ≤ n)
 
+-- RULES 6.7, 11: each entry names a line
 abbrev pub Known : ℕ → List Entry → Type 0
 Known n es = Each (Named n) es
 
--- 13: no entry stands twice
+-- RULES 6.8, 13: no entry stands twice
 abbrev pub NoRepeat : List Entry → Type 0
 NoRepeat [] = Unit {0}
 NoRepeat (e ∷ es) = (stands e es ≡ false) × NoRepeat es
 
--- 17: each entry is area a's own
+-- RULES 6.8, 17: each entry is area a's own
 abbrev pub Own : (ℕ → ℕ) → (ℕ → ℕ) → ℕ → List Entry → Type 0
 Own left right a es = Each (λ e. areaOf left right e ≡ a) es
 
--- 18: none of area a's entries is missing
+-- RULES 6.9, 18: none of area a's entries is missing
 abbrev pub Present : ℕ → (ℕ → ℕ) → (ℕ → ℕ) → ℕ → List Entry → Type 0
 Present n left right a es = (e : Entry) → Named n e → areaOf left right e ≡ a → stands e es ≡ true
 

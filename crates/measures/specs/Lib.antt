@@ -1,4 +1,4 @@
--- What the contracts of `measures` cite: document 01, "Measures".
+-- What the contracts of `measures` cite: RULES 7 (Measures).
 pub mod Sum
 pub mod Measures
 pub mod Points

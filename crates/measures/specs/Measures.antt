@@ -1,4 +1,4 @@
--- Measures (document 01, "Measures": "X runs east, Y north"; "All are doubled areas, signed"), of points, entries and loops.
+-- Measures (RULES 7: X runs east, Y north; all are doubled areas, with a sign), of points, entries and loops.
 -- Assumes nothing.
 --   lineMeasure ps   of a line with the points ps
 --   loopMeasure m es of a loop with the entries es, where m gives each line's measure
@@ -25,33 +25,33 @@ steps [] = []
 steps (p ∷ []) = []
 steps (p ∷ q ∷ ps) = record { from = p; to = q } ∷ steps (q ∷ ps)
 
--- "x2*y1 - x1*y2"
+-- RULES 7.1: x2*y1 - x1*y2
 abbrev pub cross : Point → Point → ℤ
 cross p q = (q .x *ℤ p .y) -ℤ (p .x *ℤ q .y)
 
--- "A line's measure is the sum over its successive points of x2*y1 - x1*y2."
+-- RULES 7.1: a line's measure is the sum of that over each two points that follow one another
 unfoldable pub lineMeasure : List Point → ℤ
 lineMeasure ps = sum (λ s. cross (s .from) (s .to)) (steps ps)
 
--- an entry of a loop: +n, line n forwards, or -n, line n backwards
+-- RULES 1.2: an entry of a loop: +n, line n forwards, or -n, line n backwards
 pub data Entry : Type 0 where
   plus : ℕ → Entry
   minus : ℕ → Entry
 
--- "+n adding line n's and -n taking it away"
+-- RULES 7.2: +n adds line n's measure, -n takes it away
 abbrev pub entryMeasure : (ℕ → ℤ) → Entry → ℤ
 entryMeasure m (plus n) = m n
 entryMeasure m (minus n) = negℤ (m n)
 
--- "A loop's is the sum over its entries"
+-- RULES 7.2: a loop's measure is the sum over its entries
 unfoldable pub loopMeasure : (ℕ → ℤ) → List Entry → ℤ
 loopMeasure m es = sum (entryMeasure m) es
 
--- "An area's is the sum of its loops'."
+-- RULES 7.3: an area's measure is the sum of its loops'
 unfoldable pub areaMeasure : (ℕ → ℤ) → List (List Entry) → ℤ
 areaMeasure m ls = sum (loopMeasure m) ls
 
--- "outside sum adds the measures of lines with left area 0 and right area not 0, and takes away those with right area 0 and left area
--- not 0"
+-- RULES 7.4: the outside sum adds the measure of a line whose left area is 0 and whose right area is not, and takes away that of one
+-- whose right area is 0 and whose left area is not
 abbrev pub outside : ℕ → ℕ → ℤ → ℤ
 outside l r z = cond (eqb l 0) (cond (eqb r 0) (pos 0) z) (cond (eqb r 0) (negℤ z) (pos 0))

@@ -10,7 +10,7 @@ use Rattle.fields.specs.declared.Number.the-variants as number
 use Rattle.records.specs.View.{recordOf}
 use Rattle.measures.specs.Points.{pointCount}
 
--- a coordinate starts at column c: "X and Y 0 to 10000"
+-- RULES 5.5: a coordinate starts at column c, and it is 0 to 10000
 pub record SoundAt (s : List ℕ) (c : ℕ) : Type 0 where
   pub value : ℕ
   pub permitted : value ≤ 10000

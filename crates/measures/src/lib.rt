@@ -1,4 +1,4 @@
-// Measures of lines (document 01, "Measures"): i64 sums of signed cross products over the coordinate
+// Measures of lines (RULES 7.1): i64 sums of signed cross products over the coordinate
 // records of a file. Every public function takes every file and every record number.
 //
 // The contracts cite `specs/`: `Measures` says what a line's, a loop's and an area's measure is,
@@ -35,7 +35,7 @@ fn coordinate(s: &[u8], column: usize) -> i64
     v as i64
 }
 
-// One step: "x2*y1 - x1*y2" from where the walk stands.
+// One step (RULES 7.1): x2*y1 - x1*y2 from where the walk stands.
 fn step(w: Walk, x: i64, y: i64) -> Walk
     requires { ⌜ (Near 1000000000000000 w) × (Small 10000 x) × (Small 10000 y) ⌝ }
     ensures { λ r. ⌜ r ≡ stepTo w (record { x = x; y = y }) ⌝ }

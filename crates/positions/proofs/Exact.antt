@@ -1,4 +1,4 @@
--- "each whole number, converted exactly" (document 01, "Latitude and longitude"): a permitted point's two whole numbers, as f64 and back,
+-- Each whole number is converted exactly (RULES 10): a permitted point's two whole numbers, as f64 and back,
 -- are the same numbers. Assumes nothing.
 use mathlib.Core.Bool.{Bool, true, false, _&&_}
 use mathlib.Core.Path.{_≡_, refl}

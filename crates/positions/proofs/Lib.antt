@@ -1,4 +1,4 @@
--- `Worked` has document 01's worked positions, `Exact` that the conversion to f64 loses nothing; the other files serve the proofs.
+-- `Worked` has the worked positions of RULES 10, `Exact` that the conversion to f64 loses nothing; the other files serve the proofs.
 pub mod Worked
 pub mod Exact
 pub mod Rules

@@ -1,4 +1,4 @@
--- Where a point lies in degrees (document 01, "Latitude and longitude"), for any whole numbers. Assumes nothing.
+-- Where a point lies in degrees (RULES 10), for any whole numbers. Assumes nothing.
 --   pp m, uu m, q m, v m    the digits of a mesh code m
 --   isMeshCode m            m is a permitted mesh code
 --   isCoordinate n          n is a permitted X or Y
@@ -17,7 +17,7 @@ use lib.Ieee.{Float, fin, binary64, div, ofInt}
 use Rattle.positions.specs.declared.Position.{Position}
 use Rattle.positions.specs.declared.Placed.{Placed}
 
--- "Mesh digits pp uu q v"
+-- RULES 10: the digits of a mesh code are pp, uu, q, v
 abbrev pub pp : ℕ → ℕ
 pp m = m / 10000
 
@@ -30,41 +30,41 @@ q m = m / 10 % 10
 abbrev pub v : ℕ → ℕ
 v m = m % 10
 
--- "Mesh code 100000 to 999999, last two digits each 0 to 7"
+-- RULES 5.1: a mesh code is 100000 to 999999, the last two digits 0 to 7 each
 unfoldable pub isMeshCode : ℕ → Bool
 isMeshCode m = leb 100000 m && leb m 999999 && leb (q m) 7 && leb (v m) 7
 
--- "X and Y 0 to 10000"
+-- RULES 5.5: X and Y are 0 to 10000
 unfoldable pub isCoordinate : ℕ → Bool
 isCoordinate n = leb n 10000
 
--- "Latitude in hundredths of a second: pp*240000 + q*30000 + 3y"
+-- RULES 10: the latitude in hundredths of a second
 unfoldable pub hundredths : ℕ → ℕ → ℕ
 hundredths m y = pp m * 240000 + q m * 30000 + 3 * y
 
--- "Longitude in 200ths: (100+uu)*720000 + v*90000 + 9x"
+-- RULES 10: the longitude in 200ths of a second
 unfoldable pub twoHundredths : ℕ → ℕ → ℕ
 twoHundredths m x = (100 + uu m) * 720000 + v m * 90000 + 9 * x
 
--- "Degrees are f64: each whole number, converted exactly, divided once by 360000 or 720000"
+-- RULES 10: degrees are 64-bit floating point numbers: each whole number, converted exactly, divided once, by 360000 or 720000
 unfoldable pub degrees : ℕ → ℕ → Float
 degrees n d = div binary64 (ofInt binary64 (pos n)) (ofInt binary64 (pos d))
 
 abbrev pub degreesOf : ℕ → ℕ → ℕ → Position
 degreesOf m x y = record { latitude = degrees (hundredths m y) 360000; longitude = degrees (twoHundredths m x) 720000 }
 
--- "A mesh code or coordinate not permitted: 6 at 0, 0, both degrees 0". The place is always 0, 0 and no part of the answer
+-- RULES 10: what is not permitted is 6, and both degrees are 0. The place is always 0, 0 and no part of the answer
 abbrev pub notPlaced : Placed
 notPlaced = record { number = 6; position = record { latitude = fin false 0 (pos 0); longitude = fin false 0 (pos 0) } }
 
--- 6, or acceptance, number 0, with the degrees
+-- RULES 10: 6, or acceptance, number 0, with the degrees
 unfoldable pub placed : ℕ → ℕ → ℕ → Placed
 placed m x y =
     cond (isMeshCode m && isCoordinate x && isCoordinate y)
     (record { number = 0; position = degreesOf m x y })
     notPlaced
 
--- a negative number is not permitted
+-- RULES 5.1, 5.5: a negative number is not permitted
 unfoldable pub positionOf : ℤ → ℤ → ℤ → Placed
 positionOf (negsuc m) x y = notPlaced
 positionOf (pos m) (negsuc x) y = notPlaced

@@ -1,2 +1,2 @@
--- What the contracts of `positions` cite: document 01, "Latitude and longitude".
+-- What the contracts of `positions` cite: RULES 10 (Positions).
 pub mod Degrees

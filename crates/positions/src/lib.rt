@@ -1,4 +1,4 @@
-// A point's latitude and longitude in degrees (document 01, "Latitude and longitude"), from the mesh
+// A point's latitude and longitude in degrees (RULES 10), from the mesh
 // code of its sheet and its X and Y there. The public function takes every number.
 //
 // The contracts cite `specs/Degrees.antt`.

@@ -1,5 +1,5 @@
--- The layout of each kind of record (document 01, "The file"): its fields in column order, each with its first column and its width.
--- "Each run of columns up to 72 not named below is one X field." Assumes nothing.
+-- The layout of each kind of record (RULES 4.1 to 4.7): its fields in column order, each with its first column and its width.
+-- RULES 3.4: each run of columns up to 72 that no other field has is one blank field. Assumes nothing.
 --   layoutOf k       the fields of kind k
 --   startOf, widthOf a field's first column, and how many columns it takes
 --   numbersOf, bytesOf   how many numbers and how many name bytes it gives to the record's value
@@ -15,7 +15,7 @@ abbrev pub row : ℕ → ℕ → ℕ → List Field
 row c w zero = []
 row c w (suc n) = Number c w ∷ row (c + w) w n
 
--- M: "M " 1-2; mesh code 3-8; name 9-28; layers 29-31; nodes 32-36; lines 37-41; areas 42-46; points 47-51; records 52-56
+-- RULES 4.1: M. "M " 1-2; mesh code 3-8; name 9-28; layers 29-31; nodes 32-36; lines 37-41; areas 42-46; points 47-51; records 52-56
 abbrev pub meshLayout : List Field
 meshLayout =
     Letters 77 32
@@ -30,7 +30,8 @@ meshLayout =
     ∷ Blank 57 16
     ∷ []
 
--- H: "H2" 1-2; layer 3-4; nodes 5-9; lines 10-14; areas 15-19; points 20-24; records 25-29; first made 31-34; last changed 36-39
+-- RULES 4.2: H. "H2" 1-2; layer code 3-4; nodes 5-9; lines 10-14; areas 15-19; points 20-24; records 25-29; first made 31-34;
+-- last changed 36-39
 abbrev pub layerLayout : List Field
 layerLayout =
     Letters 72 50
@@ -47,7 +48,8 @@ layerLayout =
     ∷ Blank 40 33
     ∷ []
 
--- N: "N " 1-2; layer 3-4; item 5-6; serial 7-11; X 12-16; Y 17-21; frame 22-23; count 24-25; nine line numbers of width 5 in 26-70
+-- RULES 4.3: N. "N " 1-2; layer code 3-4; item 5-6; serial 7-11; X 12-16; Y 17-21; frame 22-23; count 24-25; nine entries of width 5
+-- in 26-70
 abbrev pub nodeLayout : List Field
 nodeLayout =
     Letters 78 32
@@ -60,8 +62,8 @@ nodeLayout =
     ∷ Number 24 2
     ∷ (row 26 5 9 ++ (Blank 71 2 ∷ []))
 
--- L: "L " 1-2; layer 3-4; item 5-6; serial 7-11; kind 12-17; start node 18-22, its link 23; end node 24-28, its link 29;
--- left code 30-34, left area 35-39; right code 40-44, right area 45-49; points 50-55; 56-57 and 58-60
+-- RULES 4.4: L. "L " 1-2; layer code 3-4; item 5-6; serial 7-11; kind 12-17; start node 18-22, its link 23; end node 24-28,
+-- its link 29; left code 30-34, left area 35-39; right code 40-44, right area 45-49; points 50-55; unused 56-57 and 58-60
 abbrev pub lineLayout : List Field
 lineLayout =
     Letters 76 32
@@ -83,11 +85,11 @@ lineLayout =
     ∷ Blank 61 12
     ∷ []
 
--- Coordinates: seven X, Y pairs of width 5 in 1-70
+-- RULES 4.5: coordinates. X and Y of seven points, of width 5 each, in 1-70
 abbrev pub coordinatesLayout : List Field
 coordinatesLayout = row 1 5 14 ++ (Blank 71 2 ∷ [])
 
--- A: "A " 1-2; layer 3-4; code 5-9; serial 10-14; X 15-19; Y 20-24; loops 25-28; lines 29-32; name 33-72
+-- RULES 4.6: A. "A " 1-2; layer code 3-4; code 5-9; serial 10-14; X 15-19; Y 20-24; loops 25-28; lines 29-32; name 33-72
 abbrev pub areaLayout : List Field
 areaLayout =
     Letters 65 32
@@ -101,7 +103,7 @@ areaLayout =
     ∷ Name 33 40
     ∷ []
 
--- Loop: serial 1-5; line count 6-9; twelve line numbers of width 5 in 10-69
+-- RULES 4.7: loop. Serial 1-5; line count 6-9; twelve entries of width 5 in 10-69
 abbrev pub loopLayout : List Field
 loopLayout = Number 1 5 ∷ Number 6 4 ∷ (row 10 5 12 ++ (Blank 70 3 ∷ []))
 
@@ -114,7 +116,7 @@ layoutOf Coordinates = coordinatesLayout
 layoutOf Area = areaLayout
 layoutOf Loop = loopLayout
 
--- type letters stand in columns 1 and 2
+-- RULES 1.4: a field's place is the column where it starts; type letters stand in columns 1 and 2
 abbrev pub startOf : Field → ℕ
 startOf End = 0
 startOf (Letters a b) = 1

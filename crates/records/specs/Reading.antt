@@ -1,4 +1,4 @@
--- What a record's bytes say (document 01, "A single record, of the kind the caller names"), over any layout. Assumes nothing.
+-- What a record's bytes say (RULES 9.4, the reader), over any layout. Assumes nothing.
 --   faultOf f s      the refusal that field f of the record s gives: 0, 3, 5 or 7
 --   numbersIn, nameIn   what the field adds to the record's numbers and to its name
 --   firstFault L s   the first refusal along the layout L, with its column
@@ -23,10 +23,11 @@ use Rattle.records.specs.Layout.{layoutOf, startOf}
 
 -- ---- one field
 
--- "3: type letters wrong"; "7: letters are H1 where an H is due (then not 3)". a, b are due and x, y stand there
+-- RULES 6.4: 3 for letters that are not those due; 7, and then not 3, for H1 where an H is due. a, b are due and x, y stand there
 abbrev pub lettersFault : ℕ → ℕ → ℕ → ℕ → ℕ
 lettersFault a b x y = cond (eqb x a && eqb y b) 0 (cond (eqb a 72 && (eqb x 72 && eqb y 49)) 7 3)
 
+-- RULES 3.5: an ill-formed field is 5
 unfoldable pub faultOf : Field → List ℕ → ℕ
 faultOf End s = 0
 faultOf (Letters a b) s = lettersFault a b (getD s 0 0) (getD s 1 0)
@@ -34,7 +35,7 @@ faultOf (Number c w) s = numberRefusal (numberAt s c w)
 faultOf (Name c w) s = textRefusal (textAt isName s c w)
 faultOf (Blank c w) s = textRefusal (textAt isBlanks s c w)
 
--- "its numbers in column order and its name bytes"
+-- RULES 4.8: a record's numbers in column order, and its name bytes
 unfoldable pub numbersIn : Field → List ℕ → List ℤ
 numbersIn End s = []
 numbersIn (Letters a b) s = []
@@ -68,27 +69,29 @@ abbrev pub faultAt : ℕ → ℕ → Fault → Fault
 faultAt zero c p = p
 faultAt (suc n) c p = record { number = suc n; column = c }
 
+-- RULES 9.4: the first field with a fault, at the column where it starts
 unfoldable pub firstFault : List Field → List ℕ → Fault
 firstFault [] s = noFault
 firstFault (f ∷ fs) s = faultAt (faultOf f s) (startOf f) (firstFault fs s)
 
 -- ---- the record
 
--- "entries that the kind lacks are 0"
+-- RULES 4.8: room for 16 numbers and 40 name bytes; what a kind lacks is 0
 abbrev pub zeros : List ℤ
 zeros = replicate 16 (pos 0)
 
 abbrev pub noName : List ℕ
 noName = replicate 40 0
 
--- "Acceptance is number 0 at 0, 0"
+-- RULES 6.1: acceptance is number 0 at 0, 0
 abbrev pub accepted : Record → Reading
 accepted r = record { number = 0; place = 0; column = 0; value = r }
 
--- "record number 1"; "Refused, its value is the named kind with all else 0"
+-- RULES 9.4: the record's number is 1; refused, the value is the named kind with all else 0
 abbrev pub refusedAt : Kind → ℕ → ℕ → Reading
 refusedAt k n c = record { number = n; place = 1; column = c; value = record { kind = k; numbers = zeros; name = noName } }
 
+-- RULES 4.8: a record's value is its kind, its numbers and its name bytes
 abbrev pub valueIn : Kind → List ℕ → Record
 valueIn k s = record { kind = k; numbers = sets zeros 0 (over numbersIn (layoutOf k) s); name = sets noName 0 (over nameIn (layoutOf k) s) }
 
@@ -99,7 +102,7 @@ fieldsBy k s (suc n) c = refusedAt k (suc n) c
 unfoldable pub fieldsOf : Kind → List ℕ → Reading
 fieldsOf k s = fieldsBy k s (firstFault (layoutOf k) s .number) (firstFault (layoutOf k) s .column)
 
--- "not 74 bytes is 1 at column 1; then 2, 3, 5"; "2: byte 73 or 74 wrong, the first wrong"
+-- RULES 9.4: not 74 bytes is 1 at column 1; then 2, at the first wrong one of columns 73 and 74; then the fields
 unfoldable pub readingOf : Kind → List ℕ → Reading
 readingOf k s =
     cond (eqb (length s) 74)

@@ -1,4 +1,4 @@
--- How a record's value is written (document 01, refusals 20 and 21), over any layout. Assumes nothing.
+-- How a record's value is written (RULES 9.5, the writer), over any layout. Assumes nothing.
 --   textOf L ns nm   the columns of the layout L for the numbers ns and the name bytes nm
 --   fits L ns nm     whether each field holds its own and the unused entries are 0
 --   lineOf r         the record's 74 bytes
@@ -27,6 +27,7 @@ fieldText (Number c w) ns nm = spell w (getD ns 0 (pos 0))
 fieldText (Name c w) ns nm = take w nm
 fieldText (Blank c w) ns nm = replicate w 32
 
+-- RULES 9.5: a value fits its field, a name is two-byte characters
 unfoldable pub fieldFits : Field → List ℤ → List ℕ → Bool
 fieldFits End ns nm = true
 fieldFits (Letters a b) ns nm = true
@@ -40,7 +41,7 @@ unfoldable pub textOf : List Field → List ℤ → List ℕ → List ℕ
 textOf [] ns nm = []
 textOf (f ∷ fs) ns nm = fieldText f ns nm ++ textOf fs (drop (numbersOf f) ns) (drop (bytesOf f) nm)
 
--- "unused entry": what the kind lacks is 0
+-- RULES 9.5: an entry that the kind lacks is 0
 unfoldable pub every : {A : Type 0} → (A → Bool) → List A → Bool
 every p [] = true
 every p (x ∷ xs) = p x && every p xs
@@ -61,6 +62,7 @@ fits (f ∷ fs) ns nm = fieldFits f ns nm && fits fs (drop (numbersOf f) ns) (dr
 
 -- ---- a record's 74 bytes
 
+-- RULES 2.1: 72 columns, then CR and LF
 unfoldable pub lineOf : Record → List ℕ
 lineOf r = textOf (layoutOf (r .kind)) (r .numbers) (r .name) ++ (13 ∷ 10 ∷ [])
 
@@ -72,8 +74,8 @@ pub record SpelledAs (r : Record) (ok : Bool) (bytes : List ℕ) : Type 0 where
   pub answer : ok ≡ fitsAll r
   pub text : ok ≡ true → bytes ≡ lineOf r
 
--- "21: buffer under 74 bytes, judged before 20"; "20: value or unused entry doesn't fit"; "The writer's buffer changes in its first
--- 74 bytes, on success only."
+-- RULES 9.5: 21 for a buffer under 74 bytes, judged first; 20 for what does not fit; on success the record stands in the first 74
+-- bytes and nothing else changes; on a refusal nothing does
 pub record Written (before : List ℕ) (r : Record) (number : ℕ) (after : List ℕ) : Type 0 where
   pub answer : number ≡ cond (leb 74 (length before)) (cond (fitsAll r) 0 20) 21
   pub buffer : after ≡ cond (leb 74 (length before) && fitsAll r) (lineOf r ++ drop 74 before) before

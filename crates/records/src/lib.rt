@@ -1,4 +1,4 @@
-// The records of a file (document 01, "The file", "A single record", "A record view"): read, written
+// The records of a file (RULES 4, and the calls of RULES 9.4 to 9.6): read, written
 // and viewed. The layout of each kind stands once, in the functions named after the kinds, and is
 // read by one reader and one writer. Every public function takes every input.
 //
@@ -37,8 +37,8 @@ pub enum Field {
     Blank(usize, usize),
 }
 
-// A record's value: its kind, its numbers in column order and its name bytes. Entries that the kind
-// lacks are 0.
+// A record's value (RULES 4.8): its kind, its numbers in column order and its name bytes. What the
+// kind lacks is 0.
 pub struct Record {
     pub kind: Kind,
     pub numbers: [i32; 16],

@@ -1,4 +1,4 @@
--- The checks of stage 2 on one record, by column and number, kind by kind: the page to hold against document 01's layouts and table.
+-- The checks of stage 2 on one record, by column and number, kind by kind: the page to hold against the layouts of RULES 4.
 -- What a record holds decides which of them are kept and never which there are; antt computes the lists. Assumes nothing.
 use mathlib.Core.List.{List, [], _∷_, _++_, map}
 use mathlib.Core.Path.{_≡_, refl}

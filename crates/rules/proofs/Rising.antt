@@ -1,4 +1,4 @@
--- A record's checks stand in 01's order: by column, and by number at one column. Whatever a record holds, the columns and numbers are
+-- A record's checks stand in order (RULES 6.1): by column, and by number at one column. Whatever a record holds, the columns and numbers are
 -- the same, and antt computes that they rise. Assumes nothing.
 use mathlib.Core.Bool.{true}
 use mathlib.Core.List.{List}

@@ -1,4 +1,4 @@
--- The checks of stage 2 on one record, in the order of columns (document 01, refusals 3, 5, 6, 7 and 8): along its layout, each field's
+-- The checks of stage 2 on one record, in the order of columns (RULES 6.4: 3, 5, 6, 7 and 8): along its layout, each field's
 -- form and then what is asked of its value. Assumes nothing.
 --   kindOf d         the kind of record that is due
 --   formChecks f t   the checks of field f's form in the record t
@@ -36,7 +36,8 @@ kindOf (Loop last count left) = kind.Loop
 abbrev pub free : ℕ → Field → List ℕ → Bool
 free n f t = not (eqb (faultOf f t) n)
 
--- "3: type letters wrong", "7: letters are H1 where an H is due (then not 3)", both at column 1; "5: field ill formed", at its start
+-- RULES 6.4: 3 for letters that are not those due, 7, and then not 3, for H1 where an H is due, both at column 1; 5 for an ill-formed
+-- field, at its start
 unfoldable pub formChecks : Field → List ℕ → List Check
 formChecks End t = []
 formChecks (Letters a b) t = check 1 3 (free 3 (Letters a b) t) ∷ check 1 7 (free 7 (Letters a b) t) ∷ []
@@ -44,7 +45,7 @@ formChecks (Number c w) t = check c 5 (free 5 (Number c w) t) ∷ []
 formChecks (Name c w) t = check c 5 (free 5 (Name c w) t) ∷ []
 formChecks (Blank c w) t = check c 5 (free 5 (Blank c w) t) ∷ []
 
--- "6: value not permitted"; "8: out of step"; both at the field's start
+-- RULES 5: 6 for a value that is not permitted, 8 for one that is out of step; both at the field's start
 unfoldable pub valueChecks : ℕ → List Ask → List Check
 valueChecks c [] = []
 valueChecks c (permitted b ∷ l) = check c 6 b ∷ valueChecks c l
@@ -54,6 +55,7 @@ valueChecks c (inStep b ∷ l) = check c 8 b ∷ valueChecks c l
 abbrev pub withNumber : List ℤ → ℕ → List ℕ → ℕ → ℕ → List ℤ
 withNumber ns i t c w = set ns i (valueOf (numberAt t c w))
 
+-- RULES 6.4: field by field from the left, its form and then its value
 unfoldable pub along : (ℕ → List ℤ → List Ask) → List Field → ℕ → List ℤ → List ℕ → List Check
 along a [] i ns t = []
 along a (End ∷ L) i ns t = along a L i ns t

@@ -1,4 +1,4 @@
--- What the contracts of `rules` cite: document 01, "Permitted values" and stage 2 of "Order of judgement and refusal numbers".
+-- What the contracts of `rules` cite: RULES 5 (Permitted values) and 6.4 (Stage 2).
 pub mod Permitted
 pub mod Asks
 pub mod Checks

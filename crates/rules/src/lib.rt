@@ -1,8 +1,8 @@
-// Stage 2 on one record (document 01, "Permitted values"; refusals 3 and 5 to 8): the first broken rule
+// Stage 2 on one record (RULES 5; RULES 6.4, refusals 3 and 5 to 8): the first broken rule
 // in column order, along the record's layout. Every public function takes every input.
 //
 // The contracts cite `specs/`: `Permitted` has the permitted values, `Asks` what is asked of each number
-// of each kind, `Checks` the checks of a record in 01's order.
+// of each kind, `Checks` the checks of a record in the order of judgement.
 use fields::Glance;
 use fields::Number;
 use fields::Text;
@@ -83,7 +83,7 @@ fn is_mesh_code(v: i32) -> bool
     within(v, 100000, 999999) & ((n / 10 % 10 <= 7) & (n % 10 <= 7))
 }
 
-// Codes strictly rising, first four digits all equal.
+// Above the mesh code before, with the same first four digits.
 fn follows_mesh(last: usize, v: i32) -> bool
     ensures { λ r. ⌜ r ≡ followsMesh last v ⌝ }
 {
@@ -107,7 +107,7 @@ fn is_layer_code(v: i32) -> bool
     natural(v) & one_or_five(size(v))
 }
 
-// Codes rising.
+// Above the layer code before.
 fn follows_layer(last: usize, v: i32) -> bool
     ensures { λ r. ⌜ r ≡ followsLayer last v ⌝ }
 {

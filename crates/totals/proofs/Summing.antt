@@ -1,4 +1,4 @@
--- Stage 3 as the code judges it: sums record by record, and its rules in 01's order. Assumes nothing.
+-- Stage 3 as the code judges it: sums record by record, and its rules in the order of RULES 6.1. Assumes nothing.
 use mathlib.Core.Bool.{true, false, cond}
 use mathlib.Core.List.{List, [], _∷_}
 use mathlib.Core.Path.{_≡_, refl, sym, _∙_}
@@ -193,7 +193,7 @@ module _ (file : List ℕ) {n : ℕ} (e : n ≡ recordsOf file) where
   unfolding stageThree
   three-done k f l m = rows-done (totalsOf file) (recordsOf file) k (omega (arith, e)) (omega (arith, e)) f
 
--- ---- the rules in 01's order
+-- ---- the rules in the order of judgement
 
 total-rising : (d : Due) (file : List ℕ) (k : ℕ) → rising (totalChecks d file k) ≡ true
 unfolding meshTotals layerTotals areaTotals

@@ -1,3 +1,3 @@
--- What the contracts of `totals` cite: document 01, stage 3.
+-- What the contracts of `totals` cite: RULES 6.6 (Stage 3).
 pub mod Totals
 pub mod Adding

@@ -1,10 +1,10 @@
--- Stage 3 (document 01: "10: a total of M, H (records) or A (lines) is not what was counted"; "M's nodes, lines and areas are the sums
--- of its layers'; A's lines is the sum of its loops' line counts. The records totals take in the record that bears them (ours)").
+-- Stage 3 (RULES 6.6): 10 where a total of an M, an H or an A is not what was counted. M's nodes, lines and areas are the sums of its
+-- layers'; A's lines are the sum of its loops' line counts; M's and H's records take in the record that bears the total.
 -- Assumes nothing.
 --   rankOf d            0 for an M, 1 for an H, 3 for a loop record, 2 for the others
 --   sumsBehind r file k what follows the first k records, up to the next of rank r or above, added up
 --   totalChecks d file k   the checks of stage 3 on record k + 1, due as d
---   stageThree file     all of them, in 01's order
+--   stageThree file     all of them, in the order of RULES 6.1
 use mathlib.Core.Bool.{cond}
 use mathlib.Core.List.{List, [], _∷_}
 use Prim.Native.Nat.{ℕ, zero, suc, _+_, _-_}
@@ -35,7 +35,7 @@ noSums = record { records = 0; nodes = 0; lines = 0; areas = 0; entries = 0 }
 abbrev pub oneMore : Sums → Sums
 oneMore s = record { records = s .records + 1; nodes = s .nodes; lines = s .lines; areas = s .areas; entries = s .entries }
 
--- an H, with its totals: "nodes 5-9; lines 10-14; areas 15-19"
+-- RULES 4.2: an H, with its totals: nodes 5-9, lines 10-14, areas 15-19
 abbrev pub layerMore : Sums → List ℕ → Sums
 layerMore s t = record {
   records = s .records + 1;
@@ -45,7 +45,7 @@ layerMore s t = record {
   entries = s .entries;
 }
 
--- a loop's first record, with its line count: "line count 6-9"
+-- RULES 4.7: a loop's first record, with its line count, 6-9
 abbrev pub loopMore : Sums → List ℕ → Sums
 loopMore s t = record { records = s .records + 1; nodes = s .nodes; lines = s .lines; areas = s .areas; entries = s .entries + sizeIn t 6 4 }
 
@@ -72,11 +72,11 @@ sumsBehind r file k = sumsFrom r file k (recordsOf file - k) noSums
 
 -- ---- the checks
 
--- "The records totals take in the record that bears them (ours)."
+-- RULES 6.6, ours: a records total takes in the record that bears it
 abbrev pub withBearer : ℕ → ℕ
 withBearer n = n + 1
 
--- M: "nodes 32-36; lines 37-41; areas 42-46; records 52-56"
+-- RULES 6.6: M's nodes 32-36, lines 37-41, areas 42-46, records 52-56
 unfoldable pub meshTotals : List ℕ → Sums → List Check
 meshTotals t s =
     check 32 10 (eqb (sizeIn t 32 5) (s .nodes))
@@ -85,11 +85,11 @@ meshTotals t s =
     ∷ check 52 10 (eqb (sizeIn t 52 5) (withBearer (s .records)))
     ∷ []
 
--- H: "records 25-29"
+-- RULES 6.6: H's records 25-29
 unfoldable pub layerTotals : List ℕ → Sums → List Check
 layerTotals t s = check 25 10 (eqb (sizeIn t 25 5) (withBearer (s .records))) ∷ []
 
--- A: "lines 29-32"
+-- RULES 6.6: A's lines 29-32
 unfoldable pub areaTotals : List ℕ → Sums → List Check
 areaTotals t s = check 29 10 (eqb (sizeIn t 29 4) (s .entries)) ∷ []
 
@@ -102,7 +102,7 @@ totalChecks (Coordinates left) file k = []
 totalChecks (Area layer last) file k = areaTotals (recordOf file (k + 1)) (sumsBehind 2 file (k + 1))
 totalChecks (Loop last count left) file k = []
 
--- stages 1 and 2 are judged first and second, refusal 9 third, and stage 3 fourth
+-- RULES 6.1: stages 1 and 2 are judged first and second, refusal 9 third, and stage 3 fourth
 abbrev pub fourth : ℕ
 fourth = 4
 

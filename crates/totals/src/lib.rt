@@ -1,4 +1,4 @@
-// Stage 3 of the judge (document 01, refusal 10): the totals of M, H and A against what was counted.
+// Stage 3 of the judge (RULES 6.6): the totals of M, H and A against what was counted.
 //
 // The contracts cite `specs/Totals.antt`, which says what follows a record and what its totals have to
 // be.

@@ -1,3 +1,3 @@
--- What a verdict is: document 01, "Order of judgement and refusal numbers".
+-- What a verdict is: RULES 6.1 (Order) and 6.2 (Numbers).
 pub mod Rules
 pub mod Order

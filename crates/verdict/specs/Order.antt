@@ -1,5 +1,5 @@
--- 01's order, and what the answer has to be (document 01: "The stages run over the whole file, one after another. Within a stage the
--- first record counts, then the least column, then the least number."). Assumes nothing.
+-- The order of judgement, and what the answer has to be (RULES 6.1: the stages run over the whole file, one after another; in a stage
+-- the first record counts, then the least column, then the least number). Assumes nothing.
 --   before p q       the place p comes before the place q
 --   Answer rs v      v is the answer to the rules rs: the least broken one, or Fine where all are kept
 --   Sorted rs        each rule stands before all that follow it
@@ -14,7 +14,7 @@ use Rattle.verdict.specs.declared.Verdict.{Verdict}
 use Rattle.verdict.specs.declared.Verdict.the-variants.{Fine, Broken}
 use Rattle.verdict.specs.Rules.{Rule, Check, brokenAt}
 
--- by stage, then record, then column, then number
+-- RULES 6.1: by stage, then record, then column, then number
 abbrev pub placeOf : Rule → List ℕ
 placeOf r = r .stage ∷ r .row ∷ r .column ∷ r .number ∷ []
 
@@ -36,7 +36,7 @@ pub record Least (rs : List Rule) (v : Verdict) : Type 0 where
   pub told : v ≡ brokenAt rule
   pub least : (b : Rule) → In b rs → b .holds ≡ false → (b ≡ rule) ⊎ (before (placeOf rule) (placeOf b) ≡ true)
 
--- "otherwise the first broken rule in 01's order is named"
+-- RULES 6.1, 13.2: acceptance if all rules are kept; otherwise the first broken rule in the order of judgement is named
 abbrev pub Answer : List Rule → Verdict → Type 0
 Answer rs Fine = (b : Rule) → In b rs → b .holds ≡ true
 Answer rs (Broken n r c) = Least rs (Broken n r c)

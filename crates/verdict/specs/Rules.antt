@@ -1,10 +1,10 @@
--- Rules and the first broken one (document 01, "Order of judgement and refusal numbers"). Assumes nothing.
+-- Rules and the first broken one (RULES 6.1). Assumes nothing.
 --   Check, Rule         one rule of a record; the same with its stage and record
 --   firstBroken rs      the first broken rule of the list rs, or Fine
 --   block s r cs        the checks cs as rules of stage s at record r
 --   rows n g            the lists g 0, g 1, .., g (n - 1), one after the other
 --   spread n g          the checks g 0, g 1, .., g (n - 1), one after the other
---   toldOf v            the verdict v by 01's numbers
+--   toldOf v            the verdict v by the numbers of RULES 6.2
 use mathlib.Core.Bool.{Bool, cond}
 use mathlib.Core.List.{List, [], _∷_, _++_}
 use Prim.Native.Nat.{ℕ, zero, suc}
@@ -23,6 +23,7 @@ pub record Rule : Type 0 where
 abbrev pub brokenAt : Rule → Verdict
 brokenAt r = Broken (r .number) (r .row) (r .column)
 
+-- RULES 6.1: the first broken rule, and acceptance if no rule is broken
 unfoldable pub firstBroken : List Rule → Verdict
 firstBroken [] = Fine
 firstBroken (r ∷ rs) = cond (r .holds) (firstBroken rs) (brokenAt r)
@@ -52,7 +53,7 @@ unfoldable pub spread : ℕ → (ℕ → List Check) → List Check
 spread zero g = []
 spread (suc n) g = spread n g ++ g n
 
--- "Acceptance is number 0 at 0, 0"
+-- RULES 6.1: acceptance is number 0 at 0, 0
 abbrev pub toldOf : Verdict → Told
 toldOf Fine = record { number = 0; place = 0; column = 0 }
 toldOf (Broken n r c) = record { number = n; place = r; column = c }

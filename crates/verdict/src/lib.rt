@@ -1,4 +1,4 @@
-// What a stage answers (document 01, "Order of judgement and refusal numbers"): every rule is kept, or
+// What a stage answers (RULES 6.1, 6.2): every rule is kept, or
 // the first broken one with its number and its place.
 ghost use mathlib.Core.Path.{_≡_};
 ghost use Rattle.verdict.specs.Rules.{toldOf};
@@ -12,7 +12,7 @@ pub enum Verdict {
     },
 }
 
-// The same by 01's numbers: acceptance is number 0 at 0, 0.
+// The same by refusal number (RULES 6.2): acceptance is number 0 at 0, 0.
 #[repr(C)]
 pub struct Told {
     pub number: u32,
@@ -20,7 +20,7 @@ pub struct Told {
     pub column: u32,
 }
 
-// A verdict by 01's numbers.
+// A verdict by refusal number.
 pub fn by_number(v: Verdict) -> Told
     ensures { λ r. ⌜ r ≡ toldOf v ⌝ }
 {

@@ -1,4 +1,4 @@
--- The rules up to refusal 9 stand in 01's order, and none of them has a number above 9. Assumes nothing.
+-- The rules up to refusal 9 stand in the order of RULES 6.1, and none of them has a number above 9. Assumes nothing.
 use mathlib.Core.Bool.{Bool, true}
 use mathlib.Core.List.{List, [], _∷_, _++_}
 use mathlib.Core.Logic.{⊎-elim}

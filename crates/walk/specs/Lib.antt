@@ -1,4 +1,4 @@
--- What the contracts of `walk` cite: document 01, "The file", stages 1 and 2, refusal 9, the need and the table.
+-- What the contracts of `walk` cite: RULES 2 (The file), 6.3 to 6.5 (stages 1 and 2, refusal 9), 8 (Room and table) and 9.3 (Need).
 pub mod States
 pub mod Stages
 pub mod Table

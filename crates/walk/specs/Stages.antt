@@ -1,4 +1,4 @@
--- Stages 1 and 2 of a file as lists of rules in 01's order (document 01, "Order of judgement and refusal numbers", refusals 1 to 9), and
+-- Stages 1 and 2 of a file as lists of rules in the order of RULES 6.1 (RULES 6.3 to 6.5, refusals 1 to 9), and
 -- the need. Assumes nothing.
 --   recordsOf file      how many records are judged: those that there are, and no more than there may be
 --   stageOne file       refusals 1 and 2
@@ -22,23 +22,25 @@ use Rattle.walk.specs.declared.Counts.{Counts}
 use Rattle.walk.specs.declared.Walked.{Walked}
 use Rattle.walk.specs.States.{dueOf, stateAt, countsAt, noCounts}
 
--- "At most 6,399,936 records."
+-- RULES 2.1: at most 6,399,936 records
 abbrev pub mostRecords : ℕ
 mostRecords = 6399936
 
+-- RULES 6.3: no record past the 6,399,936th is looked at
 unfoldable pub recordsOf : List ℕ → ℕ
 recordsOf file = cond (ltb mostRecords (length file / 74)) mostRecords (length file / 74)
 
 -- ---- stage 1
 
--- "2: byte 73 or 74 wrong, the first wrong"; "bytes 73, 74 are CR LF (0D 0A)"
+-- RULES 6.3: 2 where column 73 is not CR (0D), and 2 where column 74 is not LF (0A)
 unfoldable pub endChecks : List ℕ → List Check
 endChecks t = check 73 2 (eqb (getD t 72 0) 13) ∷ check 74 2 (eqb (getD t 73 0) 10) ∷ []
 
--- "1: too many records (place: record 6,399,937); else length 0 or no multiple of 74 (place: whole records + 1)"
+-- RULES 6.3: 1 for too many records, or else for a length that is 0 or no multiple of 74
 unfoldable pub lengthChecks : ℕ → List Check
 lengthChecks n = check 1 1 (leb 1 (n / 74) && (leb (n / 74) mostRecords && eqb (n % 74) 0)) ∷ []
 
+-- RULES 6.3: each record's line end; then the length, at record 6,399,937, or else at the record behind the last whole one
 unfoldable pub stageOne : List ℕ → List Rule
 stageOne file =
     rows (recordsOf file) (λ k. block 1 (k + 1) (endChecks (recordOf file (k + 1))))
@@ -46,7 +48,7 @@ stageOne file =
 
 -- ---- stage 2
 
--- where a mesh has ended the file may end
+-- RULES 6.4: where a mesh has ended the file may end
 abbrev pub mayEnd : Due → Bool
 mayEnd (Mesh last) = true
 mayEnd (Layer last) = false
@@ -56,10 +58,11 @@ mayEnd (Coordinates left) = false
 mayEnd (Area layer last) = false
 mayEnd (Loop last count left) = false
 
--- "4: file ends where a record is due (place: last + 1)"
+-- RULES 6.4: 4 where the file ends and a record is due
 unfoldable pub lastChecks : Due → List Check
 lastChecks d = check 1 4 (mayEnd d) ∷ []
 
+-- RULES 6.4: each record by what is due; then the end of the file, at the record behind the last
 unfoldable pub stageTwo : List ℕ → List Rule
 stageTwo file =
     rows (recordsOf file) (λ k. block 2 (k + 1) (checksOf (dueOf (stateAt file k)) (recordOf file (k + 1))))
@@ -67,7 +70,7 @@ stageTwo file =
 
 -- ---- both
 
--- "Counts and sums of a refused call are 0."
+-- RULES 9.1: the counts are 0 if refused
 abbrev pub walkedBy : Verdict → Counts → Walked
 walkedBy Fine c = record { verdict = Fine; counts = c }
 walkedBy (Broken n r p) c = record { verdict = Broken n r p; counts = noCounts }
@@ -75,20 +78,20 @@ walkedBy (Broken n r p) c = record { verdict = Broken n r p; counts = noCounts }
 unfoldable pub walkedOf : List ℕ → Walked
 walkedOf file = walkedBy (firstBroken (stageOne file ++ stageTwo file)) (countsAt file (recordsOf file))
 
--- "it gets the need, or 0 for a file refused in stage 1 or 2"
+-- RULES 9.3: the words that a file needs, and 0 for a file refused in stage 1 or 2
 unfoldable pub needOf : List ℕ → ℕ
 needOf file = walkedOf file .counts .words
 
--- ---- refusal 9, judged after stage 2: the third in turn
+-- ---- refusal 9, judged after stage 2: turn 3 of RULES 6.1
 
 abbrev pub third : ℕ
 third = 3
 
--- "Need: the sum of 4 + lines + areas", of all layers
+-- RULES 8.2: 4 + lines + areas words for each of the layers
 unfoldable pub wordsOf : List ℕ → ℕ
 wordsOf file = countsAt file (recordsOf file) .words
 
--- "9: table too short", of `room` words; it names no place
+-- RULES 6.5: 9 for a table of `room` words that is too short; it names no place
 unfoldable pub roomRule : List ℕ → ℕ → List Rule
 roomRule file room = block third 0 (check 0 9 (leb (wordsOf file) room) ∷ [])
 

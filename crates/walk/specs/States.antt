@@ -1,5 +1,5 @@
--- The walk over the records (document 01, "The file": "One mesh: M; then, for each layer (codes rising), H; its nodes; for each line one
--- L and its coordinate records; for each area one A and its loop records"; "M's layers and H's nodes, lines and areas steer the walk").
+-- The walk over the records (RULES 2.3: a mesh is one M and its layers; a layer is one H, its nodes, its lines, each an L and its
+-- coordinate records, and its areas, each an A and its loop records; RULES 2.5: the numbers that steer the walk).
 -- Assumes nothing.
 --   sizeIn t c w     the number in the w columns from column c on of the record t, without its sign; 0 where there is none
 --   dueOf s          what is due in the state s
@@ -22,7 +22,7 @@ use Rattle.walk.specs.declared.Counts.{Counts}
 unfoldable pub sizeIn : List ℕ → ℕ → ℕ → ℕ
 sizeIn t c w = size (valueOf (numberAt t c w))
 
--- points and entries that are left, then loops, nodes, lines, areas and layers that have not begun; else the mesh has ended
+-- RULES 2.3: points and entries that are left, then loops, nodes, lines, areas and layers that have not begun; else the mesh has ended
 unfoldable pub dueOf : State → Due
 dueOf s =
     cond (ltb 0 (s .points)) (Coordinates (s .points))
@@ -52,7 +52,7 @@ start = record {
   entries = 0;
 }
 
--- behind an M: "mesh code 3-8", "layers 29-31"
+-- RULES 2.5: behind an M: mesh code 3-8, layers 29-31
 abbrev pub meshed : List ℕ → State
 meshed t = record {
   mesh = sizeIn t 3 6;
@@ -71,7 +71,7 @@ meshed t = record {
   entries = 0;
 }
 
--- behind an H: "layer 3-4; nodes 5-9; lines 10-14; areas 15-19"
+-- RULES 2.5: behind an H: layer code 3-4, nodes 5-9, lines 10-14, areas 15-19
 abbrev pub layered : State → List ℕ → State
 layered s t = record {
   mesh = s .mesh;
@@ -90,6 +90,7 @@ layered s t = record {
   entries = 0;
 }
 
+-- RULES 2.3: behind an N: a node is one record
 abbrev pub noded : State → State
 noded s = record {
   mesh = s .mesh;
@@ -108,7 +109,7 @@ noded s = record {
   entries = s .entries;
 }
 
--- behind an L: "points 50-55"
+-- RULES 2.5: behind an L: points 50-55
 abbrev pub lined : State → List ℕ → State
 lined s t = record {
   mesh = s .mesh;
@@ -127,7 +128,7 @@ lined s t = record {
   entries = s .entries;
 }
 
--- behind a coordinate record: "Points take ceil(n/7) records"
+-- RULES 2.6: behind a coordinate record: it takes seven of the points that are left
 abbrev pub pointed : State → State
 pointed s = record {
   mesh = s .mesh;
@@ -146,7 +147,7 @@ pointed s = record {
   entries = s .entries;
 }
 
--- behind an A: "loops 25-28"
+-- RULES 2.5: behind an A: loops 25-28
 abbrev pub bounded : State → List ℕ → State
 bounded s t = record {
   mesh = s .mesh;
@@ -165,7 +166,7 @@ bounded s t = record {
   entries = 0;
 }
 
--- behind a loop's first record: "line count 6-9"; behind a later one; "loops ceil(n/12)"
+-- RULES 2.5, 2.6: behind a loop's first record: line count 6-9; behind a later one; each takes twelve of the entries that are left
 abbrev pub begunLoop : State → ℕ → State
 begunLoop s n = record {
   mesh = s .mesh;
@@ -225,11 +226,11 @@ stateAt file (suc k) = nextOf (stateAt file k) (recordOf file (suc k))
 abbrev pub noCounts : Counts
 noCounts = record { meshes = 0; layers = 0; nodes = 0; lines = 0; areas = 0; words = 0 }
 
--- "one row a layer in file order: H record, nodes, lines, areas": its words
+-- RULES 8.1: a layer's row has four words
 abbrev pub rowLength : ℕ
 rowLength = 4
 
--- "Need: the sum of 4 + lines + areas."
+-- RULES 8.2: a layer needs 4 + lines + areas words
 unfoldable pub layerWords : List ℕ → ℕ
 layerWords t = rowLength + (sizeIn t 10 5 + sizeIn t 15 5)
 
@@ -242,6 +243,7 @@ pub record Countable (c : Counts) : Type 0 where
   pub areas : c .areas ≤ 6399936
   pub words : c .words ≤ 2000002 * 6399936
 
+-- RULES 9.1: each record is counted as what it is; RULES 8.2: an H adds its layer's words
 abbrev pub countedFor : Due → Counts → List ℕ → Counts
 countedFor (Mesh last) c t = record { meshes = c .meshes + 1; layers = c .layers; nodes = c .nodes; lines = c .lines; areas = c .areas; words = c .words }
 countedFor (Layer last) c t = record { meshes = c .meshes; layers = c .layers + 1; nodes = c .nodes; lines = c .lines; areas = c .areas; words = c .words + layerWords t }

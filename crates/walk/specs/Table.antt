@@ -1,5 +1,5 @@
--- The table of a file (document 01, "The table": "one row a layer in file order: H record, nodes, lines, areas; after all rows every
--- line's L record; then every area's A record"). Assumes nothing.
+-- The table of a file (RULES 8.1: for each layer, in file order, a row of four words; behind all rows each line's L record; then each
+-- area's A record). Assumes nothing.
 --   rowWords d t r   the words of the row that the record t gives, due as d, with the number r: none but for an H
 --   gather g file k  the words that g takes from the first k records, in file order
 --   tableOf file     the file's table
@@ -18,7 +18,7 @@ use Rattle.walk.specs.States.{sizeIn, dueOf, stateAt}
 use Rattle.walk.specs.declared.Tabled.{Tabled}
 use Rattle.walk.specs.Stages.{recordsOf, walkedOf, early}
 
--- "H record, nodes, lines, areas": "nodes 5-9; lines 10-14; areas 15-19"
+-- RULES 8.1: a layer's row: its H record; its nodes, 5-9; its lines, 10-14; its areas, 15-19
 abbrev pub rowWords : Due → List ℕ → ℕ → List ℕ
 rowWords (Mesh last) t r = []
 rowWords (Layer last) t r = r ∷ sizeIn t 5 5 ∷ sizeIn t 10 5 ∷ sizeIn t 15 5 ∷ []
@@ -28,7 +28,7 @@ rowWords (Coordinates left) t r = []
 rowWords (Area layer last) t r = []
 rowWords (Loop last count left) t r = []
 
--- "every line's L record"
+-- RULES 8.1: each line's L record
 abbrev pub lineWords : Due → List ℕ → ℕ → List ℕ
 lineWords (Mesh last) t r = []
 lineWords (Layer last) t r = []
@@ -38,7 +38,7 @@ lineWords (Coordinates left) t r = []
 lineWords (Area layer last) t r = []
 lineWords (Loop last count left) t r = []
 
--- "every area's A record"
+-- RULES 8.1: each area's A record
 abbrev pub areaWords : Due → List ℕ → ℕ → List ℕ
 areaWords (Mesh last) t r = []
 areaWords (Layer last) t r = []
@@ -52,6 +52,7 @@ unfoldable pub gather : (Due → List ℕ → ℕ → List ℕ) → List ℕ →
 gather g file zero = []
 gather g file (suc k) = gather g file k ++ g (dueOf (stateAt file k)) (recordOf file (suc k)) (suc k)
 
+-- RULES 8.1: all rows, then the lines, then the areas
 unfoldable pub tableOf : List ℕ → List ℕ
 tableOf file =
     gather rowWords file (recordsOf file)
@@ -61,7 +62,7 @@ tableOf file =
 abbrev pub filled : {A : Type 0} → List A → List A → List A
 filled ws d = ws ++ drop (length ws) d
 
--- what a call leaves in the table whose rules up to refusal 9 gave a verdict: untouched, or the table in front
+-- RULES 8.3: what a call leaves in the table whose rules up to refusal 9 gave a verdict: untouched, or the table in front
 abbrev pub filledBy : Verdict → List ℕ → List ℕ → List ℕ
 filledBy Fine file words = filled (tableOf file) words
 filledBy (Broken n r c) file words = words

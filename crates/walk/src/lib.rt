@@ -1,8 +1,8 @@
-// The walk over a file's records (document 01, "The file"), stages 1 and 2, the words that a file needs,
+// The walk over a file's records (RULES 2), stages 1 and 2, the words that a file needs,
 // and its table. Every public function takes every file and every buffer.
 //
 // The contracts cite `specs/`: `States` says what is due at each record, `Stages` has the rules up to
-// refusal 9 in 01's order, `Table` what the table is.
+// refusal 9 in the order of judgement, `Table` what the table is.
 use fields::Number;
 use rules::Due;
 use verdict::Verdict;
