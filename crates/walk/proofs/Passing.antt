@@ -5,8 +5,8 @@ use mathlib.Core.Path.{_≡_, refl, sym, _∙_, ap}
 use Prim.Native.Nat.{ℕ, zero, suc, _+_, _-_, _*_, _/_, _≤_, _<_, min}
 use native.Mathlib.Nat.{add-zero, add-suc, min-zero, min-le-left, min-le-right}
 use native.Mathlib.Omega.{arith}
-use lib.Dec.{ltb}
-use borrow.Author.Tests.{lt-ltb, le-ltb, ltb-true, ltb-false}
+use lib.Dec.{leb, ltb}
+use borrow.Author.Tests.{lt-ltb, le-ltb, ltb-true, ltb-false, leb-true, leb-false}
 use Rattle.verdict.specs.declared.Verdict.the-variants.{Fine}
 use Rattle.verdict.specs.Rules.{Rule, firstBroken, isFine, block, rows}
 use Rattle.verdict.proofs.Parts.{fine-is, rows-past}
@@ -19,6 +19,7 @@ use Rattle.walk.specs.declared.Counts.{Counts}
 use Rattle.walk.specs.States.{dueOf, nextFor, nextOf, stateAt, countedFor, countsAt}
 use Rattle.walk.specs.Table.{gather}
 use Rattle.walk.specs.Quiet.{isQuiet, passed, quietDue, Quiet, quietAhead, countedPast, isFineAt, fineAhead}
+use Rattle.walk.proofs.Dues.{by-due}
 use Rattle.walk.proofs.Judging.{rulesOf}
 
 -- ---- one more
@@ -124,6 +125,68 @@ ahead-by s h false false false x y z l = quiet-nodes s h (ltb-false _ _ x) (ltb-
 pub ahead-quiet : (s : State) (h : ℕ) → h ≤ quietAhead s → Quiet s h
 unfolding quietAhead
 ahead-quiet s h l = ahead-by s h (ltb 0 (s .points)) (ltb 0 (s .entries)) (ltb (s .begun) (s .loops)) refl refl refl l
+
+-- what is due is coordinates, or a node
+abbrev isPoints : Due → Bool
+isPoints (Mesh last) = false
+isPoints (Layer last) = false
+isPoints (Node layer last) = false
+isPoints (Line layer last) = false
+isPoints (Coordinates left) = true
+isPoints (Area layer last) = false
+isPoints (Loop last count left) = false
+
+abbrev isNode : Due → Bool
+isNode (Mesh last) = false
+isNode (Layer last) = false
+isNode (Node layer last) = true
+isNode (Line layer last) = false
+isNode (Coordinates left) = false
+isNode (Area layer last) = false
+isNode (Loop last count left) = false
+
+-- then points are left, or nodes
+points-left : (s : State) → isPoints (dueOf s) ≡ true → 0 < s .points
+points-left s =
+    by-due (λ d. isPoints d ≡ true → 0 < s .points) s (λ l _. l) (λ _. other) (λ _. other) (λ _. other) (λ _. other) (λ _. other) (λ _. other) (λ _. other)
+  where
+    other : false ≡ true → 0 < s .points
+    other e = absurd (false≢true e)
+
+nodes-left : (s : State) → isNode (dueOf s) ≡ true → s .node < s .nodes
+nodes-left s =
+    by-due (λ d. isNode d ≡ true → s .node < s .nodes) s (λ _. other) (λ _. other) (λ _. other) (λ l _. l) (λ _. other) (λ _. other) (λ _. other) (λ _. other)
+  where
+    other : false ≡ true → s .node < s .nodes
+    other e = absurd (false≢true e)
+
+-- and no entry or loop before the nodes
+no-loop : (s : State) (e b : Bool) → ltb 0 (s .entries) ≡ e → ltb (s .begun) (s .loops) ≡ b → e || b ≡ true → s .points ≤ 0 → isNode (dueOf s) ≡ false
+unfolding dueOf
+no-loop s true b x y o p = simp (le-ltb 0 (s .points) p, x)
+no-loop s false true x y o p = simp (le-ltb 0 (s .points) p, x, y)
+no-loop s false false x y o p = absurd (false≢true o)
+
+-- so behind them something else is due
+whole-by : (s : State) (h : ℕ) (p o : Bool) → ltb 0 (s .points) ≡ p → ltb 0 (s .entries) || ltb (s .begun) (s .loops) ≡ o
+    → h ≡ cond p ((s .points - 1) / 7 + 1) (cond o 0 (s .nodes - s .node)) → dueOf (passed s h) ≡ quietDue s h → ⊥
+whole-by s h true o p q e d =
+    let l = points-left (passed s h) (ap isPoints d ∙ rw p) in
+    omega (arith, ltb-true 0 (s .points) p)
+whole-by s h false true p q e d =
+    let l = ltb-false 0 (s .points) p in
+    false≢true (sym (no-loop (passed s h) (ltb 0 (s .entries)) (ltb (s .begun) (s .loops)) refl refl q (omega arith)) ∙ ap isNode d ∙ rw p)
+whole-by s h false false p q e d =
+    let l : s .node + h < s .nodes = rw p at (nodes-left (passed s h) (ap isNode d ∙ rw p)) in
+    omega arith
+
+pub quiet-ahead : (s : State) (h : ℕ) → Quiet s h → h ≤ quietAhead s
+unfolding quietAhead
+quiet-ahead s h q = by (leb h (quietAhead s)) refl
+  where
+    by : (b : Bool) → leb h (quietAhead s) ≡ b → h ≤ quietAhead s
+    by true l = leb-true _ _ l
+    by false l = absurd (whole-by s (quietAhead s) (ltb 0 (s .points)) (ltb 0 (s .entries) || ltb (s .begun) (s .loops)) refl refl refl (q .quiet (quietAhead s) (leb-false _ _ l)))
 
 module _ (s : State) where
   pub points-ahead : 0 < s .points → (s .points - 1) / 7 + 1 ≡ quietAhead s

@@ -1,7 +1,7 @@
 -- `walk::fine_ahead` meets its contract: the records found so far, and what is ahead of the one behind them, are what was ahead of the
 -- first. Assumes nothing.
 use denote.Ref.{now}
-use mathlib.Core.Path.{_≡_, sym, _∙_}
+use mathlib.Core.Path.{_≡_}
 use Prim.Native.Nat.{_+_, _-_, _≤_, _<_}
 use native.Mathlib.Omega.{arith}
 use lib.Dec.{ltb}
