@@ -168,7 +168,7 @@ refused f h = both-arms (isWidthOf f) h refl
     isWidthOf : List ℕ → Bool
     isWidthOf f = leb 1 (length f) && leb (length f) 6
 
-taken : (f : List ℕ) → 0 < length f → length f ≤ 6 → numberOf f ≡ signedOf (afterBlanks f)
+pub taken : (f : List ℕ) → 0 < length f → length f ≤ 6 → numberOf f ≡ signedOf (afterBlanks f)
 unfolding numberOf
 taken f p h = rw (le-leb _ _ p, le-leb _ _ h)
 

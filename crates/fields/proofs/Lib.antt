@@ -1,4 +1,5 @@
--- Laws of the crate's definitions. `FieldLaws` has those that other crates and readers go by, beside `sure-says` of `AtGlance`; the other files serve it and the proofs.
+-- Laws of the crate's definitions. `FieldLaws` has those that other crates and readers go by, beside `sure-says` and `unsure-says` of
+-- `AtGlance`; the other files serve it and the proofs.
 pub mod FieldLaws
 pub mod Cases
 pub mod FromRight

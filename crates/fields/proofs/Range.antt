@@ -12,14 +12,18 @@ use Rattle.fields.specs.Number.{isWidth, holds}
 use Rattle.fields.proofs.Places.{both}
 
 -- no other widths
-no-width : (w : ℕ) → (1 ≤ w → w ≤ 6 → ⊥) → (s t : Bool) → leb 1 w ≡ s → leb w 6 ≡ t → s && t ≡ false
-no-width w n true true p q = absurd (n (leb-true _ _ p) (leb-true _ _ q))
-no-width w n true false p q = refl
-no-width w n false t p q = refl
+no-width-by : (w : ℕ) → (1 ≤ w → w ≤ 6 → ⊥) → (s t : Bool) → leb 1 w ≡ s → leb w 6 ≡ t → s && t ≡ false
+no-width-by w n true true p q = absurd (n (leb-true _ _ p) (leb-true _ _ q))
+no-width-by w n true false p q = refl
+no-width-by w n false t p q = refl
 
-pub holds-no-width : (w : ℕ) (v : ℤ) → (w ≡ 1 → ⊥) → (w ≡ 2 → ⊥) → (w ≡ 3 → ⊥) → (w ≡ 4 → ⊥) → (w ≡ 5 → ⊥) → (w ≡ 6 → ⊥) → holds w v ≡ false
-unfolding holds
-holds-no-width w v a b c d e f = rw (no-width w (λ p q. omega arith) (leb 1 w) (leb w 6) refl refl)
+module _ (w : ℕ) (a : w ≡ 1 → ⊥) (b : w ≡ 2 → ⊥) (c : w ≡ 3 → ⊥) (d : w ≡ 4 → ⊥) (e : w ≡ 5 → ⊥) (f : w ≡ 6 → ⊥) where
+  pub no-width : isWidth w ≡ false
+  no-width = no-width-by w (λ p q. omega arith) (leb 1 w) (leb w 6) refl refl
+
+  pub holds-no-width : (v : ℤ) → holds w v ≡ false
+  unfolding holds
+  holds-no-width v = rw no-width
 
 -- ---- by the sign
 

@@ -16,7 +16,7 @@ ghost use Rattle.fields.specs.Spelling.{lastOf, restOf, columns, leftOf,
 ghost use Rattle.fields.specs.Text.{isPair, isName, isBlanks, textAt};
 ghost use Rattle.fields.specs.Answer.{valueOf, numberFits, nameFits, Wrote};
 ghost use Rattle.fields.specs.Ending.{EndsIn, Plain};
-ghost use Rattle.fields.specs.Glimpse.{Glanced, remainders};
+ghost use Rattle.fields.specs.Glimpse.{glimpseOf, remainders};
 ghost use Rattle.fields.specs.declared.Number.the-variants as number;
 
 // The answer to a number field: its value, or refusal 5.
@@ -152,9 +152,10 @@ fn digit(b: u8) -> bool
 }
 
 // The number that five bytes say where they are spaces and then digits without a leading zero, as
-// nearly every field of width 5 is. It is here for speed alone: it is unsure of everything else.
+// nearly every field of width 5 is. It is here for speed alone: it is unsure of everything else, and
+// that says no number from 0 to 99999.
 fn glance_at(a: u8, b: u8, c: u8, d: u8, e: u8) -> Glance
-    ensures { λ r. ⌜ Glanced (numberOf (a ∷ b ∷ c ∷ d ∷ e ∷ [])) r ⌝ }
+    ensures { λ r. ⌜ r ≡ glimpseOf (numberOf (a ∷ b ∷ c ∷ d ∷ e ∷ [])) ⌝ }
 {
     if !digit(e) {
         return Glance::Unsure;
@@ -196,7 +197,7 @@ fn glance_at(a: u8, b: u8, c: u8, d: u8, e: u8) -> Glance
 // The same of a field of up to five columns: the columns that it lacks count as spaces. Of six the
 // first has to be one.
 fn glance_in(f: &[u8]) -> Glance
-    ensures { λ r. ⌜ Glanced (numberOf (now (f .entry))) r ⌝ }
+    ensures { λ r. ⌜ r ≡ glimpseOf (numberOf (now (f .entry))) ⌝ }
 {
     match f.len() {
         1 => glance_at(32, 32, 32, 32, f[0]),
@@ -214,9 +215,9 @@ fn glance_in(f: &[u8]) -> Glance
     }
 }
 
-// What the five columns from `column` on say at a glance: a number, or nothing.
+// What the five columns from `column` on say at a glance: the number from 0 on that they say, or nothing.
 pub fn glance_number(s: &[u8], column: usize) -> Glance
-    ensures { λ r. ⌜ Glanced (numberAt (now (s .entry)) column 5) r ⌝ }
+    ensures { λ r. ⌜ r ≡ glimpseOf (numberAt (now (s .entry)) column 5) ⌝ }
 {
     if !inside(s, column, 5) {
         return Glance::Unsure;

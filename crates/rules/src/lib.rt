@@ -12,11 +12,11 @@ use verdict::Verdict;
 ghost use mathlib.Core.Path.{_≡_};
 ghost use mathlib.Core.List.{[], _∷_};
 ghost use Prim.Native.Nat.{ℕ, _/_, _≤_};
-ghost use mathlib.Core.Bool.{true, cond, _&&_};
+ghost use mathlib.Core.Bool.{cond, _&&_};
 ghost use lib.Dec.{leb, ltb};
 ghost use lib.ListN.{getD};
-ghost use Rattle.verdict.specs.declared.Verdict.the-variants.{Fine, Broken};
-ghost use Rattle.verdict.specs.Rules.{firstBroken, block};
+ghost use Rattle.verdict.specs.declared.Verdict.the-variants.{Broken};
+ghost use Rattle.verdict.specs.Rules.{firstBroken, isFine, block};
 ghost use Rattle.rules.specs.Permitted.{natural, size, within, is, atLeast, isMeshCode, followsMesh, oneOrFive, isLayerCode, followsLayer, isDate, nodeItemOne, nodeItemFive, isNodeItem, onFrame, layered, isFrame, lineItemOne, lineItemFive, isLineItem, lineKindOne, lineKindFive, same, isLineKind, linkSize, isLink, isCode, isSide, isAreaCode, isSlot, isPoint, isNext, isLoopSerial};
 ghost use Rattle.rules.specs.Asks.{permitted, inStep, at, layerAsk, meshAsks, layerAsks, nodeAsks, lineAsks, coordinateAsks, areaAsks, loopAsks, loopDue, entriesDue, askedOf, firstAsked};
 ghost use Rattle.rules.specs.Checks.{kindOf, checksOf};
@@ -650,10 +650,10 @@ fn most_at(i: usize, left: usize) -> u32
     0
 }
 
-// Whether a coordinate record keeps all rules at a glance, where `left` points of its line are left:
-// true only where it does. It is here for speed alone; false says nothing.
+// Whether a coordinate record keeps all rules of stage 2, where `left` points of its line are left. It is
+// here for speed alone: it does not say which rule is broken.
 pub fn fine_coordinates(s: &[u8], left: usize) -> bool
-    ensures { λ r. ⌜ (r ≡ true → (row : ℕ) → firstBroken (block 2 row (checksOf (Coordinates left) (now (s .entry)))) ≡ Fine) ⌝ }
+    ensures { λ r. ⌜ ((row : ℕ) → r ≡ isFine (firstBroken (block 2 row (checksOf (Coordinates left) (now (s .entry)))))) ⌝ }
 {
     let mut i: usize = 0;
     while i < 14 {

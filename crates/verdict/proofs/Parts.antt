@@ -1,6 +1,6 @@
 -- Rules judged part by part: lists in a row, a record's checks one by one, and a loop that leaves at the first broken rule.
 -- Assumes nothing.
-use mathlib.Core.Bool.{Bool, true, false, cond}
+use mathlib.Core.Bool.{Bool, true, false, cond, false≢true}
 use mathlib.Core.List.{List, [], _∷_, _++_}
 use mathlib.Core.Logic.{⊎-elim}
 use mathlib.Core.Path.{_≡_, refl, sym, _∙_}
@@ -10,13 +10,18 @@ use native.Mathlib.Numerals.{add-one}
 use native.Mathlib.Omega.{arith}
 use Rattle.verdict.specs.declared.Verdict.{Verdict}
 use Rattle.verdict.specs.declared.Verdict.the-variants.{Fine, Broken}
-use Rattle.verdict.specs.Rules.{Rule, brokenAt, firstBroken, Check, check, block, rows, spread}
+use Rattle.verdict.specs.Rules.{Rule, brokenAt, firstBroken, isFine, Check, check, block, rows, spread}
 
 -- ---- two lists in a row
 
 -- a verdict is fine or broken, not both
 pub fine-broken : {A : Type 0} {v : Verdict} {a b c : ℕ} → v ≡ Fine → v ≡ Broken a b c → A
 fine-broken p q = let e = sym p ∙ q in let z : _≡_ {A = ℕ} 0 1 = cc in absurd (omega arith)
+
+-- as code has it: the answer t to whether v is fine
+pub fine-is : (v : Verdict) {t : Bool} → t ≡ isFine v → t ≡ true → v ≡ Fine
+fine-is Fine e h = refl
+fine-is (Broken n r c) e h = absurd (false≢true (sym e ∙ h))
 
 -- a, and b where a is fine
 infixr 30 _orElse_

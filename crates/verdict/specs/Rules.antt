@@ -1,11 +1,12 @@
 -- Rules and the first broken one (RULES 6.1). Assumes nothing.
 --   Check, Rule         one rule of a record; the same with its stage and record
 --   firstBroken rs      the first broken rule of the list rs, or Fine
+--   isFine v            the verdict v is Fine
 --   block s r cs        the checks cs as rules of stage s at record r
 --   rows n g            the lists g 0, g 1, .., g (n - 1), one after the other
 --   spread n g          the checks g 0, g 1, .., g (n - 1), one after the other
 --   toldOf v            the verdict v by the numbers of RULES 6.2
-use mathlib.Core.Bool.{Bool, cond}
+use mathlib.Core.Bool.{Bool, true, false, cond}
 use mathlib.Core.List.{List, [], _∷_, _++_}
 use Prim.Native.Nat.{ℕ, zero, suc}
 use Rattle.verdict.specs.declared.Verdict.{Verdict}
@@ -27,6 +28,11 @@ brokenAt r = Broken (r .number) (r .row) (r .column)
 unfoldable pub firstBroken : List Rule → Verdict
 firstBroken [] = Fine
 firstBroken (r ∷ rs) = cond (r .holds) (firstBroken rs) (brokenAt r)
+
+-- whether no rule is broken
+abbrev pub isFine : Verdict → Bool
+isFine Fine = true
+isFine (Broken n r c) = false
 
 -- a rule of one record: its column and number, and whether the record keeps it
 pub record Check : Type 0 where

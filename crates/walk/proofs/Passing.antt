@@ -1,16 +1,15 @@
 -- Quiet records, passed in one step: the state, the counts and the table behind them, and what they are due as. Assumes nothing.
-use mathlib.Core.Bool.{Bool, true, false, cond, false≢true}
+use mathlib.Core.Bool.{Bool, true, false, cond, _&&_, _||_, false≢true}
 use mathlib.Core.List.{List, [], append-nil}
-use mathlib.Core.Logic.{_⊎_, inl, inr}
 use mathlib.Core.Path.{_≡_, refl, sym, _∙_, ap}
-use Prim.Native.Nat.{ℕ, zero, suc, _+_, _-_, _*_, _/_, _≤_, _<_}
-use native.Mathlib.Nat.{add-zero, add-suc, eq-or-lt-of-le}
+use Prim.Native.Nat.{ℕ, zero, suc, _+_, _-_, _*_, _/_, _≤_, _<_, min}
+use native.Mathlib.Nat.{add-zero, add-suc, min-zero, min-le-left, min-le-right}
 use native.Mathlib.Omega.{arith}
-use lib.Dec.{ltb}
-use borrow.Author.Tests.{lt-ltb, le-ltb, ltb-false}
+use lib.Dec.{leb, ltb}
+use borrow.Author.Tests.{lt-ltb, le-ltb, ltb-true, ltb-false, leb-true, leb-false}
 use Rattle.verdict.specs.declared.Verdict.the-variants.{Fine}
-use Rattle.verdict.specs.Rules.{Rule, firstBroken, block, rows}
-use Rattle.verdict.proofs.Parts.{rows-past}
+use Rattle.verdict.specs.Rules.{Rule, firstBroken, isFine, block, rows}
+use Rattle.verdict.proofs.Parts.{fine-is, rows-past}
 use Rattle.records.specs.View.{recordOf}
 use Rattle.rules.specs.Checks.{checksOf}
 use Rattle.rules.specs.declared.Due.{Due}
@@ -19,7 +18,8 @@ use Rattle.walk.specs.declared.State.{State}
 use Rattle.walk.specs.declared.Counts.{Counts}
 use Rattle.walk.specs.States.{dueOf, nextFor, nextOf, stateAt, countedFor, countsAt}
 use Rattle.walk.specs.Table.{gather}
-use Rattle.walk.specs.Quiet.{isQuiet, passed, quietDue, Quiet, countedPast, FineAhead}
+use Rattle.walk.specs.Quiet.{isQuiet, passed, quietDue, Quiet, quietAhead, countedPast, isFineAt, fineAhead}
+use Rattle.walk.proofs.Dues.{by-due}
 use Rattle.walk.proofs.Judging.{rulesOf}
 
 -- ---- one more
@@ -102,9 +102,6 @@ past-nodes s h l e =
 
 -- ---- which are quiet
 
-pub quiet-none : (s : State) → Quiet s 0
-quiet-none s = record { quiet = λ j l. absurd (omega arith) }
-
 -- the coordinate records of the points that are left
 pub quiet-points : (s : State) (h : ℕ) → 0 < s .points → h ≤ (s .points - 1) / 7 + 1 → Quiet s h
 unfolding dueOf
@@ -116,6 +113,105 @@ unfolding dueOf
 quiet-nodes s h p e b l = record {
   quiet = λ j m. simp (le-ltb 0 (s .points) p, le-ltb 0 (s .points - 7 * j) (omega arith), le-ltb 0 (s .entries) e, le-ltb (s .begun) (s .loops) b, lt-ltb (s .node + j) (s .nodes) (omega arith));
 }
+
+-- all that the state tells of, and no more
+ahead-by : (s : State) (h : ℕ) (p e b : Bool) → ltb 0 (s .points) ≡ p → ltb 0 (s .entries) ≡ e → ltb (s .begun) (s .loops) ≡ b
+    → h ≤ cond p ((s .points - 1) / 7 + 1) (cond (e || b) 0 (s .nodes - s .node)) → Quiet s h
+ahead-by s h true e b x y z l = quiet-points s h (ltb-true _ _ x) l
+ahead-by s h false true b x y z l = record { quiet = λ j m. absurd (omega arith) }
+ahead-by s h false false true x y z l = record { quiet = λ j m. absurd (omega arith) }
+ahead-by s h false false false x y z l = quiet-nodes s h (ltb-false _ _ x) (ltb-false _ _ y) (ltb-false _ _ z) l
+
+pub ahead-quiet : (s : State) (h : ℕ) → h ≤ quietAhead s → Quiet s h
+unfolding quietAhead
+ahead-quiet s h l = ahead-by s h (ltb 0 (s .points)) (ltb 0 (s .entries)) (ltb (s .begun) (s .loops)) refl refl refl l
+
+-- what is due is coordinates, or a node
+abbrev isPoints : Due → Bool
+isPoints (Mesh last) = false
+isPoints (Layer last) = false
+isPoints (Node layer last) = false
+isPoints (Line layer last) = false
+isPoints (Coordinates left) = true
+isPoints (Area layer last) = false
+isPoints (Loop last count left) = false
+
+abbrev isNode : Due → Bool
+isNode (Mesh last) = false
+isNode (Layer last) = false
+isNode (Node layer last) = true
+isNode (Line layer last) = false
+isNode (Coordinates left) = false
+isNode (Area layer last) = false
+isNode (Loop last count left) = false
+
+-- then points are left, or nodes
+points-left : (s : State) → isPoints (dueOf s) ≡ true → 0 < s .points
+points-left s =
+    by-due (λ d. isPoints d ≡ true → 0 < s .points) s (λ l _. l) (λ _. other) (λ _. other) (λ _. other) (λ _. other) (λ _. other) (λ _. other) (λ _. other)
+  where
+    other : false ≡ true → 0 < s .points
+    other e = absurd (false≢true e)
+
+nodes-left : (s : State) → isNode (dueOf s) ≡ true → s .node < s .nodes
+nodes-left s =
+    by-due (λ d. isNode d ≡ true → s .node < s .nodes) s (λ _. other) (λ _. other) (λ _. other) (λ l _. l) (λ _. other) (λ _. other) (λ _. other) (λ _. other)
+  where
+    other : false ≡ true → s .node < s .nodes
+    other e = absurd (false≢true e)
+
+-- and no entry or loop before the nodes
+no-loop : (s : State) (e b : Bool) → ltb 0 (s .entries) ≡ e → ltb (s .begun) (s .loops) ≡ b → e || b ≡ true → s .points ≤ 0 → isNode (dueOf s) ≡ false
+unfolding dueOf
+no-loop s true b x y o p = simp (le-ltb 0 (s .points) p, x)
+no-loop s false true x y o p = simp (le-ltb 0 (s .points) p, x, y)
+no-loop s false false x y o p = absurd (false≢true o)
+
+-- so behind them something else is due
+whole-by : (s : State) (h : ℕ) (p o : Bool) → ltb 0 (s .points) ≡ p → ltb 0 (s .entries) || ltb (s .begun) (s .loops) ≡ o
+    → h ≡ cond p ((s .points - 1) / 7 + 1) (cond o 0 (s .nodes - s .node)) → dueOf (passed s h) ≡ quietDue s h → ⊥
+whole-by s h true o p q e d =
+    let l = points-left (passed s h) (ap isPoints d ∙ rw p) in
+    omega (arith, ltb-true 0 (s .points) p)
+whole-by s h false true p q e d =
+    let l = ltb-false 0 (s .points) p in
+    false≢true (sym (no-loop (passed s h) (ltb 0 (s .entries)) (ltb (s .begun) (s .loops)) refl refl q (omega arith)) ∙ ap isNode d ∙ rw p)
+whole-by s h false false p q e d =
+    let l : s .node + h < s .nodes = rw p at (nodes-left (passed s h) (ap isNode d ∙ rw p)) in
+    omega arith
+
+pub quiet-ahead : (s : State) (h : ℕ) → Quiet s h → h ≤ quietAhead s
+unfolding quietAhead
+quiet-ahead s h q = by (leb h (quietAhead s)) refl
+  where
+    by : (b : Bool) → leb h (quietAhead s) ≡ b → h ≤ quietAhead s
+    by true l = leb-true _ _ l
+    by false l = absurd (whole-by s (quietAhead s) (ltb 0 (s .points)) (ltb 0 (s .entries) || ltb (s .begun) (s .loops)) refl refl refl (q .quiet (quietAhead s) (leb-false _ _ l)))
+
+module _ (s : State) where
+  pub points-ahead : 0 < s .points → (s .points - 1) / 7 + 1 ≡ quietAhead s
+  unfolding quietAhead
+  points-ahead p = rw (lt-ltb _ _ p)
+
+  pub entries-ahead : s .points ≤ 0 → 0 < s .entries → (most : ℕ) → 0 ≡ min most (quietAhead s)
+  unfolding quietAhead
+  entries-ahead p e most = rw (le-ltb 0 (s .points) p, lt-ltb 0 (s .entries) e) (sym (min-zero most))
+
+  pub loops-ahead : s .points ≤ 0 → s .entries ≤ 0 → s .begun < s .loops → (most : ℕ) → 0 ≡ min most (quietAhead s)
+  unfolding quietAhead
+  loops-ahead p e b most = rw (le-ltb 0 (s .points) p, le-ltb 0 (s .entries) e, lt-ltb (s .begun) (s .loops) b) (sym (min-zero most))
+
+  pub nodes-ahead : s .points ≤ 0 → s .entries ≤ 0 → s .loops ≤ s .begun → s .nodes - s .node ≡ quietAhead s
+  unfolding quietAhead
+  nodes-ahead p e b = rw (le-ltb 0 (s .points) p, le-ltb 0 (s .entries) e, le-ltb (s .begun) (s .loops) b)
+
+-- as code has it: the number r of those that were passed
+module _ (s : State) (most : ℕ) {r : ℕ} (e : r ≡ min most (quietAhead s)) where
+  pub pass-most : r ≤ most
+  pass-most = rw e (min-le-left most (quietAhead s))
+
+  pub pass-are-quiet : Quiet s r
+  pass-are-quiet = ahead-quiet s r (rw e (min-le-right most (quietAhead s)))
 
 -- ---- all of them
 
@@ -155,27 +251,82 @@ module _ (file : List ℕ) (k : ℕ) {h : ℕ} {s : State} (e : s ≡ stateAt fi
 
 -- ---- fine at a glance
 
-pub fine-none : (file : List ℕ) (points k : ℕ) → FineAhead file points k 0
-fine-none file points k = record { left = λ j l. absurd (omega arith); fine = λ j l. absurd (omega arith) }
+-- the r records behind the first k are the next ones of a line with so many points left, and keep the rules of stage 2
+pub record Fit (file : List ℕ) (points k r : ℕ) : Type 0 where
+  pub left : 0 < r → 0 < points
+  pub fine : (j : ℕ) → j < r → firstBroken (block 2 (k + j + 1) (checksOf (Coordinates (points - 7 * j)) (recordOf file (k + j + 1)))) ≡ Fine
 
-module _ (file : List ℕ) (points k r : ℕ) {n : ℕ} (f : FineAhead file points k r) (e : n ≡ points - 7 * r) (l : 0 < n)
-    (t : firstBroken (block 2 (k + r + 1) (checksOf (Coordinates n) (recordOf file (k + r + 1)))) ≡ Fine) where
-  more-fine : (j : ℕ) → (j ≡ r) ⊎ (j < r) → firstBroken (block 2 (k + j + 1) (checksOf (Coordinates (points - 7 * j)) (recordOf file (k + j + 1)))) ≡ Fine
-  more-fine j (inl q) = rw (q, ← e) t
-  more-fine j (inr q) = f .fine j q
+module _ (file : List ℕ) (points k r : ℕ) (l : 0 < points) (t : firstBroken (block 2 (k + 1) (checksOf (Coordinates points) (recordOf file (k + 1)))) ≡ Fine)
+    (f : Fit file (points - 7) (k + 1) r) where
+  fit-at : (j : ℕ) → j < suc r → firstBroken (block 2 (k + j + 1) (checksOf (Coordinates (points - 7 * j)) (recordOf file (k + j + 1)))) ≡ Fine
+  fit-at zero q =
+      let z : k + 0 + 1 ≡ k + 1 = omega arith in
+      let p : points - 7 * 0 ≡ points = omega arith in
+      rw (z, p) t
+  fit-at (suc j) q =
+      let z : k + suc j + 1 ≡ k + 1 + j + 1 = omega arith in
+      let p : points - 7 * suc j ≡ points - 7 - 7 * j = omega arith in
+      rw (z, p) (f .fine j (omega arith))
 
-  fine-more : FineAhead file points k (r + 1)
-  fine-more = record { left = λ j q. omega (arith, e, l); fine = λ j q. more-fine j (eq-or-lt-of-le (omega arith)) }
+  fit-more : Fit file points k (suc r)
+  fit-more = record { left = λ q. l; fine = fit-at }
 
--- the records from k up to i were found fine, and record i + 1 is
-pub fine-next : (file : List ℕ) (points k i : ℕ) {n : ℕ} {t : List ℕ} → k ≤ i → FineAhead file points k (i - k) → n ≡ points - 7 * (i - k) → 0 < n → t ≡ recordOf file (i + 1)
-    → firstBroken (block 2 (i + 1) (checksOf (Coordinates n) t)) ≡ Fine → FineAhead file points k (i + 1 - k)
-fine-next file points k i l f e q a t =
-    let z : k + (i - k) ≡ i = omega arith in
-    let y : i + 1 - k ≡ i - k + 1 = omega arith in
-    rw y (fine-more file points k (i - k) f e q (rw z (rw a at t)))
+fit-by : (file : List ℕ) (points k r : ℕ) → Fit file (points - 7) (k + 1) r → (p t : Bool) → ltb 0 points ≡ p → isFineAt file points (k + 1) ≡ t
+    → Fit file points k (cond (p && t) (suc r) 0)
+fit-by file points k r f true true p t = fit-more file points k r (ltb-true _ _ p) (fine-is _ (sym t) refl) f
+fit-by file points k r f true false p t = record { left = λ q. absurd (omega arith); fine = λ j q. absurd (omega arith) }
+fit-by file points k r f false t p q = record { left = λ q. absurd (omega arith); fine = λ j q. absurd (omega arith) }
+
+ahead-fit : (file : List ℕ) (points k m : ℕ) → Fit file points k (fineAhead file points k m)
+unfolding fineAhead
+ahead-fit file points k zero = record { left = λ q. absurd (omega arith); fine = λ j q. absurd (omega arith) }
+ahead-fit file points k (suc m) =
+    fit-by file points k (fineAhead file (points - 7) (k + 1) m) (ahead-fit file (points - 7) (k + 1) m) (ltb 0 points) (isFineAt file points (k + 1)) refl refl
+
+-- no more than there are
+most-by : (b : Bool) (r m : ℕ) → r ≤ m → cond b (suc r) 0 ≤ suc m
+most-by true r m l = omega arith
+most-by false r m l = omega arith
+
+ahead-most : (file : List ℕ) (points k m : ℕ) → fineAhead file points k m ≤ m
+unfolding fineAhead
+ahead-most file points k zero = omega arith
+ahead-most file points k (suc m) =
+    most-by (ltb 0 points && isFineAt file points (k + 1)) (fineAhead file (points - 7) (k + 1) m) m (ahead-most file (points - 7) (k + 1) m)
+
+-- as code has it: the number r of those that were found
+module _ (file : List ℕ) (points k m : ℕ) {r : ℕ} (e : r ≡ fineAhead file points k m) where
+  pub found-most : r ≤ m
+  found-most = rw e (ahead-most file points k m)
+
+  pub found-fit : Fit file points k r
+  found-fit = rw e (ahead-fit file points k m)
+
+-- behind the first k of n, with the answer t to the next record
+module _ (file : List ℕ) (points k n : ℕ) where
+  module _ (i : k < n) (l : 0 < points) {u : List ℕ} {t : Bool} (e : u ≡ recordOf file (k + 1)) (h : t ≡ isFine (firstBroken (block 2 (k + 1) (checksOf (Coordinates points) u)))) where
+    ahead-is : fineAhead file points k (n - k) ≡ cond t (suc (fineAhead file (points - 7) (k + 1) (n - (k + 1)))) 0
+    unfolding fineAhead
+    ahead-is =
+        let z : n - k ≡ suc (n - (k + 1)) = omega arith in
+        rw (z, lt-ltb _ _ l, ← e, ← h)
+
+    pub ahead-next : t ≡ true → fineAhead file points k (n - k) ≡ suc (fineAhead file (points - 7) (k + 1) (n - (k + 1)))
+    ahead-next q = rw q at ahead-is
+
+    pub ahead-stops : t ≡ false → fineAhead file points k (n - k) ≡ 0
+    ahead-stops q = rw q at ahead-is
+
+  ends-by : (m : ℕ) → n - k ≡ m → (b : Bool) → ltb k n ≡ b → b && ltb 0 points ≡ false → fineAhead file points k m ≡ 0
+  unfolding fineAhead
+  ends-by zero z b p q = refl
+  ends-by (suc m) z true p q = rw q
+  ends-by (suc m) z false p q = let l = ltb-false k n p in absurd (omega arith)
+
+  pub ahead-ends : ltb k n && ltb 0 points ≡ false → fineAhead file points k (n - k) ≡ 0
+  ahead-ends q = ends-by (n - k) refl (ltb k n) refl q
 
 -- the rules of stage 2, over records that were found fine
-pub fine-rows : (file : List ℕ) (k : ℕ) {h m : ℕ} {s : State} → s ≡ stateAt file k → Quiet s h → FineAhead file (s .points) k m → h ≤ m
+pub fine-rows : (file : List ℕ) (k : ℕ) {h m : ℕ} {s : State} → s ≡ stateAt file k → Quiet s h → Fit file (s .points) k m → h ≤ m
     → firstBroken (rows k (rulesOf file)) ≡ Fine → firstBroken (rows (k + h) (rulesOf file)) ≡ Fine
-fine-rows file k {h} {m} {s} e q f l r = rows-past (rulesOf file) k h r (λ j i. rw (passed-due file k e q j i, lt-ltb 0 (s .points) (f .left j (omega arith))) (f .fine j (omega arith)))
+fine-rows file k {h} {m} {s} e q f l r = rows-past (rulesOf file) k h r (λ j i. rw (passed-due file k e q j i, lt-ltb 0 (s .points) (f .left (omega arith))) (f .fine j (omega arith)))

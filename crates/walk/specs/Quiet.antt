@@ -3,16 +3,16 @@
 --   isQuiet d          the record is quiet
 --   passed s h         the state behind the next h records, which are quiet
 --   Quiet s h          they are: coordinates where points are left, else nodes
+--   quietAhead s       how many of them come next
 --   countedPast c s h  the counts with them
---   FineAhead file points k r   the r records behind the first k are the next ones of a line with so many points left, and keep the
---                      rules of stage 2
-use mathlib.Core.Bool.{Bool, true, false, cond}
+--   fineAhead file points k m   of the m records behind the first k, how many from the first on are the next ones of a line with so many
+--                      points left, and keep the rules of stage 2
+use mathlib.Core.Bool.{Bool, true, false, cond, _&&_, _||_}
 use mathlib.Core.List.{List}
 use mathlib.Core.Path.{_≡_}
-use Prim.Native.Nat.{ℕ, _+_, _-_, _*_, _<_}
+use Prim.Native.Nat.{ℕ, zero, suc, _+_, _-_, _*_, _/_, _<_}
 use lib.Dec.{ltb}
-use Rattle.verdict.specs.declared.Verdict.the-variants.{Fine}
-use Rattle.verdict.specs.Rules.{firstBroken, block}
+use Rattle.verdict.specs.Rules.{firstBroken, isFine, block}
 use Rattle.records.specs.View.{recordOf}
 use Rattle.rules.specs.Checks.{checksOf}
 use Rattle.rules.specs.declared.Due.{Due}
@@ -59,9 +59,20 @@ quietDue s j = cond (ltb 0 (s .points)) (Coordinates (s .points - 7 * j)) (Node 
 pub record Quiet (s : State) (h : ℕ) : Type 0 where
   pub quiet : (j : ℕ) → j < h → dueOf (passed s j) ≡ quietDue s j
 
+-- the state tells: the coordinate records of the points that are left, seven to a record; else none where entries or loops are left; else
+-- the nodes that are left
+unfoldable pub quietAhead : State → ℕ
+quietAhead s =
+    cond (ltb 0 (s .points)) ((s .points - 1) / 7 + 1)
+    (cond (ltb 0 (s .entries) || ltb (s .begun) (s .loops)) 0 (s .nodes - s .node))
+
 abbrev pub countedPast : Counts → State → ℕ → Counts
 countedPast c s h = record { meshes = c .meshes; layers = c .layers; nodes = c .nodes + nodesOf s h; lines = c .lines; areas = c .areas; words = c .words }
 
-pub record FineAhead (file : List ℕ) (points k r : ℕ) : Type 0 where
-  pub left : (j : ℕ) → j < r → 0 < points
-  pub fine : (j : ℕ) → j < r → firstBroken (block 2 (k + j + 1) (checksOf (Coordinates (points - 7 * j)) (recordOf file (k + j + 1)))) ≡ Fine
+-- record r of a file, as coordinates of a line with so many points left, keeps the rules of stage 2
+abbrev pub isFineAt : List ℕ → ℕ → ℕ → Bool
+isFineAt file points r = isFine (firstBroken (block 2 r (checksOf (Coordinates points) (recordOf file r))))
+
+unfoldable pub fineAhead : List ℕ → ℕ → ℕ → ℕ → ℕ
+fineAhead file points k zero = 0
+fineAhead file points k (suc m) = cond (ltb 0 points && isFineAt file points (k + 1)) (suc (fineAhead file (points - 7) (k + 1) m)) 0

@@ -8,7 +8,7 @@ use rules::Due;
 use verdict::Verdict;
 ghost use mathlib.Core.Path.{_≡_};
 ghost use mathlib.Core.List.{[], _∷_};
-ghost use Prim.Native.Nat.{_+_, _-_, _*_, _≤_, _<_};
+ghost use Prim.Native.Nat.{_+_, _-_, _*_, _/_, _≤_, _<_, min};
 ghost use lib.ListN.{length};
 ghost use lib.Seq.{sets};
 ghost use Rattle.verdict.specs.declared.Verdict.the-variants.{Broken};
@@ -17,7 +17,7 @@ ghost use Rattle.walk.specs.States.{sizeIn, dueOf, start, meshed, layere
 ghost use Rattle.walk.specs.Stages.{recordsOf, endChecks, lengthChecks, stageOne, lastChecks, stageTwo, walkedBy, walkedOf, needOf, early};
 ghost use Rattle.walk.specs.Table.{tableOf, filled, filledBy, tabledOf};
 ghost use Rattle.walk.specs.Storing.{placeOf, recordWords, Roomy};
-ghost use Rattle.walk.specs.Quiet.{passed, Quiet, countedPast, FineAhead};
+ghost use Rattle.walk.specs.Quiet.{passed, quietAhead, countedPast, fineAhead};
 
 // Where the walk stands: the mesh and its layers left; the layer, its totals, and how many of each came;
 // the points left of a line; the loops of an area, how many were begun, and the last one's line count and
@@ -209,7 +209,7 @@ pub struct Pass {
 // Passes the coordinate records of the points that are left: no more than `most`.
 fn pass_points(s: State, most: usize) -> Pass
     requires { ⌜ 0 < s .points ⌝ }
-    ensures { λ r. ⌜ (r .records ≤ most) × (r .state ≡ passed s (r .records)) × Quiet s (r .records) ⌝ }
+    ensures { λ r. ⌜ (r .records ≡ min most ((s .points - 1) / 7 + 1)) × (r .state ≡ passed s (r .records)) ⌝ }
 {
     let all = (s.points - 1) / 7 + 1;
     let mut u = s;
@@ -229,8 +229,8 @@ fn pass_points(s: State, most: usize) -> Pass
 
 // Passes the nodes that are left: no more than `most`.
 fn pass_nodes(s: State, most: usize) -> Pass
-    requires { ⌜ (s .points ≤ 0) × (s .entries ≤ 0) × (s .loops ≤ s .begun) ⌝ }
-    ensures { λ r. ⌜ (r .records ≤ most) × (r .state ≡ passed s (r .records)) × Quiet s (r .records) ⌝ }
+    requires { ⌜ s .points ≤ 0 ⌝ }
+    ensures { λ r. ⌜ (r .records ≡ min most (s .nodes - s .node)) × (r .state ≡ passed s (r .records)) ⌝ }
 {
     let all = less(s.nodes, s.node);
     let mut u = s;
@@ -250,7 +250,7 @@ fn pass_nodes(s: State, most: usize) -> Pass
 
 // Passes no record.
 fn pass_none(s: State) -> Pass
-    ensures { λ r. ⌜ (r .records ≡ 0) × (r .state ≡ passed s (r .records)) × Quiet s (r .records) ⌝ }
+    ensures { λ r. ⌜ (r .records ≡ 0) × (r .state ≡ passed s (r .records)) ⌝ }
 {
     Pass {
         state: s,
@@ -258,9 +258,10 @@ fn pass_none(s: State) -> Pass
     }
 }
 
-// Passes the coordinate records that come next, or else the nodes, in one step: no more than `most`.
+// Passes the coordinate records that come next, or else the nodes, in one step: all of them, and no more
+// than `most`.
 pub fn pass_quiet(s: State, most: usize) -> Pass
-    ensures { λ r. ⌜ (r .records ≤ most) × (r .state ≡ passed s (r .records)) × Quiet s (r .records) ⌝ }
+    ensures { λ r. ⌜ (r .records ≡ min most (quietAhead s)) × (r .state ≡ passed s (r .records)) ⌝ }
 {
     if 0 < s.points {
         return pass_points(s, most);
@@ -439,11 +440,11 @@ fn refused(v: Verdict) -> Walked
     Walked { verdict: v, counts }
 }
 
-// How many of the records behind the first `k` of `n` are coordinates that keep all rules at a glance, where
-// `points` points of their line are left.
+// How many of the records behind the first `k` of `n`, from the first on, are coordinates that keep all
+// rules, where `points` points of their line are left.
 fn fine_ahead(file: &[u8], points: usize, k: usize, n: usize) -> usize
     requires { ⌜ (k ≤ n) × (n ≤ 6399936) ⌝ }
-    ensures { λ r. ⌜ (r ≤ n - k) × FineAhead (now (file .entry)) points k r ⌝ }
+    ensures { λ r. ⌜ r ≡ fineAhead (now (file .entry)) points k (n - k) ⌝ }
 {
     let mut left = points;
     let mut i = k;

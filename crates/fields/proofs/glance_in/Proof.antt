@@ -1,8 +1,9 @@
--- `fields::glance_in` meets its contract: spaces in front change nothing. Assumes nothing.
+-- `fields::glance_in` meets its contract: spaces in front change nothing, and what has more than five bytes in use says no number from 0 to 99999. Assumes nothing.
 use denote.Ref.{now}
 use lib.Dec.{lit≤}
 use borrow.Author.Needs.{needs}
-use Rattle.fields.proofs.AtGlance.{entries, short-is, long-is}
+use Rattle.fields.proofs.AtGlance.{entries, short-is, long-is, glimpse-six, glimpse-other}
+use Rattle.fields.proofs.Range.{no-width}
 use Rattle.fields.proofs.glance_in.Statement.{statement}
 use Rattle.fields.proofs.glance_in.Tie as tie
 
@@ -70,7 +71,7 @@ shared-slice-read-if1 : tie.Need-shared-slice-read-if1
 shared-slice-read-if1 c = search needs
 
 returns : tie.Need-returns
-returns c = search needs
+returns c = glimpse-six _ (c .before .before .match .keys6) (c .if1 .taken)
 
 shared-slice-read-glance-at-16 : tie.Need-shared-slice-read-glance-at-16
 shared-slice-read-glance-at-16 c = search needs
@@ -115,7 +116,9 @@ unfolding entries
 returns-7 c = rw (long-is (now (c .before .before .before .before .before .before .before .before .before .before .args .f)) (c .before .before .before .before .before .before .before .before .match .keys6) (c .before .before .before .before .before .before .if1 .left)) (c .glance-at6 .ensures)
 
 returns-8 : tie.Need-returns-8
-returns-8 c = search needs
+returns-8 c =
+    let r = c .match .rest in
+    glimpse-other _ (no-width _ (r .0 .0 .0 .0 .0 .1) (r .0 .0 .0 .0 .1) (r .0 .0 .0 .1) (r .0 .0 .1) (r .0 .1) (r .1))
 
 pub glance-in-spec : {M : Type 1} → statement M
 glance-in-spec =

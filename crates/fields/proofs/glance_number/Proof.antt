@@ -1,11 +1,13 @@
 -- `fields::glance_number` meets its contract: the part that is cut out is the field's bytes. Assumes nothing.
 use denote.Ref.{now}
+use mathlib.Core.Path.{ap}
 use Prim.Native.Nat.{_+_, _-_, _≤_}
 use native.Mathlib.Omega.{arith}
 use lib.ListN.{length}
 use borrow.Author.Needs.{needs}
-use borrow.Author.Tests.{not-false}
-use Rattle.fields.proofs.Answers.{number-inside}
+use borrow.Author.Tests.{not-true, not-false}
+use Rattle.fields.specs.Glimpse.{glimpseOf}
+use Rattle.fields.proofs.Answers.{number-outside, number-inside}
 use Rattle.fields.proofs.Places.{passed}
 use Rattle.fields.proofs.glance_number.Statement.{statement}
 use Rattle.fields.proofs.glance_number.Tie as tie
@@ -18,7 +20,7 @@ inside-requires : tie.Need-inside-requires
 inside-requires c κs = search needs
 
 returns : tie.Need-returns
-returns c = search needs
+returns c = ap glimpseOf (number-outside _ _ _ (c .before .inside .ensures) (not-true _ (c .if1 .taken)))
 
 sub-at : tie.Need-sub-at
 sub-at c = let p = bounds c in omega arith

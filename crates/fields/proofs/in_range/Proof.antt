@@ -31,7 +31,7 @@ unfolding holds
 returns-6 c = rw (c .match .keys6, toZ-ofZ (c .before .fits .value))
 
 returns-7 : tie.Need-returns-7
-returns-7 c = let r = c .match .rest in sym (holds-no-width _ _ (r .0 .0 .0 .0 .0 .1) (r .0 .0 .0 .0 .1) (r .0 .0 .0 .1) (r .0 .0 .1) (r .0 .1) (r .1))
+returns-7 c = let r = c .match .rest in sym (holds-no-width _ (r .0 .0 .0 .0 .0 .1) (r .0 .0 .0 .0 .1) (r .0 .0 .0 .1) (r .0 .0 .1) (r .0 .1) (r .1) _)
 
 pub in-range-spec : {M : Type 1} → statement M
 in-range-spec =

@@ -7,7 +7,7 @@ use native.Mathlib.Omega.{arith}
 use Rattle.verdict.proofs.Parts.{rows-none, rows-pass}
 use Rattle.walk.specs.States.{stateAt, countsAt}
 use Rattle.walk.proofs.Walking.{at-none, next-state}
-use Rattle.walk.proofs.Passing.{passed-state}
+use Rattle.walk.proofs.Passing.{pass-most, pass-are-quiet, passed-state}
 use Rattle.layers.specs.Passing.{layerAt}
 use Rattle.layers.proofs.Passing.{rows-start, rows-more, rows-small, layer-start, layer-next, rows-passed, layer-passed}
 use Rattle.links.proofs.StageLaws.{Kept, rule-is, four-passes, four-stops, four-done}
@@ -90,7 +90,7 @@ add-k-2 c =
     let m = p .before in
     let t = m .before .before .before .before .before .before .before .before .before .before in
     let n = t .before .before .before .before in
-    omega (arith, n .records-of .ensures .1, t .loop-test .taken, p .pass-quiet .ensures .0, m .lesser .ensures .1)
+    omega (arith, n .records-of .ensures .1, t .loop-test .taken, pass-most _ _ (p .pass-quiet .ensures .0), m .lesser .ensures .1)
 
 loop-less : tie.Need-loop-less Inv-loop μ-loop
 loop-less c = omega (arith, c .before .before .before .before .before .before .before .before .before .before .before .before .before .loop-test .taken)
@@ -109,16 +109,16 @@ loop-again c =
     let d = v .before in
     let t = d .before in
     let l = t .before in
-    let q = p .pass-quiet .ensures .2 in
+    let q = pass-are-quiet _ _ (p .pass-quiet .ensures .0) in
     let e = next-state _ _ {u = x .next .result} (l .loop .inv .1) (rw (← y .record-view .ensures) (x .next .ensures)) in
     let r = rows-more _ _ (l .loop .inv .1) (d .due .ensures) (o .rows-of .ensures) (l .loop .inv .2) in
     let g = layer-next _ _ _ _ (l .loop .inv .1) (d .due .ensures) r (l .loop .inv .3) (b .layer-behind .ensures) in
     let f = rows-pass _ _ (l .loop .inv .4) (rule-is _ _ _ _ (l .loop .inv .1) (d .due .ensures) (l .loop .inv .3) (v .judge-record .ensures)) (u .enum-told2 .given .1) in (
-      omega (arith, t .loop-test .taken, p .pass-quiet .ensures .0, m .lesser .ensures .1),
+      omega (arith, t .loop-test .taken, pass-most _ _ (p .pass-quiet .ensures .0), m .lesser .ensures .1),
       p .pass-quiet .ensures .1 ∙ passed-state _ _ e q _ (le-refl _),
       rows-passed _ _ e q r,
       layer-passed _ _ _ _ e q g,
-      four-passes _ _ _ _ e q g (w .between .ensures) (omega (arith, p .pass-quiet .ensures .0, m .lesser .ensures .0)) f,
+      four-passes _ _ _ _ e q g (w .between .ensures) (omega (arith, pass-most _ _ (p .pass-quiet .ensures .0), m .lesser .ensures .0)) f,
     )
 
 returns-2 : tie.Need-returns-2 Inv-loop μ-loop

@@ -11,7 +11,7 @@ use borrow.Author.Needs.{needs}
 use Rattle.verdict.proofs.Parts.{rows-none, rows-pass}
 use Rattle.walk.specs.States.{stateAt, countsAt}
 use Rattle.walk.proofs.Walking.{at-none, next-state}
-use Rattle.walk.proofs.Passing.{passed-state}
+use Rattle.walk.proofs.Passing.{pass-most, pass-are-quiet, passed-state}
 use Rattle.layers.specs.Passing.{layerAt}
 use Rattle.layers.proofs.Passing.{rows-start, rows-more, rows-small, layer-start, layer-next, rows-passed, layer-passed}
 use Rattle.entries.specs.Keeping.{Kept}
@@ -117,7 +117,7 @@ add-k-2 c =
     let p = c .before .before in
     let t = p .before .before .before .before .before .before .before .before .before .before .before .before .before .before .before .before in
     let n = t .before .before .before .before in
-    omega (arith, n .records-of .ensures .1, t .loop-test .taken, p .pass-quiet .ensures .0)
+    omega (arith, n .records-of .ensures .1, t .loop-test .taken, pass-most _ _ (p .pass-quiet .ensures .0))
 
 loop-less : tie.Need-loop-less Inv-loop μ-loop
 loop-less c = omega (arith, c .before .before .before .before .before .before .before .before .before .before .before .before .before .before .before .before .before .before .loop-test .taken)
@@ -138,11 +138,11 @@ loop-again c =
     let t = d .before in
     let l = t .before in
     let n = l .before .before .before in
-    let q = p .pass-quiet .ensures .2 in
+    let q = pass-are-quiet _ _ (p .pass-quiet .ensures .0) in
     let s = next-state _ _ {u = x .next .result} (l .loop .inv .1) (rw (← x .before .record-view .ensures) (x .next .ensures)) in
     let r = rows-more _ _ (l .loop .inv .1) (d .due .ensures) (m .rows-of .ensures) (l .loop .inv .2) in
     let g = layer-next _ _ _ _ (l .loop .inv .1) (d .due .ensures) r (l .loop .inv .3) (b .layer-behind .ensures) in (
-      omega (arith, t .loop-test .taken, p .pass-quiet .ensures .0),
+      omega (arith, t .loop-test .taken, pass-most _ _ (p .pass-quiet .ensures .0)),
       p .pass-quiet .ensures .1 ∙ passed-state _ _ s q _ (le-refl _),
       rows-passed _ _ s q r,
       layer-passed _ _ _ _ s q g,

@@ -1,20 +1,14 @@
--- `rules::fine_coordinates` meets its contract: the loop goes on as `Glancing` says, and false promises nothing. Assumes nothing.
-use mathlib.Core.Bool.{true, false}
+-- `rules::fine_coordinates` meets its contract: the loop goes on as `Glancing` says, and where it leaves the record is broken. Assumes nothing.
+use denote.Ref.{now}
 use mathlib.Core.Path.{_≡_, sym, _∙_}
-use Prim.Native.Nat.{ℕ, _-_, _≤_}
+use Prim.Native.Nat.{_-_, _≤_}
 use native.Mathlib.Omega.{arith}
 use lib.Dec.{lit≤}
 use borrow.Author.Needs.{needs}
-use Rattle.fields.proofs.AtGlance.{sure-says}
-use Rattle.rules.proofs.Glancing.{Glancing, glancing, number-glanced, all-glanced}
+use Rattle.fields.proofs.AtGlance.{sure-says, unsure-says}
+use Rattle.rules.proofs.Glancing.{Glancing, glancing, number-glanced, number-above, number-none, all-glanced, blank-broken}
 use Rattle.rules.proofs.fine_coordinates.Statement.{statement}
 use Rattle.rules.proofs.fine_coordinates.Tie as tie
-
--- false says nothing
-none : {A : Type 0} → false ≡ true → A
-none e =
-    let z : _≡_ {A = ℕ} 0 1 = cc in
-    absurd (omega arith)
 
 abbrev Inv-loop : tie.InvT-loop
 Inv-loop s left i₀ i = (i ≤ 14) × Glancing left s i
@@ -41,13 +35,18 @@ enum-told : tie.Need-enum-told Inv-loop μ-loop
 enum-told c = search needs
 
 returns : tie.Need-returns Inv-loop μ-loop
-returns c = none
+returns c =
+    let g = c .before .before in
+    number-none (g .before .before .loop .inv .1) (g .before .loop-test .taken) (λ n q. unsure-says _ (c .enum-told .given .1) (g .glance-number .ensures) q)
 
 most-at-requires : tie.Need-most-at-requires Inv-loop μ-loop
 most-at-requires c κs = search needs
 
 returns-2 : tie.Need-returns-2 Inv-loop μ-loop
-returns-2 c = none
+returns-2 c =
+    let g = c .before .before .before .before .before in
+    let s = sure-says _ (c .before .before .before .g .given .1) (g .glance-number .ensures) in
+    number-above (g .before .before .loop .inv .1) (g .before .loop-test .taken) (s .0) (rw (c .before .most-at .ensures) at (c .if1 .taken))
 
 add-i : tie.Need-add-i Inv-loop μ-loop
 add-i c = search needs
@@ -61,6 +60,13 @@ loop-again c =
     let s = sure-says _ (c .before .before .before .g .given .1) (c .before .before .before .before .before .glance-number .ensures) in
     (omega (arith, l), number-glanced (c .before .before .before .before .before .before .before .loop .inv .1) l (s .0) (rw (c .before .most-at .ensures) at (c .if1 .left)))
 
+-- behind the loop all numbers were passed
+all : (c : tie.After-read-blank Inv-loop μ-loop) → Glancing (c .before .before .before .before .args .left) (now (c .before .before .before .before .args .s)) 14
+all c =
+    let g = c .before .before .loop in
+    let z : g .i ≡ 14 = omega (arith, g .inv .0, c .before .loop-test .left) in
+    rw z at (g .inv .1)
+
 read-blank-requires : tie.Need-read-blank-requires Inv-loop μ-loop
 read-blank-requires c κs = search needs
 
@@ -71,13 +77,14 @@ enum-told-3 : tie.Need-enum-told-3 Inv-loop μ-loop
 enum-told-3 c = search needs
 
 returns-3 : tie.Need-returns-3 Inv-loop μ-loop
-returns-3 c = none
+returns-3 c =
+    let r = c .before .before in
+    blank-broken (all r) (sym (r .read-blank .ensures) ∙ c .enum-told3 .given .1)
 
 returns-4 : tie.Need-returns-4 Inv-loop μ-loop
 returns-4 c =
-    let g = c .before .before .before .before .loop in
-    let z : g .i ≡ 14 = omega (arith, g .inv .0, c .before .before .before .loop-test .left) in
-    λ e. all-glanced (rw z at (g .inv .1)) (sym (c .before .before .read-blank .ensures) ∙ c .enum-told2 .given .1)
+    let r = c .before .before in
+    all-glanced (all r) (sym (r .read-blank .ensures) ∙ c .enum-told2 .given .1)
 
 pub fine-coordinates-spec : {M : Type 1} → statement M
 fine-coordinates-spec =

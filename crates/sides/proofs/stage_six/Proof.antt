@@ -8,7 +8,7 @@ use lib.ListN.{length, length-replicate}
 use Rattle.verdict.proofs.Parts.{rows-none, rows-pass}
 use Rattle.walk.specs.States.{stateAt, countsAt}
 use Rattle.walk.proofs.Walking.{at-none, next-state}
-use Rattle.walk.proofs.Passing.{passed-state}
+use Rattle.walk.proofs.Passing.{pass-most, pass-are-quiet, passed-state}
 use Rattle.layers.specs.Passing.{layerAt}
 use Rattle.layers.proofs.Passing.{rows-start, rows-more, rows-small, rows-passed, layer-start, layer-next, layer-passed}
 use Rattle.sides.specs.Marking.{Marks}
@@ -91,17 +91,17 @@ pass-quiet-requires : tie.Need-pass-quiet-requires Inv-loop μ-loop
 pass-quiet-requires c κs = search needs
 
 add-k-2 : tie.Need-add-k-2 Inv-loop μ-loop
-add-k-2 c = record { fits = omega (arith, c .before .before .pass-quiet .ensures .0, c .before .before .before .before .before .before .before .before .before .before .before .before .before .before .before .loop-test .taken, c .before .before .before .before .before .before .before .before .before .before .before .before .before .before .before .before .before .before .before .records-of .ensures .1) }
+add-k-2 c = record { fits = omega (arith, pass-most _ _ (c .before .before .pass-quiet .ensures .0), c .before .before .before .before .before .before .before .before .before .before .before .before .before .before .before .loop-test .taken, c .before .before .before .before .before .before .before .before .before .before .before .before .before .before .before .before .before .before .before .records-of .ensures .1) }
 
 loop-less : tie.Need-loop-less Inv-loop μ-loop
-loop-less c = omega (arith, c .before .before .pass-quiet .ensures .0, c .before .before .before .before .before .before .before .before .before .before .before .before .before .before .before .loop-test .taken)
+loop-less c = omega (arith, pass-most _ _ (c .before .before .pass-quiet .ensures .0), c .before .before .before .before .before .before .before .before .before .before .before .before .before .before .before .loop-test .taken)
 
 loop-again : tie.Need-loop-again Inv-loop μ-loop
 loop-again c =
     let e = next-state _ _ (c .before .before .before .before .before .before .before .before .before .before .before .before .before .before .before .before .loop .inv .1) (rw (c .before .before .before .before .record-view .ensures) at (c .before .before .before .next .ensures)) in
-    let q = c .before .before .pass-quiet .ensures .2 in
+    let q = pass-are-quiet _ _ (c .before .before .pass-quiet .ensures .0) in
     let m = rows-more _ _ (c .before .before .before .before .before .before .before .before .before .before .before .before .before .before .before .before .loop .inv .1) (c .before .before .before .before .before .before .before .before .before .before .before .before .before .before .due .ensures) (c .before .before .before .before .before .before .before .before .before .rows-of .ensures) (c .before .before .before .before .before .before .before .before .before .before .before .before .before .before .before .before .loop .inv .2) in (
-      omega (arith, c .before .before .pass-quiet .ensures .0, c .before .before .before .before .before .before .before .before .before .before .before .before .before .before .before .loop-test .taken),
+      omega (arith, pass-most _ _ (c .before .before .pass-quiet .ensures .0), c .before .before .before .before .before .before .before .before .before .before .before .before .before .before .before .loop-test .taken),
       c .before .before .pass-quiet .ensures .1 ∙ passed-state _ _ e q _ (le-refl _),
       rows-passed _ _ e q m,
       layer-passed _ _ _ _ e q (layer-next _ _ _ _ (c .before .before .before .before .before .before .before .before .before .before .before .before .before .before .before .before .loop .inv .1) (c .before .before .before .before .before .before .before .before .before .before .before .before .before .before .due .ensures) m (c .before .before .before .before .before .before .before .before .before .before .before .before .before .before .before .before .loop .inv .3) (c .before .before .before .before .before .before .before .before .layer-behind .ensures)),

@@ -8,7 +8,7 @@ use Rattle.verdict.specs.Rules.{firstBroken, rows}
 use Rattle.verdict.proofs.Parts.{rows-none, rows-pass}
 use Rattle.walk.specs.States.{stateAt}
 use Rattle.walk.proofs.Walking.{at-none, next-state}
-use Rattle.walk.proofs.Passing.{passed-state}
+use Rattle.walk.proofs.Passing.{pass-are-quiet, passed-state}
 use Rattle.totals.proofs.Summing.{totalsOf, rule-is, three-quiet, three-stops, three-done}
 use Rattle.totals.proofs.stage_three.Statement.{statement}
 use Rattle.totals.proofs.stage_three.Tie as tie
@@ -70,7 +70,7 @@ loop-less c = search needs
 loop-again : tie.Need-loop-again Inv-loop μ-loop
 loop-again c =
     let e = next-state _ _ (c .before .before .before .before .before .before .before .before .before .before .loop .inv .1) (rw (c .before .before .before .before .before .before .before .record-view .ensures) at (c .before .before .before .before .before .before .next .ensures)) in
-    let q = c .before .before .pass-quiet .ensures .2 in (
+    let q = pass-are-quiet _ _ (c .before .before .pass-quiet .ensures .0) in (
       search needs,
       c .before .before .pass-quiet .ensures .1 ∙ passed-state _ _ e q _ (le-refl _),
       three-quiet _ _ e q (rows-pass _ _ (c .before .before .before .before .before .before .before .before .before .before .loop .inv .2) (rule-is _ _ (c .before .before .before .before .before .before .before .before .before .before .loop .inv .1) (c .before .before .before .before .before .before .before .before .due .ensures) (c .before .before .before .before .before .judge-totals .ensures)) (c .before .before .before .enum-told2 .given .1)),

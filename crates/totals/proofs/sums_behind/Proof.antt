@@ -8,7 +8,7 @@ use borrow.Author.Needs.{needs}
 use Rattle.walk.specs.States.{stateAt}
 use Rattle.walk.specs.Stages.{recordsOf}
 use Rattle.walk.proofs.Walking.{next-state}
-use Rattle.walk.proofs.Passing.{passed-state}
+use Rattle.walk.proofs.Passing.{pass-most, pass-are-quiet, passed-state}
 use Rattle.totals.specs.Totals.{sumsFrom, sumsBehind}
 use Rattle.totals.specs.Adding.{Addable}
 use Rattle.totals.proofs.Summing.{none-addable, most-addable, more-addable, quiet-addable, sums-start, sums-stop, sums-more, sums-quiet, sums-end}
@@ -66,22 +66,22 @@ pass-quiet-requires c κs = search needs
 add-sums : tie.Need-add-sums Inv-loop μ-loop
 add-sums c =
     let a = more-addable _ (c .before .before .before .before .before .before .before .before .before .due .result) (c .before .before .before .before .before .before .before .before .before .before .before .loop .sums) (now (c .before .before .before .before .before .before .record-view .result)) (c .before .before .before .before .before .added .ensures) (c .before .before .before .before .before .before .before .before .before .before .before .loop .inv .2) in
-    record { fits = omega (arith, a .records, c .before .before .pass-quiet .ensures .0, c .before .before .before .room-for .ensures .0, c .before .before .before .before .before .before .before .before .before .before .loop-test .taken, c .before .before .before .before .before .before .before .before .before .before .before .before .before .records-of .ensures .1) }
+    record { fits = omega (arith, a .records, pass-most _ _ (c .before .before .pass-quiet .ensures .0), c .before .before .before .room-for .ensures .0, c .before .before .before .before .before .before .before .before .before .before .loop-test .taken, c .before .before .before .before .before .before .before .before .before .before .before .before .before .records-of .ensures .1) }
 
 add-i-2 : tie.Need-add-i-2 Inv-loop μ-loop
-add-i-2 c = record { fits = omega (arith, c .before .before .before .before .pass-quiet .ensures .0, c .before .before .before .before .before .room-for .ensures .0, c .before .before .before .before .before .before .before .before .before .before .before .before .loop-test .taken, c .before .before .before .before .before .before .before .before .before .before .before .before .before .before .before .records-of .ensures .1) }
+add-i-2 c = record { fits = omega (arith, pass-most _ _ (c .before .before .before .before .pass-quiet .ensures .0), c .before .before .before .before .before .room-for .ensures .0, c .before .before .before .before .before .before .before .before .before .before .before .before .loop-test .taken, c .before .before .before .before .before .before .before .before .before .before .before .before .before .before .before .records-of .ensures .1) }
 
 loop-less : tie.Need-loop-less Inv-loop μ-loop
-loop-less c = omega (arith, c .before .before .before .before .pass-quiet .ensures .0, c .before .before .before .before .before .room-for .ensures .0, c .before .before .before .before .before .before .before .before .before .before .before .before .loop-test .taken, c .before .before .before .before .before .before .before .before .before .before .before .before .before .before .before .records-of .ensures .1)
+loop-less c = omega (arith, pass-most _ _ (c .before .before .before .before .pass-quiet .ensures .0), c .before .before .before .before .before .room-for .ensures .0, c .before .before .before .before .before .before .before .before .before .before .before .before .loop-test .taken, c .before .before .before .before .before .before .before .before .before .before .before .before .before .before .before .records-of .ensures .1)
 
 loop-again : tie.Need-loop-again Inv-loop μ-loop
 loop-again c =
     let e = next-state _ _ (c .before .before .before .before .before .before .before .before .before .before .before .before .before .loop .inv .1) (rw (c .before .before .before .before .before .before .before .before .record-view .ensures) at (c .before .before .before .before .before .before .next .ensures)) in
-    let q = c .before .before .before .before .pass-quiet .ensures .2 in (
-      omega (arith, c .before .before .before .before .pass-quiet .ensures .0, c .before .before .before .before .before .room-for .ensures .0, c .before .before .before .before .before .before .before .before .before .before .before .before .loop-test .taken, c .before .before .before .before .before .before .before .before .before .before .before .before .before .before .before .records-of .ensures .1),
+    let q = pass-are-quiet _ _ (c .before .before .before .before .pass-quiet .ensures .0) in (
+      omega (arith, pass-most _ _ (c .before .before .before .before .pass-quiet .ensures .0), c .before .before .before .before .before .room-for .ensures .0, c .before .before .before .before .before .before .before .before .before .before .before .before .loop-test .taken, c .before .before .before .before .before .before .before .before .before .before .before .before .before .before .before .records-of .ensures .1),
       c .before .before .before .before .pass-quiet .ensures .1 ∙ passed-state _ _ e q _ (le-refl _),
       quiet-addable _ _ (more-addable _ (c .before .before .before .before .before .before .before .before .before .before .before .due .result) (c .before .before .before .before .before .before .before .before .before .before .before .before .before .loop .sums) (now (c .before .before .before .before .before .before .before .before .record-view .result)) (c .before .before .before .before .before .before .before .added .ensures) (c .before .before .before .before .before .before .before .before .before .before .before .before .before .loop .inv .2)),
-      sums-quiet _ _ _ _ e q (λ l. c .before .before .before .before .before .room-for .ensures .1 (omega (arith, l, c .before .before .before .before .pass-quiet .ensures .0))) _ (le-refl _) (omega (arith, c .before .before .before .before .before .before .before .before .before .before .before .before .before .before .before .records-of .ensures .0, c .before .before .before .before .pass-quiet .ensures .0, c .before .before .before .before .before .room-for .ensures .0, c .before .before .before .before .before .before .before .before .before .before .before .before .loop-test .taken, c .before .before .before .before .before .before .before .before .before .before .before .before .before .before .before .records-of .ensures .1)) (sums-more _ _ _ _ (rw (c .before .before .before .before .before .before .before .before .before .before .before .before .before .before .before .records-of .ensures .0) at (c .before .before .before .before .before .before .before .before .before .before .before .before .loop-test .taken)) (c .before .before .before .before .before .before .before .before .before .before .before .before .before .loop .inv .1) (c .before .before .before .before .before .before .before .before .before .before .before .due .ensures) (c .before .before .before .before .before .before .before .before .before .before .rank-of .ensures) (c .before .before .before .before .before .before .before .before .before .if1 .left) (c .before .before .before .before .before .before .before .before .record-view .ensures) (c .before .before .before .before .before .before .before .added .ensures) (c .before .before .before .before .before .before .before .before .before .before .before .before .before .loop .inv .3)),
+      sums-quiet _ _ _ _ e q (λ l. c .before .before .before .before .before .room-for .ensures .1 (omega (arith, l, pass-most _ _ (c .before .before .before .before .pass-quiet .ensures .0)))) _ (le-refl _) (omega (arith, c .before .before .before .before .before .before .before .before .before .before .before .before .before .before .before .records-of .ensures .0, pass-most _ _ (c .before .before .before .before .pass-quiet .ensures .0), c .before .before .before .before .before .room-for .ensures .0, c .before .before .before .before .before .before .before .before .before .before .before .before .loop-test .taken, c .before .before .before .before .before .before .before .before .before .before .before .before .before .before .before .records-of .ensures .1)) (sums-more _ _ _ _ (rw (c .before .before .before .before .before .before .before .before .before .before .before .before .before .before .before .records-of .ensures .0) at (c .before .before .before .before .before .before .before .before .before .before .before .before .loop-test .taken)) (c .before .before .before .before .before .before .before .before .before .before .before .before .before .loop .inv .1) (c .before .before .before .before .before .before .before .before .before .before .before .due .ensures) (c .before .before .before .before .before .before .before .before .before .before .rank-of .ensures) (c .before .before .before .before .before .before .before .before .before .if1 .left) (c .before .before .before .before .before .before .before .before .record-view .ensures) (c .before .before .before .before .before .before .before .added .ensures) (c .before .before .before .before .before .before .before .before .before .before .before .before .before .loop .inv .3)),
     )
 
 returns-2 : tie.Need-returns-2 Inv-loop μ-loop

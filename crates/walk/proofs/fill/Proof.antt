@@ -8,7 +8,7 @@ use native.Mathlib.Omega.{arith}
 use borrow.Author.Needs.{needs}
 use Rattle.walk.specs.States.{dueOf, stateAt, countsAt}
 use Rattle.walk.proofs.Walking.{at-none, next-state, counts-none, next-counts, countable}
-use Rattle.walk.proofs.Passing.{passed-state, passed-counts}
+use Rattle.walk.proofs.Passing.{pass-most, pass-are-quiet, passed-state, passed-counts}
 use Rattle.walk.proofs.Filling.{filledTo, none-filled, room-left, one-filled, quiet-filled, filled-many, all-filled}
 use Rattle.walk.proofs.fill.Statement.{statement}
 use Rattle.walk.proofs.fill.Tie as tie
@@ -93,13 +93,13 @@ counted-past-requires c κs =
     let h = c .before .before .before .before .before .before .before .before .before in
     let r = h .before .before .before .before .before .before .records-of .ensures .1 in
     let k : h .before .loop .k + 1 ≤ 6399936 = omega (arith, h .loop-test .taken, r) in
-    (rw (behind (c .before) .1) (countable _ _ k .nodes), omega (arith, c .pass-quiet .ensures .0, r))
+    (rw (behind (c .before) .1) (countable _ _ k .nodes), omega (arith, pass-most _ _ (c .pass-quiet .ensures .0), r))
 
 add-k-2 : tie.Need-add-k-2 Inv-loop μ-loop
 add-k-2 c =
     let p = c .before .before .before in
     let h = p .before .before .before .before .before .before .before .before .before in
-    omega (arith, h .loop-test .taken, p .pass-quiet .ensures .0, h .before .before .before .before .before .before .records-of .ensures .1)
+    omega (arith, h .loop-test .taken, pass-most _ _ (p .pass-quiet .ensures .0), h .before .before .before .before .before .before .records-of .ensures .1)
 
 loop-less : tie.Need-loop-less Inv-loop μ-loop
 loop-less c = omega (arith, c .before .before .before .before .before .before .before .before .before .before .before .before .loop-test .taken)
@@ -117,11 +117,12 @@ loop-again c =
     let a = r .before .before .before in
     let b = behind x in
     let q = p .pass-quiet .ensures in
+    let u = pass-are-quiet _ _ (q .0) in
     let f = one-filled _ _ (r .records-of .ensures .0) (a .pre .0) (a .pre .1) _ (h .loop-test .taken) (v .due .ensures ∙ ap dueOf (l .loop .inv .1)) (l .loop .inv .2) (l .loop .inv .3) (v .before .record-view .ensures) (w .put-record .ensures) in (
-      omega (arith, h .loop-test .taken, q .0),
-      q .1 ∙ passed-state _ _ (b .0) (q .2) _ (le-refl _),
-      g .counted-past .ensures ∙ passed-counts _ _ (b .0) (q .2) _ (le-refl _) (b .1),
-      quiet-filled _ _ (r .records-of .ensures .0) (a .pre .0) (a .pre .1) _ (b .0) (q .2) f,
+      omega (arith, h .loop-test .taken, pass-most _ _ (q .0)),
+      q .1 ∙ passed-state _ _ (b .0) u _ (le-refl _),
+      g .counted-past .ensures ∙ passed-counts _ _ (b .0) u _ (le-refl _) (b .1),
+      quiet-filled _ _ (r .records-of .ensures .0) (a .pre .0) (a .pre .1) _ (b .0) u f,
     )
 
 same-length : tie.Need-same-length Inv-loop μ-loop

@@ -1,19 +1,20 @@
--- `walk::fine_ahead` meets its contract: the loop goes on while points and records are left and a record is fine at a glance.
--- Assumes nothing.
-use mathlib.Core.Path.{_≡_, _∙_}
-use Prim.Native.Nat.{_-_, _*_, _≤_, _<_}
+-- `walk::fine_ahead` meets its contract: the records found so far, and what is ahead of the one behind them, are what was ahead of the
+-- first. Assumes nothing.
+use denote.Ref.{now}
+use mathlib.Core.Path.{_≡_}
+use Prim.Native.Nat.{_+_, _-_, _≤_, _<_}
 use native.Mathlib.Omega.{arith}
 use lib.Dec.{ltb}
 use borrow.Author.Needs.{needs}
-use borrow.Author.Tests.{ltb-true, not-false}
+use borrow.Author.Tests.{ltb-true, not-true, not-false}
 use Rattle.verdict.proofs.Orders.{and-both}
-use Rattle.walk.specs.Quiet.{FineAhead}
-use Rattle.walk.proofs.Passing.{fine-none, fine-next}
+use Rattle.walk.specs.Quiet.{fineAhead}
+use Rattle.walk.proofs.Passing.{ahead-next, ahead-stops, ahead-ends}
 use Rattle.walk.proofs.fine_ahead.Statement.{statement}
 use Rattle.walk.proofs.fine_ahead.Tie as tie
 
 abbrev Inv-loop : tie.InvT-loop
-Inv-loop file points k n left₀ i₀ left i = (k ≤ i) × (i ≤ n) × (left ≡ points - 7 * (i - k)) × FineAhead file points k (i - k)
+Inv-loop file points k n left₀ i₀ left i = (k ≤ i) × (i ≤ n) × (i - k + fineAhead file left i (n - i) ≡ fineAhead file points k (n - k))
 
 abbrev μ-loop : tie.MeasureT-loop
 μ-loop file points k n left₀ i₀ left i = n - i
@@ -28,7 +29,7 @@ loop-holds : tie.Need-loop-holds Inv-loop μ-loop
 loop-holds c =
     let a = c .before .args in
     let z : a .k - a .k ≡ 0 = omega arith in
-    (omega arith, c .before .pre .0, omega arith, rw z (fine-none _ _ _))
+    (omega arith, c .before .pre .0, rw z (omega arith))
 
 add-record-view : tie.Need-add-record-view Inv-loop μ-loop
 add-record-view c = omega (arith, within c .0, c .before .before .before .pre .1)
@@ -44,8 +45,12 @@ sub-result c = c .before .before .before .before .loop .inv .0
 
 returns : tie.Need-returns Inv-loop μ-loop
 returns c =
-    let l = c .before .before .before .before .loop in
-    (omega (arith, l .inv .1), l .inv .3)
+    let f = c .before in
+    let v = f .before in
+    let t = v .before in
+    let w = within t in
+    let z = ahead-stops _ _ _ _ (w .0) (w .1) (v .record-view .ensures) (f .fine-coordinates .ensures _) (not-true _ (c .if1 .taken)) in
+    omega (arith, z, t .before .loop .inv .2)
 
 less-requires : tie.Need-less-requires Inv-loop μ-loop
 less-requires c κs = search needs
@@ -65,18 +70,19 @@ loop-again c =
     let v = f .before in
     let t = v .before in
     let l = t .before .loop in
-    let w = within t in (
-      omega (arith, l .inv .0),
-      omega (arith, w .0),
-      c .less .ensures ∙ omega (arith, l .inv .0, l .inv .2),
-      fine-next _ _ _ _ (l .inv .0) (l .inv .3) (l .inv .2) (w .1) (v .record-view .ensures) (f .fine-coordinates .ensures (not-false _ (e .if1 .left)) _),
-    )
+    let w = within t in
+    let z = ahead-next _ _ _ _ (w .0) (w .1) (v .record-view .ensures) (f .fine-coordinates .ensures _) (not-false _ (e .if1 .left)) in
+    (omega (arith, l .inv .0), omega (arith, w .0), rw (c .less .ensures) (omega (arith, z, l .inv .0, l .inv .2)))
 
 sub-result-2 : tie.Need-sub-result-2 Inv-loop μ-loop
 sub-result-2 c = c .before .loop .inv .0
 
 returns-2 : tie.Need-returns-2 Inv-loop μ-loop
-returns-2 c = (omega (arith, c .before .loop .inv .1), c .before .loop .inv .3)
+returns-2 c =
+    let l = c .before .loop in
+    let a = c .before .before .before .args in
+    let z = ahead-ends (now (a .file)) (l .left) (l .i) (a .n) (c .loop-test .left) in
+    omega (arith, z, l .inv .2)
 
 pub fine-ahead-spec : {M : Type 1} → statement M
 fine-ahead-spec =

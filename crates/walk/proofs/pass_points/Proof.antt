@@ -1,10 +1,10 @@
 -- `walk::pass_points` meets its contract: `most` records are fewer than the points take, or all are passed and no point is left.
 -- Assumes nothing.
-use native.Mathlib.Nat.{le-refl}
+use native.Mathlib.Nat.{min-eq-left, min-eq-right}
 use native.Mathlib.Omega.{arith}
-use mathlib.Core.Path.{refl}
+use mathlib.Core.Path.{refl, sym}
 use borrow.Author.Needs.{needs}
-use Rattle.walk.proofs.Passing.{past-points, quiet-points}
+use Rattle.walk.proofs.Passing.{past-points}
 use Rattle.walk.proofs.pass_points.Statement.{statement}
 use Rattle.walk.proofs.pass_points.Tie as tie
 
@@ -23,12 +23,12 @@ sub-u c = search needs
 returns : tie.Need-returns
 returns c =
     let p = c .before .before .before .pre in
-    (le-refl _, past-points _ _ p refl, quiet-points _ _ p (omega (arith, c .before .if1 .taken)))
+    (sym (min-eq-left (omega (arith, c .before .if1 .taken))), past-points _ _ p refl)
 
 returns-2 : tie.Need-returns-2
 returns-2 c =
     let p = c .before .before .pre in
-    (c .if1 .left, past-points _ _ p (omega (arith, p)), quiet-points _ _ p (le-refl _))
+    (sym (min-eq-right (c .if1 .left)), past-points _ _ p (omega (arith, p)))
 
 pub pass-points-spec : {M : Type 1} → statement M
 pass-points-spec = tie.close (tie.spec sub-all add-all mul-u sub-u returns returns-2)

@@ -10,7 +10,7 @@ use Rattle.verdict.specs.Rules.{firstBroken, rows}
 use Rattle.verdict.proofs.Parts.{rows-none, rows-pass}
 use Rattle.walk.specs.States.{dueOf, stateAt, countsAt}
 use Rattle.walk.proofs.Walking.{at-none, next-state, counts-none, next-counts, countable}
-use Rattle.walk.proofs.Passing.{past-counts, passed-state, passed-counts, fine-rows}
+use Rattle.walk.proofs.Passing.{past-counts, pass-most, pass-are-quiet, passed-state, passed-counts, found-most, found-fit, fine-rows}
 use Rattle.walk.proofs.Judging.{rulesOf, rule-is, two-stops, two-done, counts-done, walked-broken, walked-kept}
 use Rattle.walk.proofs.stage_two.Statement.{statement}
 use Rattle.walk.proofs.stage_two.Tie as tie
@@ -93,7 +93,7 @@ add-k-2 : tie.Need-add-k-2 Inv-loop μ-loop
 add-k-2 c =
     let p = c .before .before in
     let l = p .before .before .before .before .before .before .before .before .before in
-    omega (arith, l .loop-test .taken, p .pass-quiet .ensures .0, p .before .fine-ahead .ensures .0, l .before .before .before .before .records-of .ensures .1)
+    omega (arith, l .loop-test .taken, pass-most _ _ (p .pass-quiet .ensures .0), found-most _ _ _ _ (p .before .fine-ahead .ensures), l .before .before .before .before .records-of .ensures .1)
 
 loop-less : tie.Need-loop-less Inv-loop μ-loop
 loop-less c = omega (arith, c .before .before .before .before .before .before .before .before .before .before .before .loop-test .taken)
@@ -113,11 +113,13 @@ loop-again c =
     let s = next-state _ _ (l .loop .inv .1) (rw r at (x .next .ensures)) in
     let n = next-counts _ _ (l .loop .inv .2) (d .due .ensures ∙ ap dueOf (l .loop .inv .1)) (rw r at (q .counted .ensures)) in
     let g = p .pass-quiet .ensures in
-    let o = f .fine-ahead .ensures in (
-      omega (arith, t .before .loop-test .taken, g .0, o .0),
-      g .1 ∙ passed-state _ _ s (g .2) _ (le-refl _),
-      past-counts _ (x .next .result) _ (λ i. o .1 .left 0 (omega (arith, g .0))) ∙ passed-counts _ _ s (g .2) _ (le-refl _) n,
-      fine-rows _ _ s (g .2) (o .1) (g .0) (rows-pass _ _ (l .loop .inv .3) (rule-is _ _ (l .loop .inv .1) (d .due .ensures) r (a .judge-record .ensures)) (e .enum-told2 .given .1)),
+    let m = pass-most _ _ (g .0) in
+    let u = pass-are-quiet _ _ (g .0) in
+    let o = found-fit _ _ _ _ (f .fine-ahead .ensures) in (
+      omega (arith, t .before .loop-test .taken, m, found-most _ _ _ _ (f .fine-ahead .ensures)),
+      g .1 ∙ passed-state _ _ s u _ (le-refl _),
+      past-counts _ (x .next .result) _ (λ i. o .left (omega (arith, m))) ∙ passed-counts _ _ s u _ (le-refl _) n,
+      fine-rows _ _ s u o m (rows-pass _ _ (l .loop .inv .3) (rule-is _ _ (l .loop .inv .1) (d .due .ensures) r (a .judge-record .ensures)) (e .enum-told2 .given .1)),
     )
 
 due-requires-2 : tie.Need-due-requires-2 Inv-loop μ-loop
