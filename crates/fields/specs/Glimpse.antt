@@ -1,9 +1,11 @@
 -- What a glance at a field says of the answer to it: nothing, or the value, of five digits at most; and a sum that is the value of a field
 -- that is known to be well formed. It serves the code's speed and is no part of a promise. Assumes nothing.
+use mathlib.Core.Bool.{cond}
 use mathlib.Core.Path.{_≡_}
 use mathlib.Core.List.{List, [], _∷_}
 use Prim.Native.Nat.{ℕ, _+_, _*_, _%_, _<_}
 use lib.IntN.{pos}
+use Rattle.fields.specs.Place.{isInside, bytesAt}
 use Rattle.fields.specs.declared.Number.{Number}
 use Rattle.fields.specs.declared.Number.the-variants.{Value}
 use Rattle.fields.specs.declared.Glance.{Glance}
@@ -17,3 +19,7 @@ Glanced n (Sure v) = (n ≡ Value (pos v)) × (v < 100000)
 unfoldable pub remainders : ℕ → List ℕ → ℕ
 remainders n [] = n
 remainders n (b ∷ bs) = remainders (n * 10 + b % 16) bs
+
+-- the same of the w columns of s from column c on; 0 where they do not lie within s
+unfoldable pub remaindersAt : List ℕ → ℕ → ℕ → ℕ
+remaindersAt s c w = cond (isInside s c w) (remainders 0 (bytesAt s c w)) 0
