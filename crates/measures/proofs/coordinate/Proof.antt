@@ -17,7 +17,7 @@ cast-result c = search needs
 
 returns : tie.Need-returns
 unfolding addedUp
-returns c = toZ-pos w64 (cast-result c .sfits) ∙ ap pos (c .sum-of-five .ensures)
+returns c = toZ-pos w64 (cast-result c .sfits) ∙ ap pos (omega (arith, c .sum-of-five .ensures))
 
 pub coordinate-spec : {M : Type 1} → statement M
 coordinate-spec = tie.close (tie.spec sum-of-five-requires cast-result returns)
