@@ -2,15 +2,16 @@
 -- Assumes nothing.
 use mathlib.Core.List.{List}
 use mathlib.Core.Path.{_≡_, refl, ap}
-use Prim.Native.Nat.{ℕ, zero, suc, _≤_, _<_}
+use Prim.Native.Nat.{ℕ, _<_}
 use native.Mathlib.Omega.{arith}
 use lib.IntN.{ℤ}
 use Rattle.fields.proofs.Remainders.{sum-said}
 use Rattle.measures.specs.Measures.{Point, lineMeasure}
-use Rattle.measures.specs.Points.{coordinateIn, pairBy, pointBy, pointAt, pointCount, firstOf, pointsBy, measureBy, measureIn}
+use Rattle.measures.specs.Points.{coordinateIn, pairBy, pointBy, pointAt, pointCount, pointsBy, measureBy, measureIn}
 use Rattle.measures.specs.Sound.{SoundAt, Sound, addedUp}
 use Rattle.measures.specs.Walks.{Small}
 use Rattle.measures.proofs.Bounds.{small-le}
+use Rattle.measures.proofs.FirstLaws.{first-ext}
 use Rattle.measures.proofs.Walking.{along-near, begin-near, measure-is, count-le}
 
 -- a coordinate is the number that its bytes add up to
@@ -20,11 +21,6 @@ sound-is s c h = rw (sum-said s c 5 (h .value) (h .said), h .said)
 
 sound-few : {s : List ℕ} {c : ℕ} {z : ℤ} → SoundAt s c z → Small 10000 z
 sound-few h = rw (h .is) (record { small = h .permitted })
-
-first-ext : {A : Type 0} (f g : ℕ → A) (n : ℕ) → ((i : ℕ) → i < n → f i ≡ g i) → firstOf f n ≡ firstOf g n
-unfolding firstOf
-first-ext f g zero h = refl
-first-ext f g (suc n) h = rw (first-ext f g n (λ i l. h i (omega arith)), h n (omega arith))
 
 module _ (file : List ℕ) (r : ℕ) (s : Sound file r) where
   point-is : (i : ℕ) → i < pointCount file r → pointBy addedUp file r i ≡ pointAt file r i
