@@ -63,32 +63,6 @@ module _ (file : List ℕ) (p : Passed file) (k : ℕ) (l : k < recordsOf file) 
   unfolding stageSix
   six-holds = rw (← e) (all-hold seventh (k + 1) _ (row-fine _ (recordsOf file) (p .six) k l))
 
--- ---- a layer's counts
-
--- the check on columns 10-14 of an H
-head-lines : (last : ℕ) (t : List ℕ) → Holding (checksOf (Layer last) t) → sizeIn t 10 5 ≤ 9999
-unfolding layoutOf layerAsks asksOf askedOf formChecks valueChecks along checksOf sizeIn
-head-lines last t h = within-most 0 9999 _ (h .1 .1 .1 .1 .1 .1 .1 .1 .0)
-
-an-h : (d : Due) → isLayer d ≡ true → (last : ℕ) × (d ≡ Layer last)
-an-h (Mesh last) h = absurd (false≢true h)
-an-h (Layer last) h = (last, refl)
-an-h (Node layer last) h = absurd (false≢true h)
-an-h (Line layer last) h = absurd (false≢true h)
-an-h (Coordinates left) h = absurd (false≢true h)
-an-h (Area layer last) h = absurd (false≢true h)
-an-h (Loop last count left) h = absurd (false≢true h)
-
--- "H lines at most 9999"
-pub lines-limit : (file : List ℕ) → Passed file → (i : ℕ) → i < countsAt file (recordsOf file) .layers → layerOf file i .lines ≤ 9999
-lines-limit file p i l =
-    let q = row-laid file i l in
-    let k = q .0 in
-    let r = q .1 in
-    let d = an-h (dueOf (stateAt file k)) (r .due) in
-    let h : sizeIn (recordOf file (k + 1)) 10 5 ≤ 9999 = head-lines (d .0) (recordOf file (k + 1)) (two-holds file (p .two) k (r .within) (d .1)) in
-    rw (r .lines) (rw add-one at h)
-
 -- ---- a line
 
 -- a side's number v where 11 is kept: 0 or one of 1 to n

@@ -55,6 +55,32 @@ within-most low high v h =
     let b = and-both (natural v) (leb low (size v) && leb (size v) high) h in
     leb-true _ _ (and-both (leb low (size v)) (leb (size v) high) (b .1) .1)
 
+-- ---- a layer's counts
+
+-- the check on columns 10-14 of an H
+head-lines : (last : ℕ) (t : List ℕ) → Holding (checksOf (due.Layer last) t) → sizeIn t 10 5 ≤ 9999
+unfolding layoutOf layerAsks asksOf askedOf formChecks valueChecks along checksOf sizeIn
+head-lines last t h = within-most 0 9999 _ (h .1 .1 .1 .1 .1 .1 .1 .1 .0)
+
+an-h : (d : Due) → isLayer d ≡ true → (last : ℕ) × (d ≡ due.Layer last)
+an-h (Mesh last) h = absurd (false≢true h)
+an-h (due.Layer last) h = (last, refl)
+an-h (Node layer last) h = absurd (false≢true h)
+an-h (Line layer last) h = absurd (false≢true h)
+an-h (Coordinates left) h = absurd (false≢true h)
+an-h (Area layer last) h = absurd (false≢true h)
+an-h (Loop last count left) h = absurd (false≢true h)
+
+-- "H lines at most 9999"
+lines-limit : (file : List ℕ) → firstBroken (stageTwo file) ≡ Fine → (i : ℕ) → i < countsAt file (recordsOf file) .layers → layerOf file i .lines ≤ 9999
+lines-limit file f i l =
+    let q = row-laid file i l in
+    let k = q .0 in
+    let r = q .1 in
+    let d = an-h (dueOf (stateAt file k)) (r .due) in
+    let h : sizeIn (recordOf file (k + 1)) 10 5 ≤ 9999 = head-lines (d .0) (recordOf file (k + 1)) (two-holds file f k (r .within) (d .1)) in
+    rw (r .lines) (rw add-one at h)
+
 -- ---- a coordinate
 
 -- what the field at column c answers is well formed and permitted

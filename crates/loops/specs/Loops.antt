@@ -64,9 +64,10 @@ loopSlot file t l a area f r i =
 unfoldable pub winds : ℤ → ℤ → Bool
 winds serial m = cond (natural serial) (ltZ (pos 0) m) (ltZ m (pos 0))
 
--- "16: loop measure 0, or its sign unlike the serial's (loop's first record)". Entries are left of a loop that has begun
-unfoldable pub windChecks : List ℕ → List ℕ → layers.Layer → ℕ → ℕ → List Check
-windChecks file t l r left = cond (ltb 0 left) [] (check 1 16 (winds (numberIn file r 1 5) (loopMeasureIn file t l r)) ∷ [])
+-- "16: loop measure 0, or its sign unlike the serial's (loop's first record)", of a loop whose measure is m. Entries are left of a loop
+-- that has begun
+unfoldable pub windChecks : List ℕ → ℤ → ℕ → ℕ → List Check
+windChecks file m r left = cond (ltb 0 left) [] (check 1 16 (winds (numberIn file r 1 5) m) ∷ [])
 
 -- the loop's first record: of its `count` entries `left` are left, twelve a record
 unfoldable pub firstRecord : ℕ → ℕ → ℕ → ℕ
@@ -78,7 +79,7 @@ areaRecord t l area = getD t (l .area + (area - 1)) 0
 
 unfoldable pub loopChecks : List ℕ → List ℕ → layers.Layer → ℕ → ℕ → ℕ → ℕ → List Check
 loopChecks file t l area count left r =
-    windChecks file t l r left
+    windChecks file (loopMeasureIn file t l r) r left
     ++ spread 12 (loopSlot file t l (areaRecord t l area) area (firstRecord r count left) r)
 
 -- ---- the stage
