@@ -26,6 +26,8 @@ use Rattle.links.specs.Links.{isZero, loopEntry}
 use Rattle.links.proofs.Numbers.{told, asked}
 use Rattle.links.proofs.LineLaws.{Small, passed}
 use Rattle.entries.specs.Loops.{loopMeasureIn}
+use Rattle.entries.specs.Keeping.{keptLoop, Kept}
+use Rattle.entries.proofs.Keeping.{loop-kept}
 use Rattle.loops.specs.Loops.{repeatsArea, joins, rightArea, loopSlot, winds, windChecks, firstRecord, areaRecord, loopChecks, sixth}
 use Rattle.loops.specs.Scanning.{clean, FirstRepeat}
 
@@ -133,6 +135,11 @@ module _ (file : List ℕ) (x : ℤ) (r left : ℕ) where
     pub wind-fine : not b ≡ false → Fine ≡ firstBroken (block sixth r (windChecks file x r left))
     unfolding windChecks
     wind-fine u = rw (le-ltb 0 left h) (check-none sixth r ∙ sym (check-kept sixth r 1 16 _ [] (wound ∙ not-false b u)))
+
+-- by what was kept of its lines, where that is their measures
+pub wind-kept : (file t : List ℕ) (l : Layer) (ms : List ℤ) (r left : ℕ) {v : Verdict} → Kept file t l ms → v ≡ firstBroken (block sixth r (windChecks file (keptLoop file l ms r) r left))
+    → v ≡ firstBroken (block sixth r (windChecks file (loopMeasureIn file t l r) r left))
+wind-kept file t l ms r left k e = rw (← loop-kept file t l ms k r) e
 
 -- ---- a loop record
 

@@ -16,8 +16,8 @@ loop-measure-requires c κs = search needs
 winds-requires : tie.Need-winds-requires
 winds-requires c κs = search needs
 
-cast-t11 : tie.Need-cast-t11
-cast-t11 c = search needs
+cast-t10 : tie.Need-cast-t10
+cast-t10 c = search needs
 
 returns-2 : tie.Need-returns-2
 returns-2 c =
@@ -41,6 +41,6 @@ judge-winding-spec =
     number-at-requires
     loop-measure-requires
     winds-requires
-    cast-t11
+    cast-t10
     returns-2
     returns-3)
