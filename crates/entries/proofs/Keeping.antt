@@ -2,7 +2,7 @@
 -- all kept it is each line's measure. Assumes nothing.
 use mathlib.Core.Bool.{Bool, true, false, cond, _&&_, false≢true}
 use mathlib.Core.List.{List}
-use mathlib.Core.Path.{_≡_, refl, sym, _∙_, ap, subst}
+use mathlib.Core.Path.{_≡_, refl, sym, _∙_}
 use Prim.Native.Nat.{ℕ, suc, _+_, _-_, _^_, _≤_, _<_, min}
 use native.Mathlib.Nat.{zero-add, min-eq-left, min-eq-right}
 use native.Mathlib.Omega.{arith}
@@ -20,16 +20,15 @@ use Rattle.rules.specs.Permitted.{size}
 use Rattle.layers.specs.declared.Layer.{Layer}
 use Rattle.layers.specs.Naming.{namesLine, lineOf}
 use Rattle.layers.proofs.Answers.{line-size}
-use Rattle.measures.specs.Points.{measureBy, measureIn}
+use Rattle.measures.specs.Points.{coordinateIn, measureBy, measureIn}
 use Rattle.measures.specs.Sound.{addedUp}
 use Rattle.measures.specs.Walks.{Small}
 use Rattle.measures.specs.Measures.{Entry, loopMeasure, entryMeasure, plus, minus}
 use Rattle.measures.proofs.Bounds.{read-back}
-use Rattle.measures.proofs.FirstLaws.{first-at, first-many, first-stored, first-front}
+use Rattle.measures.proofs.FirstLaws.{first-at, first-stored, first-front}
 use Rattle.measures.proofs.Sounding.{sound-measure, sound-small}
 use Rattle.measures.proofs.SumLaws.{sum-ext}
 use Rattle.measures.proofs.Walking.{measure-none}
-use Rattle.measures.specs.Points.{coordinateIn}
 use Rattle.records.proofs.Numbers.{record-none}
 use Rattle.entries.specs.Loops.{measureOf, loopMeasureIn}
 use Rattle.entries.specs.Entries.{loopAt}

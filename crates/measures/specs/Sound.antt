@@ -11,7 +11,6 @@ use Rattle.fields.specs.Glimpse.{remaindersAt}
 use Rattle.fields.specs.Number.{numberAt}
 use Rattle.fields.specs.declared.Number.the-variants as number
 use Rattle.records.specs.View.{recordOf}
-use Rattle.measures.specs.Measures.{Point}
 use Rattle.measures.specs.Points.{pointCount, pointAt}
 
 pub record SoundAt (s : List ℕ) (c : ℕ) (z : ℤ) : Type 0 where

@@ -66,8 +66,8 @@ loop-again c =
       omega (arith, c .before .before .loop-test .taken),
       sum-small n (l .inv .1) (entry-small c),
       sum-is n (l .inv .1) (entry-small c)
-      ∙ ap₂ _+ℤ_ (l .inv .2) (told (slotMeasure _) (c .before .slot-of .ok) (c .before .slot-of .ensures) (c .entry-measure .ensures))
-      ∙ sym (loop-more _ (kept-none (a .l) (a .kept .now)) (a .file .now) (a .f) (l .e)),
+          ∙ ap₂ _+ℤ_ (l .inv .2) (told (slotMeasure _) (c .before .slot-of .ok) (c .before .slot-of .ensures) (c .entry-measure .ensures))
+          ∙ sym (loop-more _ (kept-none (a .l) (a .kept .now)) (a .file .now) (a .f) (l .e)),
     )
 
 returns : tie.Need-returns Inv-loop μ-loop
