@@ -21,12 +21,15 @@ use Rattle.measures.specs.Sound.{Sound, addedUp}
 use Rattle.entries.specs.Entries.{loopAt}
 use Rattle.entries.specs.Loops.{measureOf}
 
+-- measured without a test of a byte
 unfoldable pub walkedTo : List ℕ → List ℕ → Layer → ℕ → List ℤ
 walkedTo file t l n = firstOf (λ i. measureBy addedUp file (getD t (l .line + i) 0)) n
 
+-- 999,999 points at most, and each step at most 2 * 10^8 either way
 unfoldable pub possibleOf : ℤ → ℤ
 possibleOf z = cond (leb (natAbs z) 200000000000000) z (pos 0)
 
+-- so it is small, whatever the list has, and no sum that the code makes of it can grow too large
 unfoldable pub keptMeasure : Layer → List ℤ → ℕ → ℤ
 keptMeasure l ms n = cond (namesLine (l .lines) (pos n)) (possibleOf (getD ms (n - 1) (pos 0))) (pos 0)
 
@@ -36,6 +39,7 @@ keptLoop file l ms f = loopMeasure (keptMeasure l ms) (loopAt file f)
 pub record Kept (file t : List ℕ) (l : Layer) (ms : List ℤ) : Type 0 where
   pub kept : (n : ℕ) → keptMeasure l ms n ≡ measureOf file t l n
 
+-- an H counts no more than 9999 lines
 pub record SoundLayer (file t : List ℕ) (l : Layer) : Type 0 where
   pub few : l .lines ≤ 9999
   pub sound : (i : ℕ) → i < l .lines → Sound file (getD t (l .line + i) 0)

@@ -19,7 +19,7 @@ pub record SoundAt (s : List ℕ) (c : ℕ) (z : ℤ) : Type 0 where
   pub said : numberAt s c 5 ≡ number.Value (pos value)
   pub is : z ≡ pos value
 
--- point i of the line is the two numbers at columns 1 + 10 * (i % 7) and 6 + 10 * (i % 7) of the coordinate record i / 7 behind its L's next
+-- point i stands in the coordinate record i / 7 behind the L, counted from 0, as its pair i % 7
 pub record Sound (file : List ℕ) (r : ℕ) : Type 0 where
   pub east : (i : ℕ) → i < pointCount file r → SoundAt (recordOf file (r + 1 + i / 7)) (1 + 10 * (i % 7)) (pointAt file r i .x)
   pub north : (i : ℕ) → i < pointCount file r → SoundAt (recordOf file (r + 1 + i / 7)) (6 + 10 * (i % 7)) (pointAt file r i .y)
