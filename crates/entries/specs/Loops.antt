@@ -1,6 +1,6 @@
 -- The measures of loops and areas of a file (RULES 7.2, 7.3); t is the file's table and l the layer. Assumes nothing.
 --   measureOf file t l n      the measure of line n of the layer; 0 where n names no line
---   slotMeasure file t l v    what a slot adds to its loop's measure
+--   slotMeasure m v           what a slot adds to its loop's measure, where m gives each line's
 --   loopMeasureIn file t l f  the measure of the loop whose first record is f
 --   areaMeasureIn file t l a  the measure of the area whose A is record a
 use mathlib.Core.Bool.{cond}
@@ -19,8 +19,8 @@ unfoldable pub measureOf : List ℕ → List ℕ → Layer → ℕ → ℤ
 measureOf file t l n = measureIn file (lineOf t l (pos n))
 
 -- RULES 7.2: what a slot adds: +n line n's measure; -n takes it away; 0, which names no line, adds 0
-unfoldable pub slotMeasure : List ℕ → List ℕ → Layer → ℤ → ℤ
-slotMeasure file t l v = cond (natural v) (measureOf file t l (size v)) (negℤ (measureOf file t l (size v)))
+unfoldable pub slotMeasure : (ℕ → ℤ) → ℤ → ℤ
+slotMeasure m v = cond (natural v) (m (size v)) (negℤ (m (size v)))
 
 -- RULES 7.2: a loop's measure is the sum over its entries: +n adds line n's, -n takes it away
 unfoldable pub loopMeasureIn : List ℕ → List ℕ → Layer → ℕ → ℤ

@@ -5,13 +5,13 @@
 // measures are.
 use layers::Layer;
 ghost use mathlib.Core.Path.{_≡_};
-ghost use Prim.Native.Nat.{_≤_};
-ghost use lib.ListN.{length, take};
+ghost use Prim.Native.Nat.{_≤_, min};
+ghost use lib.ListN.{length};
+ghost use lib.Seq.{sets};
 ghost use Rattle.rules.specs.Permitted.{size};
-ghost use Rattle.measures.specs.Walks.{Small};
 ghost use Rattle.entries.specs.Entries.{slotOf, recordsFor, countAt, loopsAt, slotsOf};
-ghost use Rattle.entries.specs.Loops.{measureOf, slotMeasure, loopMeasureIn};
-ghost use Rattle.entries.specs.Keeping.{Kept, SoundLayer};
+ghost use Rattle.entries.specs.Loops.{slotMeasure};
+ghost use Rattle.entries.specs.Keeping.{walkedTo, possibleOf, keptMeasure, keptLoop};
 
 // ---- slots
 
@@ -76,22 +76,23 @@ pub fn area_slots(file: &[u8], a: usize) -> usize
 // ---- measures
 
 // Measures the first lines of a layer, as many as there is room for, and says how many. It reads their
-// coordinates without a test, so they have to be well formed.
+// coordinates without a test, so what it keeps are the measures of lines that are well formed.
 pub fn keep_measures(file: &[u8], table: &[u32], l: Layer, kept: &mut [i64]) -> usize
-    ensures { λ r. ⌜ (r ≤ length (now (kept .exit))) × (length (now (kept .exit)) ≡ length (now (kept .entry))) × (SoundLayer (now (file .entry)) (now (table .entry)) l → Kept (now (file .entry)) (now (table .entry)) l (take r (now (kept .exit)))) ⌝ }
+    ensures { λ r. ⌜ (r ≡ min (l .lines) (length (now (kept .entry)))) × (now (kept .exit) ≡ sets (now (kept .entry)) 0 (walkedTo (now (file .entry)) (now (table .entry)) l r)) ⌝ }
 {
     let n = l.lines as usize;
     let mut i: usize = 0;
     while (i < n) & (i < kept.len()) {
-        kept[i] = measures::sound_measure(file, layers::line_word(table, l, i));
+        kept[i] = measures::line_measure(file, layers::line_word(table, l, i));
         i += 1;
     }
     i
 }
 
-// A kept measure. One that no line can have counts as 0, so that no sum can grow too large.
+// A kept measure. One that no line of an accepted file can have counts as 0, so that no sum can grow too
+// large.
 fn possible(m: i64) -> i64
-    ensures { λ r. ⌜ (Small 200000000000000 r) × (Small 200000000000000 m → r ≡ m) ⌝ }
+    ensures { λ r. ⌜ r ≡ possibleOf m ⌝ }
 {
     if m < -200000000000000 {
         return 0;
@@ -102,9 +103,9 @@ fn possible(m: i64) -> i64
     m
 }
 
-// The measure of the line that the entry `v` names: kept, or walked; 0 where it names none.
-pub fn line_measure(file: &[u8], table: &[u32], l: Layer, kept: &[i64], v: i32) -> i64
-    ensures { λ r. ⌜ (Small 200000000000000 r) × (Kept (now (file .entry)) (now (table .entry)) l (now (kept .entry)) → r ≡ measureOf (now (file .entry)) (now (table .entry)) l (size v)) ⌝ }
+// The measure that is kept of the line that the entry `v` names; 0 where it names none, or none is kept.
+pub fn line_measure(l: Layer, kept: &[i64], v: i32) -> i64
+    ensures { λ r. ⌜ r ≡ keptMeasure l (now (kept .entry)) (size v) ⌝ }
 {
     if !layers::names_line(l.lines, v) {
         return 0;
@@ -113,14 +114,14 @@ pub fn line_measure(file: &[u8], table: &[u32], l: Layer, kept: &[i64], v: i32) 
     if i < kept.len() {
         return possible(kept[i]);
     }
-    measures::line_measure(file, layers::line_of(table, l, v))
+    0
 }
 
 // The measure of an entry: its line's, taken away for a line that is walked backwards.
-fn entry_measure(file: &[u8], table: &[u32], l: Layer, kept: &[i64], v: i32) -> i64
-    ensures { λ r. ⌜ (Small 200000000000000 r) × (Kept (now (file .entry)) (now (table .entry)) l (now (kept .entry)) → r ≡ slotMeasure (now (file .entry)) (now (table .entry)) l v) ⌝ }
+fn entry_measure(l: Layer, kept: &[i64], v: i32) -> i64
+    ensures { λ r. ⌜ r ≡ slotMeasure (keptMeasure l (now (kept .entry))) v ⌝ }
 {
-    let m = line_measure(file, table, l, kept, v);
+    let m = line_measure(l, kept, v);
     if rules::natural(v) {
         return m;
     }
@@ -128,15 +129,15 @@ fn entry_measure(file: &[u8], table: &[u32], l: Layer, kept: &[i64], v: i32) -> 
 }
 
 // The measure of the loop whose first record is `f`, by the measures that were kept of its layer's lines.
-pub fn loop_measure(file: &[u8], table: &[u32], l: Layer, kept: &[i64], f: usize) -> i64
-    ensures { λ r. ⌜ (Kept (now (file .entry)) (now (table .entry)) l (now (kept .entry)) → r ≡ loopMeasureIn (now (file .entry)) (now (table .entry)) l f) ⌝ }
+pub fn loop_measure(file: &[u8], l: Layer, kept: &[i64], f: usize) -> i64
+    ensures { λ r. ⌜ r ≡ keptLoop (now (file .entry)) l (now (kept .entry)) f ⌝ }
 {
     let n = 12 * loop_records(file, f);
     let mut sum: i64 = 0;
     let mut e: usize = 0;
     while e < n {
         let v = slot_of(file, f, e);
-        sum += entry_measure(file, table, l, kept, v);
+        sum += entry_measure(l, kept, v);
         e += 1;
     }
     sum

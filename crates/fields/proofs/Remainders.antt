@@ -6,19 +6,19 @@ use mathlib.Core.Path.{_≡_, refl, _∙_}
 use Prim.Native.Nat.{ℕ, zero, suc, _+_, _-_, _*_, _/_, _%_, _^_, _≤_, _<_}
 use native.Mathlib.Nat.{pow-suc}
 use native.Mathlib.Omega.{arith}
-use lib.Dec.{leb}
+use lib.Dec.{leb, lit≤}
 use lib.IntN.{pos}
 use lib.ListN.{length, getD, take, drop}
 use borrow.Author.Tests.{leb-true, leb-false}
-use Rattle.fields.specs.Glimpse.{remainders}
+use Rattle.fields.specs.Glimpse.{remainders, remaindersAt}
 use Rattle.fields.specs.Number.{numberAt}
-use Rattle.fields.specs.Place.{isInside}
+use Rattle.fields.specs.Place.{isInside, bytesAt}
 use Rattle.fields.specs.Spelling.{restOf, columns, spell}
 use Rattle.fields.specs.declared.Left.the-variants.{Blanks, Digits}
 use Rattle.fields.specs.declared.Number.the-variants.{Value}
 use Rattle.fields.proofs.AtGlance.{entries, entries-are}
 use Rattle.fields.proofs.FieldLaws.{number-says}
-use Rattle.fields.proofs.Places.{part-is}
+use Rattle.fields.proofs.Places.{part-is, bytes-length}
 use Rattle.fields.proofs.Range.{holds-size}
 
 last-remainder : (n : ℕ) (f : List ℕ) (b : ℕ) → remainders n (f ++ (b ∷ [])) ≡ remainders n f * 10 + b % 16
@@ -58,16 +58,31 @@ pub five-sum : (f : List ℕ) → length f ≡ 5
 unfolding remainders entries
 five-sum f w = rw (← entries-are f 0 5 (omega arith)) (omega arith)
 
--- the part that the code cuts out, where the field says n
-pub field-sum : (s : List ℕ) (c w n : ℕ) → numberAt s c w ≡ Value (pos n) → remainders 0 (take (c - 1 + w - (c - 1)) (drop (c - 1) s)) ≡ n
-unfolding spell
-field-sum s c w n e =
-    let h = number-says s c w (pos n) e in
-    rw (part-is s c w, h .spelled) (digits-sum w n (holds-size w n (h .held)))
+module _ (s : List ℕ) (c w : ℕ) where
+  -- as the code adds up: the part that it cuts out where the field lies within s, and nothing where it does not
+  pub part-sum : isInside s c w ≡ true → remainders 0 (take (c - 1 + w - (c - 1)) (drop (c - 1) s)) ≡ remaindersAt s c w
+  unfolding remaindersAt
+  part-sum i = rw (i, part-is s c w)
 
--- where the field is not in s, it says nothing
-pub nothing-said : (s : List ℕ) (c w n : ℕ) {t : Bool} → t ≡ isInside s c w → t ≡ false → numberAt s c w ≡ Value (pos n) → ⊥
-nothing-said s c w n e f h =
-    let i = number-says s c w (pos n) h .there in
-    let z : _≡_ {A = ℕ} 0 1 = cc in
-    omega arith
+  pub no-sum : isInside s c w ≡ false → 0 ≡ remaindersAt s c w
+  unfolding remaindersAt
+  no-sum i = rw i
+
+  -- A FIELD THAT SAYS A NUMBER FROM 0 ON HAS IT AS ITS SUM
+  pub sum-said : (n : ℕ) → numberAt s c w ≡ Value (pos n) → remaindersAt s c w ≡ n
+  unfolding remaindersAt spell
+  sum-said n e =
+      let h = number-says s c w (pos n) e in
+      rw (h .there, h .spelled) (digits-sum w n (holds-size w n (h .held)))
+
+-- five bytes come to no more than 15 at each power of ten
+five-most : (f : List ℕ) → length f ≡ 5 → remainders 0 f ≤ 166665
+five-most f w = rw (← five-sum f w) (omega arith)
+
+pub five-small : (s : List ℕ) (c : ℕ) → remaindersAt s c 5 ≤ 166665
+unfolding remaindersAt
+five-small s c = by (isInside s c 5) refl
+  where
+    by : (t : Bool) → isInside s c 5 ≡ t → cond t (remainders 0 (bytesAt s c 5)) 0 ≤ 166665
+    by true i = five-most (bytesAt s c 5) (bytes-length s c 5 i)
+    by false i = lit≤ tt

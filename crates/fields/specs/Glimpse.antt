@@ -5,6 +5,7 @@ use mathlib.Core.List.{List, [], _∷_}
 use Prim.Native.Nat.{ℕ, _+_, _*_, _%_}
 use lib.Dec.{ltb}
 use lib.IntN.{pos, negsuc}
+use Rattle.fields.specs.Place.{isInside, bytesAt}
 use Rattle.fields.specs.declared.Number.{Number}
 use Rattle.fields.specs.declared.Number.the-variants.{Value, Refused}
 use Rattle.fields.specs.declared.Glance.{Glance}
@@ -20,3 +21,7 @@ glimpseOf Refused = Unsure
 unfoldable pub remainders : ℕ → List ℕ → ℕ
 remainders n [] = n
 remainders n (b ∷ bs) = remainders (n * 10 + b % 16) bs
+
+-- the same of the w columns of s from column c on; 0 where they do not lie within s
+unfoldable pub remaindersAt : List ℕ → ℕ → ℕ → ℕ
+remaindersAt s c w = cond (isInside s c w) (remainders 0 (bytesAt s c w)) 0

@@ -7,7 +7,7 @@
 ghost use mathlib.Core.Bool.{true};
 ghost use mathlib.Core.Path.{_≡_};
 ghost use mathlib.Core.List.{[], _∷_, _++_};
-ghost use Prim.Native.Nat.{ℕ, _+_, _<_, _≤_};
+ghost use Prim.Native.Nat.{_+_, _<_, _≤_};
 ghost use lib.ListN.{length, take, drop, replicate};
 ghost use lib.IntN.{natAbs, pos};
 ghost use Rattle.fields.specs.Place.{isInside};
@@ -16,8 +16,7 @@ ghost use Rattle.fields.specs.Spelling.{lastOf, restOf, columns, leftOf,
 ghost use Rattle.fields.specs.Text.{isPair, isName, isBlanks, textAt};
 ghost use Rattle.fields.specs.Answer.{valueOf, numberFits, nameFits, Wrote};
 ghost use Rattle.fields.specs.Ending.{EndsIn, Plain};
-ghost use Rattle.fields.specs.Glimpse.{glimpseOf, remainders};
-ghost use Rattle.fields.specs.declared.Number.the-variants as number;
+ghost use Rattle.fields.specs.Glimpse.{glimpseOf, remainders, remaindersAt};
 
 // The answer to a number field: its value, or refusal 5.
 pub enum Number {
@@ -229,7 +228,7 @@ pub fn glance_number(s: &[u8], column: usize) -> Glance
 // The remainders by 16 of five bytes, added up at the powers of ten: a space gives 0, and a digit itself.
 fn remainders_of(f: &[u8]) -> u32
     requires { ⌜ length (now f) ≡ 5 ⌝ }
-    ensures { λ r. ⌜ (r ≤ 166665) × (r ≡ remainders 0 (now (f .entry))) ⌝ }
+    ensures { λ r. ⌜ r ≡ remainders 0 (now (f .entry)) ⌝ }
 {
     wide(f[0] % 16) * 10000
         + wide(f[1] % 16) * 1000
@@ -238,10 +237,10 @@ fn remainders_of(f: &[u8]) -> u32
         + wide(f[4] % 16)
 }
 
-// The same of the five columns from `column` on: the field's number where that is one from 0 on, found
-// without a test of a byte. It is here for speed alone.
+// The same of the five columns from `column` on, 166665 at most: the field's number where that is one from
+// 0 on, found without a test of a byte. It is here for speed alone.
 pub fn sum_of_five(s: &[u8], column: usize) -> u32
-    ensures { λ r. ⌜ (r ≤ 166665) × ((n : ℕ) → numberAt (now (s .entry)) column 5 ≡ number.Value (pos n) → r ≡ n) ⌝ }
+    ensures { λ r. ⌜ r ≡ remaindersAt (now (s .entry)) column 5 ⌝ }
 {
     if !inside(s, column, 5) {
         return 0;

@@ -10,32 +10,28 @@ use lib.Dec.{eqb}
 use lib.IntN.{ℤ, pos, negsuc}
 use lib.ListN.{getD}
 use borrow.Author.Tests.{eqb-true}
-use Rattle.records.specs.View.{recordOf, numberIn}
-use Rattle.records.specs.Layout.{layoutOf}
+use Rattle.records.specs.View.{numberIn}
 use Rattle.verdict.specs.declared.Verdict.the-variants.{Fine}
 use Rattle.verdict.specs.Rules.{firstBroken}
 use Rattle.verdict.proofs.Holding.{row-fine, Holding, all-hold, both-hold, slot-holds}
 use Rattle.rules.specs.declared.Due.{Due}
-use Rattle.rules.specs.declared.Due.the-variants.{Mesh, Layer, Node, Line, Coordinates, Area, Loop}
 use Rattle.rules.specs.Permitted.{size, within, is}
-use Rattle.rules.specs.Asks.{layerAsks, asksOf, askedOf}
-use Rattle.rules.specs.Checks.{formChecks, valueChecks, along, checksOf}
-use Rattle.walk.specs.States.{sizeIn, dueOf, stateAt, countsAt}
+use Rattle.walk.specs.States.{dueOf, stateAt}
 use Rattle.walk.specs.Stages.{recordsOf, stageTwo}
 use Rattle.walk.specs.Table.{tableOf}
 use Rattle.walk.proofs.Judging.{ended}
 use Rattle.layers.specs.declared.Layer as layers
 use Rattle.layers.specs.Naming.{layerIn, names, namesLine, lineOf, areaOf}
-use Rattle.layers.specs.Passing.{isLayer, layerAt, basesIn, layerOf}
-use Rattle.layers.proofs.Rows.{row-laid}
+use Rattle.layers.specs.Passing.{layerAt, basesIn, layerOf}
 use Rattle.layers.proofs.Laid.{area-due, area-word, LineAt, AreaAt}
 use Rattle.links.specs.Links.{isZero, lineEndChecks, sideChecks, lineChecks, loopEntry, entryChecks, linkChecks, fifth, stageFour}
 use Rattle.entries.specs.Entries.{slotOf, loopsAt, recordsTo, slotsOf}
+use Rattle.entries.specs.Loops.{loopMeasureIn}
 use Rattle.entries.proofs.Owning.{inside, complete}
 use Rattle.loops.specs.Loops.{repeatsArea, rightArea, loopSlot, windChecks, firstRecord, areaRecord, loopChecks, areaChecks, sixth, stageFive}
 use Rattle.sides.specs.Sides.{lists, sideListed, listChecks, lineListChecks, seventh, stageSix}
 use Rattle.ground.specs.Layers.{leftOf, rightOf}
-use Rattle.ground.proofs.Soundness.{two-holds, within-most}
+use Rattle.ground.proofs.Soundness.{within-most}
 
 -- ---- the stages
 
@@ -62,32 +58,6 @@ module _ (file : List ℕ) (p : Passed file) (k : ℕ) (l : k < recordsOf file) 
   six-holds : Holding (lineListChecks d file (tableOf file) here (k + 1))
   unfolding stageSix
   six-holds = rw (← e) (all-hold seventh (k + 1) _ (row-fine _ (recordsOf file) (p .six) k l))
-
--- ---- a layer's counts
-
--- the check on columns 10-14 of an H
-head-lines : (last : ℕ) (t : List ℕ) → Holding (checksOf (Layer last) t) → sizeIn t 10 5 ≤ 9999
-unfolding layoutOf layerAsks asksOf askedOf formChecks valueChecks along checksOf sizeIn
-head-lines last t h = within-most 0 9999 _ (h .1 .1 .1 .1 .1 .1 .1 .1 .0)
-
-an-h : (d : Due) → isLayer d ≡ true → (last : ℕ) × (d ≡ Layer last)
-an-h (Mesh last) h = absurd (false≢true h)
-an-h (Layer last) h = (last, refl)
-an-h (Node layer last) h = absurd (false≢true h)
-an-h (Line layer last) h = absurd (false≢true h)
-an-h (Coordinates left) h = absurd (false≢true h)
-an-h (Area layer last) h = absurd (false≢true h)
-an-h (Loop last count left) h = absurd (false≢true h)
-
--- RULES 4.2: the lines of an H are at most 9999
-pub lines-limit : (file : List ℕ) → Passed file → (i : ℕ) → i < countsAt file (recordsOf file) .layers → layerOf file i .lines ≤ 9999
-lines-limit file p i l =
-    let q = row-laid file i l in
-    let k = q .0 in
-    let r = q .1 in
-    let d = an-h (dueOf (stateAt file k)) (r .due) in
-    let h : sizeIn (recordOf file (k + 1)) 10 5 ≤ 9999 = head-lines (d .0) (recordOf file (k + 1)) (two-holds file (p .two) k (r .within) (d .1)) in
-    rw (r .lines) (rw add-one at h)
 
 -- ---- a line
 
@@ -195,4 +165,4 @@ slot-kept file p i a k x e m =
     let g = firstRecord (j + 1) (v .count) (v .left) in
     slot-by file t (layerOf file i) (suc a) (suc k) g (j + 1) (e % 12) e (omega arith) refl z
     (slot-holds _ 12 four (e % 12) (omega arith) .0)
-    (slot-holds _ 12 (both-hold (windChecks file t (layerOf file i) (j + 1) (v .left)) _ five .1) (e % 12) (omega arith))
+    (slot-holds _ 12 (both-hold (windChecks file (loopMeasureIn file t (layerOf file i) (j + 1)) (j + 1) (v .left)) _ five .1) (e % 12) (omega arith))

@@ -12,8 +12,7 @@ use lib.IntN.{ℤ, pos, negℤ, _+ℤ_}
 use Rattle.walk.specs.States.{countsAt}
 use Rattle.walk.specs.Stages.{recordsOf}
 use Rattle.walk.specs.Table.{tableOf}
-use Rattle.layers.specs.declared.Layer.{Layer}
-use Rattle.layers.specs.Naming.{lineOf, areaOf}
+use Rattle.layers.specs.Naming.{areaOf}
 use Rattle.layers.specs.Passing.{layerOf}
 use Rattle.measures.specs.Ground.{Known, NoRepeat, stands}
 use Rattle.measures.specs.Measures.{Entry, plus, minus, loopMeasure, areaMeasure, outside}
@@ -22,13 +21,15 @@ use Rattle.measures.specs.Walks.{Small}
 use Rattle.measures.proofs.Bounds.{add-small, neg-small, small-le}
 use Rattle.measures.proofs.Ground.{loop-lines, ground-prefix}
 use Rattle.measures.proofs.SumLaws.{sumTo-none, sumTo-more, only, inside}
-use Rattle.measures.proofs.Walking.{measure-small}
 use Rattle.entries.specs.Entries.{entriesTo, recordsTo, loopsAt, slotsOf, loopsTo}
+use Rattle.entries.specs.Keeping.{SoundLayer}
 use Rattle.entries.specs.Loops.{measureOf}
+use Rattle.entries.proofs.Keeping.{measure-small}
 use Rattle.entries.proofs.Rows.{row-known, row-once, loops-row}
 use Rattle.loops.specs.Loops.{repeatsArea}
 use Rattle.ground.specs.Layers.{areaOfLayer, leftOf, rightOf}
-use Rattle.ground.proofs.Kept.{Passed, lines-limit}
+use Rattle.ground.proofs.Soundness.{table-sound}
+use Rattle.ground.proofs.Kept.{Passed}
 use Rattle.ground.proofs.Grounds.{entriesOf, areas-entries, slots-kept, listed}
 
 -- ---- sums of small numbers
@@ -64,10 +65,6 @@ module _ (n : ℕ) (most : n ≤ 9999) (m : ℕ → ℤ) (small : (i : ℕ) → 
   entries-small : (es : List Entry) → Known n es → NoRepeat es → Small 4000000000000000000 (loopMeasure m es)
   entries-small es k o = rw (loop-lines n m es k o) (picked-small (λ i. stands (plus i) es) (λ i. stands (minus i) es))
 
-line-small : (file t : List ℕ) (l : Layer) (n : ℕ) → Small 200000000000000 (measureOf file t l n)
-unfolding measureOf
-line-small file t l n = measure-small file (lineOf t l (pos n))
-
 -- more loops have more records
 records-grow : (file : List ℕ) (a j n : ℕ) → j ≤ n → recordsTo file a j ≤ recordsTo file a n
 unfolding recordsTo
@@ -81,6 +78,13 @@ records-grow file a j (suc n) l =
     (eq-or-lt-of-le l)
 
 module _ (file : List ℕ) (p : Passed file) (i : ℕ) (l : i < countsAt file (recordsOf file) .layers) where
+  -- the layer's lines are well formed, and no more than 9999
+  sound : SoundLayer file (tableOf file) (layerOf file i)
+  sound = table-sound file (p .two) .layers i l
+
+  line-small : (n : ℕ) → Small 200000000000000 (measureOf file (tableOf file) (layerOf file i) n)
+  line-small = measure-small file (tableOf file) (layerOf file i) sound
+
   -- an area's first j loops
   pub area-small : (a : ℕ) → 0 < a → a ≤ layerOf file i .areas → (j : ℕ) → j ≤ loopsAt file (areaOf (tableOf file) (layerOf file i) (pos a))
       → Small 4000000000000000000 (areaMeasure (measureOf file (tableOf file) (layerOf file i)) (loopsTo file (areaOf (tableOf file) (layerOf file i) (pos a)) j))
@@ -92,7 +96,7 @@ module _ (file : List ℕ) (p : Passed file) (i : ℕ) (l : i < countsAt file (r
       let n = 12 * recordsTo file x j in
       let kept = slots-kept file p i l a o m in
       rw (loops-row file x (measureOf file (tableOf file) y) j)
-      (entries-small (y .lines) (lines-limit file p i l) _ (line-small file (tableOf file) y) (entriesTo file (x + 1) n)
+      (entries-small (y .lines) (sound .few) _ line-small (entriesTo file (x + 1) n)
       (row-known file (x + 1) n (y .lines) (λ e r. kept e (omega arith) .known))
       (row-once file (x + 1) n (λ e r. kept e (omega arith) .once)))
 
@@ -102,7 +106,7 @@ module _ (file : List ℕ) (p : Passed file) (i : ℕ) (l : i < countsAt file (r
       let t = tableOf file in
       let y = layerOf file i in
       rw (areas-entries file t y j, ground-prefix (y .lines) (measureOf file t y) (leftOf file t y) (rightOf file t y) (y .areas) (entriesOf file t y) (listed file p i l) j m)
-      (picked-small (y .lines) (lines-limit file p i l) _ (line-small file t y) (λ n. inside (rightOf file t y n) j) (λ n. inside (leftOf file t y n) j))
+      (picked-small (y .lines) (sound .few) _ line-small (λ n. inside (rightOf file t y n) j) (λ n. inside (leftOf file t y n) j))
 
   -- the outside sum along its first j lines
   pub outside-small : (j : ℕ) → j ≤ layerOf file i .lines
@@ -110,4 +114,4 @@ module _ (file : List ℕ) (p : Passed file) (i : ℕ) (l : i < countsAt file (r
   outside-small j m =
       let t = tableOf file in
       let y = layerOf file i in
-      small-le 4000000000000000000 (sum-small j 200000000000000 _ (λ n _ _. outside-one (eqb (leftOf file t y n) 0) (eqb (rightOf file t y n) 0) (line-small file t y n))) (omega (arith, lines-limit file p i l))
+      small-le 4000000000000000000 (sum-small j 200000000000000 _ (λ n _ _. outside-one (eqb (leftOf file t y n) 0) (eqb (rightOf file t y n) 0) (line-small n))) (omega (arith, sound .few))

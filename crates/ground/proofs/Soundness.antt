@@ -1,9 +1,11 @@
--- A file that keeps stage 2 has well formed and permitted coordinates: behind each L its coordinate records are due, one after the other,
--- and the file cannot end before the last of them. Assumes nothing.
+-- EVERY POINT IS STATED: in a file that keeps stage 2 each point of each line is two well formed numbers from 0 to 10000 that stand in its
+-- record. Behind each L its coordinate records are due, one after the other, and the file cannot end before the last of them.
+-- Assumes nothing.
 use mathlib.Core.Bool.{Bool, true, false, not, _&&_, false≢true}
 use mathlib.Core.List.{List, [], _∷_, _++_}
 use mathlib.Core.Path.{_≡_, refl, sym, _∙_, ap}
-use Prim.Native.Nat.{ℕ, zero, suc, _+_, _-_, _*_, _/_, _≤_, _<_}
+use Prim.Native.Nat.{ℕ, zero, suc, _+_, _-_, _*_, _/_, _%_, _≤_, _<_}
+use native.Mathlib.Numerals.{add-one}
 use native.Mathlib.Omega.{arith}
 use lib.Dec.{leb, ltb, eqb, lit≤}
 use lib.IntN.{ℤ, pos, negsuc}
@@ -25,21 +27,24 @@ use Rattle.verdict.proofs.Parts.{both-fine}
 use Rattle.verdict.proofs.Holding.{row-fine, Holding, all-hold}
 use Rattle.verdict.proofs.Orders.{and-both}
 use Rattle.rules.specs.declared.Due.{Due}
+use Rattle.rules.specs.declared.Due.the-variants as due
 use Rattle.rules.specs.declared.Due.the-variants.{Line, Coordinates}
 use Rattle.rules.specs.Permitted.{natural, size, within, isPoint}
-use Rattle.rules.specs.Asks.{permitted, at, coordinateAsks, asksOf, askedOf}
+use Rattle.rules.specs.Asks.{permitted, at, layerAsks, coordinateAsks, asksOf, askedOf}
 use Rattle.rules.specs.Checks.{free, formChecks, valueChecks, withNumber, along, checksOf}
 use Rattle.rules.proofs.Slots.{row-at}
-use Rattle.walk.specs.States.{sizeIn, dueOf, nextOf, stateAt}
+use Rattle.walk.specs.States.{sizeIn, dueOf, nextOf, stateAt, countsAt}
 use Rattle.walk.specs.Stages.{recordsOf, mayEnd, stageTwo}
 use Rattle.walk.specs.Table.{tableOf}
 use Rattle.walk.specs.Quiet.{Quiet}
 use Rattle.walk.proofs.Judging.{rulesOf, ended}
 use Rattle.walk.proofs.Passing.{quiet-points, passed-due}
-use Rattle.layers.specs.Passing.{basesIn, layerOf}
+use Rattle.layers.specs.Naming.{lineOf}
+use Rattle.layers.specs.Passing.{isLayer, basesIn, layerOf}
+use Rattle.layers.proofs.Rows.{row-laid}
 use Rattle.layers.proofs.Laid.{line-named, line-laid}
-use Rattle.measures.specs.Points.{countOf, pointCount}
-use Rattle.measures.specs.Sound.{SoundAt, SoundPairs, Sound}
+use Rattle.measures.specs.Points.{coordinateIn, countOf, pointCount, pairBy, pointBy, pointAt}
+use Rattle.measures.specs.Sound.{SoundAt, Sound}
 use Rattle.loops.specs.Scanning.{SoundTable}
 
 -- ---- stage 2
@@ -55,12 +60,38 @@ within-most low high v h =
     let b = and-both (natural v) (leb low (size v) && leb (size v) high) h in
     leb-true _ _ (and-both (leb low (size v)) (leb (size v) high) (b .1) .1)
 
+-- ---- a layer's counts
+
+-- the check on columns 10-14 of an H
+head-lines : (last : ℕ) (t : List ℕ) → Holding (checksOf (due.Layer last) t) → sizeIn t 10 5 ≤ 9999
+unfolding layoutOf layerAsks asksOf askedOf formChecks valueChecks along checksOf sizeIn
+head-lines last t h = within-most 0 9999 _ (h .1 .1 .1 .1 .1 .1 .1 .1 .0)
+
+an-h : (d : Due) → isLayer d ≡ true → (last : ℕ) × (d ≡ due.Layer last)
+an-h (due.Mesh last) h = absurd (false≢true h)
+an-h (due.Layer last) h = (last, refl)
+an-h (due.Node layer last) h = absurd (false≢true h)
+an-h (Line layer last) h = absurd (false≢true h)
+an-h (Coordinates left) h = absurd (false≢true h)
+an-h (due.Area layer last) h = absurd (false≢true h)
+an-h (due.Loop last count left) h = absurd (false≢true h)
+
+-- "H lines at most 9999"
+lines-limit : (file : List ℕ) → firstBroken (stageTwo file) ≡ Fine → (i : ℕ) → i < countsAt file (recordsOf file) .layers → layerOf file i .lines ≤ 9999
+lines-limit file f i l =
+    let q = row-laid file i l in
+    let k = q .0 in
+    let r = q .1 in
+    let d = an-h (dueOf (stateAt file k)) (r .due) in
+    let h : sizeIn (recordOf file (k + 1)) 10 5 ≤ 9999 = head-lines (d .0) (recordOf file (k + 1)) (two-holds file f k (r .within) (d .1)) in
+    rw (r .lines) (rw add-one at h)
+
 -- ---- a coordinate
 
 -- what the field at column c answers is well formed and permitted
-sound-by : (t : List ℕ) (c : ℕ) (r : numbers.Number) → numberAt t c 5 ≡ r → not (eqb (numberRefusal r) 5) ≡ true → within 0 10000 (valueOf r) ≡ true → SoundAt t c
-unfolding within
-sound-by t c (number.Value (pos n)) e f h = record { value = n; permitted = within-most 0 10000 (pos n) h; said = e }
+sound-by : (t : List ℕ) (c : ℕ) (r : numbers.Number) → numberAt t c 5 ≡ r → not (eqb (numberRefusal r) 5) ≡ true → within 0 10000 (valueOf r) ≡ true → SoundAt t c (coordinateIn t c)
+unfolding within coordinateIn
+sound-by t c (number.Value (pos n)) e f h = record { value = n; permitted = within-most 0 10000 (pos n) h; said = e; is = rw e }
 sound-by t c (number.Value (negsuc n)) e f h = absurd (false≢true h)
 sound-by t c number.Refused e f h = absurd (false≢true f)
 
@@ -93,7 +124,7 @@ module _ (left : ℕ) (t : List ℕ) where
       (first-fits c i ns (row (c + 5) 5 n ++ L) (omega arith) (omega arith) h .1) j (omega arith))
 
   -- so a record's points
-  point-sound : Holding (checksOf (Coordinates left) t) → (c j : ℕ) → c ≡ 1 + 5 * j → j < 14 → j / 2 < left → SoundAt t c
+  point-sound : Holding (checksOf (Coordinates left) t) → (c j : ℕ) → c ≡ 1 + 5 * j → j < 14 → j / 2 < left → SoundAt t c (coordinateIn t c)
   unfolding checksOf layoutOf faultOf isPoint
   point-sound h c j e l m =
       let f = row-fits 1 0 14 zeros (field.Blank 71 2 ∷ []) (lit≤ tt) (lit≤ tt) h j l in
@@ -126,32 +157,45 @@ module _ (file : List ℕ) (h : firstBroken (stageTwo file) ≡ Fine) (k : ℕ) 
           let n : k + (recordsOf file - k) ≡ recordsOf file = omega arith in
           absurd (false≢true (sym (ap mayEnd (points-due q m (recordsOf file - k) (omega arith))) ∙ rw n (ended file h)))
 
-  points-sound : (q n : ℕ) → n ≤ 7 → 7 * q + n ≤ stateAt file k .points → SoundPairs (recordOf file (k + 1 + q)) n
-  points-sound q n a b = record { pair = λ i c. (one i c (2 * i) (1 + 10 * i) (omega arith) (omega arith) (omega arith), one i c (2 * i + 1) (6 + 10 * i) (omega arith) (omega arith) (omega arith)) }
-    where
-      one : (i : ℕ) → i < n → (j c : ℕ) → c ≡ 1 + 5 * j → j / 2 ≡ i → j < 14 → SoundAt (recordOf file (k + 1 + q)) c
-      one i d j c e f g =
-          let z : k + 1 + q ≡ k + q + 1 = omega arith in
-          rw z
-          (point-sound (stateAt file k .points - 7 * q) (recordOf file (k + q + 1))
-          (two-holds file h (k + q) (points-there q (omega arith)) (points-due q (omega arith) q (omega arith)))
-          c j e g (omega arith))
+  -- what stands at place j of the record of point i, counted from 0
+  place-sound : (i j c : ℕ) → i < stateAt file k .points → c ≡ 1 + 5 * j → j / 2 ≡ i % 7 → j < 14 → SoundAt (recordOf file (k + 1 + i / 7)) c (coordinateIn (recordOf file (k + 1 + i / 7)) c)
+  place-sound i j c a e f g =
+      let q = i / 7 in
+      let z : k + 1 + q ≡ k + q + 1 = omega arith in
+      rw z
+      (point-sound (stateAt file k .points - 7 * q) (recordOf file (k + q + 1))
+      (two-holds file h (k + q) (points-there q (omega arith)) (points-due q (omega arith) q (omega arith)))
+      c j e g (omega arith))
 
 -- the line whose L is record k + 1
 line-sound : (file : List ℕ) → firstBroken (stageTwo file) ≡ Fine → (k : ℕ) → k < recordsOf file → {layer m : ℕ} → dueOf (stateAt file k) ≡ Line layer m → Sound file (suc k)
-unfolding stateAt nextOf pointCount numberIn sizeIn
-line-sound file h k l e = record {
-  points = λ q n a b. points-sound file h (suc k) (omega arith) q n a (rw e (omega (arith, count-most (valueOf (numberAt (recordOf file (suc k)) 50 6)))));
-}
+unfolding stateAt nextOf pointCount numberIn sizeIn pairBy pointBy
+line-sound file h k l e =
+    let few = count-most (valueOf (numberAt (recordOf file (suc k)) 50 6)) in
+    record {
+      east = λ i a. place-sound file h (suc k) (omega arith) i (2 * (i % 7)) (1 + 10 * (i % 7)) (rw e (omega arith)) (omega arith) (omega arith) (omega arith);
+      north = λ i a. place-sound file h (suc k) (omega arith) i (2 * (i % 7) + 1) (6 + 10 * (i % 7)) (rw e (omega arith)) (omega arith) (omega arith) (omega arith);
+    }
 
 -- ---- the file
 
 pub table-sound : (file : List ℕ) → firstBroken (stageTwo file) ≡ Fine → SoundTable file (tableOf file) (basesIn file)
 table-sound file h = record {
   layers = λ i l. record {
+    few = lines-limit file h i l;
     sound = λ m a.
         let p = line-laid file (ended file h) i m l a in
         let e = sym (line-named (tableOf file) (layerOf file i) m a) ∙ p .1 .word in
         rw e (line-sound file h (p .0) (p .1 .within) (p .1 .due));
   };
 }
+
+-- point j, counted from 0, of line n of layer i
+pub points-stated : (file : List ℕ) → firstBroken (stageTwo file) ≡ Fine → (i n : ℕ) → i < countsAt file (recordsOf file) .layers → 1 ≤ n → n ≤ layerOf file i .lines
+    → (j : ℕ) → j < pointCount file (lineOf (tableOf file) (layerOf file i) (pos n))
+    → SoundAt (recordOf file (lineOf (tableOf file) (layerOf file i) (pos n) + 1 + j / 7)) (1 + 10 * (j % 7)) (pointAt file (lineOf (tableOf file) (layerOf file i) (pos n)) j .x)
+    × SoundAt (recordOf file (lineOf (tableOf file) (layerOf file i) (pos n) + 1 + j / 7)) (6 + 10 * (j % 7)) (pointAt file (lineOf (tableOf file) (layerOf file i) (pos n)) j .y)
+points-stated file h i zero l a b j m = absurd (omega arith)
+points-stated file h i (suc n) l a b j m =
+    let s : Sound file (lineOf (tableOf file) (layerOf file i) (pos (suc n))) = rw (line-named (tableOf file) (layerOf file i) n b) (table-sound file h .layers i l .sound n b) in
+    (s .east j m, s .north j m)

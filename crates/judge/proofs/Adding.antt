@@ -1,7 +1,7 @@
 -- Measures added up one by one, and stored one behind the other. What the machine adds is the sum, since each of the partial sums fits.
 -- Assumes nothing.
 use mathlib.Core.Bool.{Bool, true, false, cond, false≢true}
-use mathlib.Core.List.{List, [], _∷_}
+use mathlib.Core.List.{List}
 use mathlib.Core.Logic.{⊎-elim}
 use mathlib.Core.Path.{_≡_, refl, sym, _∙_, ap, ap₂}
 use Prim.Native.Nat.{ℕ, zero, suc, _+_, _^_, _≤_, _<_}
@@ -18,40 +18,28 @@ use mir.Syntax.{w32, w64}
 use mir.Val.{SFits, toZ, ofZ, hbits}
 use borrow.Author.Tests.{le-leb}
 use Rattle.records.specs.View.{numberIn}
-use Rattle.records.proofs.Along.{sets-append}
 use Rattle.rules.specs.Permitted.{size, same}
 use Rattle.walk.proofs.Stores.{more-filled, filled-length}
 use Rattle.links.specs.Links.{isZero}
 use Rattle.links.proofs.Numbers.{told}
 use Rattle.measures.specs.Sum.{sum, sumTo}
 use Rattle.measures.specs.Walks.{Small}
-use Rattle.measures.specs.Measures.{areaMeasure}
+use Rattle.measures.specs.Measures.{Entry, loopMeasure, areaMeasure}
 use Rattle.measures.specs.Points.{firstOf}
-use Rattle.measures.proofs.SumLaws.{sum-append, sumTo-more}
-use Rattle.measures.proofs.Bounds.{fits-by, read-back, zero-minus}
+use Rattle.measures.proofs.SumLaws.{sum-append, sum-ext, sumTo-more}
+use Rattle.measures.proofs.FirstLaws.{first-many, first-stored}
+use Rattle.measures.proofs.Bounds.{fits-by, read-back}
 use Rattle.layers.specs.declared.Bases.{Bases}
 use Rattle.layers.specs.declared.Layer.{Layer}
 use Rattle.layers.specs.Naming.{rowWord, wordsBefore, layerIn, lineOf, areaOf}
 use Rattle.layers.proofs.Laid.{words-more, area-named}
-use Rattle.entries.specs.Entries.{loopsAt, loopsTo, recordsTo}
-use Rattle.entries.specs.Loops.{measureOf, loopMeasureIn, areaMeasureIn}
-use Rattle.entries.specs.Keeping.{Kept}
-use Rattle.entries.proofs.Summing.{most, turned-fits}
+use Rattle.entries.specs.Entries.{loopsAt, loopAt, loopsTo, recordsTo}
+use Rattle.entries.specs.Loops.{measureOf, areaMeasureIn}
+use Rattle.entries.specs.Keeping.{keptMeasure, Kept}
+use Rattle.entries.proofs.Keeping.{most, kept-small, entries-kept}
+use Rattle.entries.proofs.Summing.{turned-fits, turned-back}
 use Rattle.ground.specs.Layers.{areaOfLayer, leftOf, rightOf, measuresTo}
-use Rattle.judge.specs.Measuring.{Fits, Measurable, outsideAt, Summable, Fillable, filledTo}
-
--- ---- lists
-
-first-many : {A : Type 0} (g : ℕ → A) (n : ℕ) → length (firstOf g n) ≡ n
-unfolding firstOf
-first-many g zero = refl
-first-many g (suc n) = rw (length-append, first-many g n) (omega arith)
-
-first-stored : (g : ℕ → ℤ) (ms : List ℤ) (at a : ℕ) → set (sets ms at (firstOf g a)) (at + a) (g a) ≡ sets ms at (firstOf g (a + 1))
-unfolding firstOf
-first-stored g ms at a =
-    let e = sets-append ms at (firstOf g a) (g a ∷ []) in
-    rw (add-one, e, first-many g a)
+use Rattle.judge.specs.Measuring.{Fits, Measurable, keptArea, outsideAt, Summable, Fillable, filledTo}
 
 -- ---- the two sides of a line
 
@@ -88,18 +76,29 @@ added {x} {z} {n} g e p t f =
 pub sum-added : (f : ℕ → ℤ) (n i : ℕ) {x z : ℤ} → ((j : ℕ) → j ≤ n → Fits (sumTo j f)) → i < n → x ≡ sumTo i f → mag z < 2 ^ hbits w64 → z ≡ f (suc i) → Added x z (sumTo (i + 1) f)
 sum-added f n i h l p g e = added g e p (rw add-one (sumTo-more i f)) (h (i + 1) (omega arith))
 
-module _ (file t : List ℕ) (l : Layer) where
-  -- ---- loops
+-- ---- loops
 
-  area-more : (a i : ℕ) → areaMeasure (measureOf file t l) (loopsTo file a (i + 1)) ≡ areaMeasure (measureOf file t l) (loopsTo file a i) +ℤ loopMeasureIn file t l (a + 1 + recordsTo file a i)
-  unfolding areaMeasure loopsTo loopMeasureIn sum
-  area-more a i = rw (add-one, sum-append, +ℤ-idr)
+module _ (file : List ℕ) (m : ℕ → ℤ) (a : ℕ) where
+  area-more : (i : ℕ) → areaMeasure m (loopsTo file a (i + 1)) ≡ areaMeasure m (loopsTo file a i) +ℤ loopMeasure m (loopAt file (a + 1 + recordsTo file a i))
+  unfolding areaMeasure loopsTo sum
+  area-more i = rw (add-one, sum-append, +ℤ-idr)
 
   -- the measure z of the loop whose first record is f, behind the first i loops
-  pub loop-added : (a i : ℕ) {f : ℕ} {x z : ℤ} → Measurable file t l a → i < loopsAt file a → f ≡ a + 1 + recordsTo file a i → x ≡ areaMeasure (measureOf file t l) (loopsTo file a i)
-      → mag z < 2 ^ hbits w64 → z ≡ loopMeasureIn file t l f
-      → Added x z (areaMeasure (measureOf file t l) (loopsTo file a (i + 1)))
-  loop-added a i m h q p g e = added g (e ∙ ap (loopMeasureIn file t l) q) p (area-more a i) (m .fits (i + 1) (omega arith))
+  pub loop-added : (i : ℕ) {f : ℕ} {x z : ℤ} → Measurable file m a → i < loopsAt file a → f ≡ a + 1 + recordsTo file a i → x ≡ areaMeasure m (loopsTo file a i)
+      → mag z < 2 ^ hbits w64 → z ≡ loopMeasure m (loopAt file f) → Added x z (areaMeasure m (loopsTo file a (i + 1)))
+  loop-added i h l q p g e = added g (e ∙ ap (λ f. loopMeasure m (loopAt file f)) q) p (area-more i) (h .fits (i + 1) (omega arith))
+
+module _ (file t : List ℕ) (l : Layer) where
+  -- ---- what was kept of the lines is their measures
+
+  module _ (ms : List ℤ) (k : Kept file t l ms) where
+    areas-kept : (ls : List (List Entry)) → areaMeasure (keptMeasure l ms) ls ≡ areaMeasure (measureOf file t l) ls
+    unfolding areaMeasure
+    areas-kept ls = sum-ext _ _ (entries-kept file t l ms k) ls
+
+    area-kept : (a : ℕ) → keptArea file l ms a ≡ areaMeasureIn file t l a
+    unfolding keptArea areaMeasureIn
+    area-kept a = areas-kept (loopsTo file a (loopsAt file a))
 
   -- ---- areas
 
@@ -108,19 +107,23 @@ module _ (file t : List ℕ) (l : Layer) where
     record-is : r ≡ areaOf t l (pos (suc a))
     record-is = e ∙ sym (area-named t l a h)
 
-    pub area-measurable : Summable file t l → Measurable file t l r
-    area-measurable s = rw record-is (s .each (suc a) (omega arith) h)
+    -- by the kept line measures ks
+    module _ {ks : List ℤ} (k : Kept file t l ks) where
+      pub area-measurable : Summable file t l → Measurable file (keptMeasure l ks) r
+      area-measurable s =
+          let m = s .each (suc a) (omega arith) h in
+          record { fits = λ j q. rw (areas-kept ks k (loopsTo file r j), record-is) (m .fits j (rw record-is at q)) }
 
-    pub area-told : {z : ℤ} → z ≡ areaMeasureIn file t l r → z ≡ areaOfLayer file t l (suc a)
-    unfolding areaOfLayer
-    area-told p = p ∙ ap (areaMeasureIn file t l) record-is
+      pub area-told : {z : ℤ} → z ≡ keptArea file l ks r → z ≡ areaOfLayer file t l (suc a)
+      unfolding areaOfLayer
+      area-told p = p ∙ area-kept ks k r ∙ ap (areaMeasureIn file t l) record-is
 
-    -- the area's measure z, stored behind those of the areas before it
-    pub area-stored : (entry : List ℤ) (at : ℕ) {ms : List ℤ} {z : ℤ} → ms ≡ sets entry at (firstOf (λ a. areaOfLayer file t l (suc a)) a) → mag z < 2 ^ hbits w64 → z ≡ areaMeasureIn file t l r
-        → set ms (at + a) (toZ w64 (ofZ w64 z)) ≡ sets entry at (firstOf (λ a. areaOfLayer file t l (suc a)) (a + 1))
-    area-stored entry at p g q =
-        ap₂ (λ (ms : List ℤ) (z : ℤ). set ms (at + a) z) p (toZ-ofZ {w = w64} (record { sfits = g }) ∙ area-told q)
-        ∙ first-stored (λ a. areaOfLayer file t l (suc a)) entry at a
+      -- the area's measure z, stored behind those of the areas before it
+      pub area-stored : (entry : List ℤ) (at : ℕ) {ms : List ℤ} {z : ℤ} → ms ≡ sets entry at (firstOf (λ a. areaOfLayer file t l (suc a)) a) → mag z < 2 ^ hbits w64 → z ≡ keptArea file l ks r
+          → set ms (at + a) (toZ w64 (ofZ w64 z)) ≡ sets entry at (firstOf (λ a. areaOfLayer file t l (suc a)) (a + 1))
+      area-stored entry at p g q =
+          ap₂ (λ (ms : List ℤ) (z : ℤ). set ms (at + a) z) p (toZ-ofZ {w = w64} (record { sfits = g }) ∙ area-told q)
+          ∙ first-stored (λ a. areaOfLayer file t l (suc a)) entry at a
 
   -- ---- the outside
 
@@ -152,15 +155,21 @@ module _ (file t : List ℕ) (l : Layer) where
     outside-right h p q = q ∙ rw (← d .left, ← d .right) (right-alone a b _ (sym e ∙ h) p)
 
   -- the answer m of `line_measure` about line n, passed on, or taken away
-  module _ (n : ℕ) {ms : List ℤ} {m : ℤ} (h : n ≤ 9999) (k : Kept file t l ms) (p : (Small most m) × (Kept file t l ms → m ≡ measureOf file t l (size (toZ w32 n)))) where
+  module _ (n : ℕ) {ms : List ℤ} {m : ℤ} (h : n ≤ 9999) (k : Kept file t l ms) (p : m ≡ keptMeasure l ms (size (toZ w32 n))) where
     measure-is : m ≡ measureOf file t l n
-    measure-is = p .1 k ∙ ap (λ v. measureOf file t l (size v)) (toZ-pos w32 {n = n} (omega arith))
+    measure-is = p ∙ ap (λ v. keptMeasure l ms (size v)) (toZ-pos w32 {n = n} (omega arith)) ∙ k .kept n
+
+    measure-small : Small most m
+    measure-small = rw p (kept-small l ms _)
 
     pub measure-passed : toZ w64 (ofZ w64 m) ≡ measureOf file t l n
-    measure-passed = read-back w64 (p .0) tt ∙ measure-is
+    measure-passed = read-back w64 measure-small tt ∙ measure-is
+
+    pub measure-fits : SFits w64 (pos 0 -ℤ toZ w64 (ofZ w64 m))
+    measure-fits = turned-fits measure-small
 
     pub measure-turned : toZ w64 (ofZ w64 (pos 0 -ℤ toZ w64 (ofZ w64 m))) ≡ negℤ (measureOf file t l n)
-    measure-turned = toZ-ofZ (turned-fits (p .0)) ∙ rw measure-passed (zero-minus (measureOf file t l n))
+    measure-turned = turned-back measure-small ∙ ap negℤ measure-is
 
 -- ---- layers
 

@@ -32,7 +32,7 @@ use Rattle.layers.proofs.Laid.{areas-all}
 use Rattle.links.specs.Links.{stageFour}
 use Rattle.loops.specs.Loops.{stageFive}
 use Rattle.ground.specs.Layers.{areasSum, outsideSum}
-use Rattle.ground.proofs.Kept.{Passed, lines-limit}
+use Rattle.ground.proofs.Kept.{Passed}
 use Rattle.ground.proofs.Soundness.{table-sound}
 use Rattle.ground.proofs.Limits.{area-small, areas-small, outside-small}
 use Rattle.judge.specs.declared.Outcome.{Outcome}
@@ -163,7 +163,6 @@ module _ (file : List ℕ) (room : ℕ) {t : Tabled} (e : t ≡ judgedOf file ro
         let j : i < countsAt file (recordsOf file) .layers = rw judged-counts at m in
         record {
           sound = table-sound file (judged-passed .two) .layers i j;
-          lines = lines-limit file judged-passed i j;
           each = λ a o n. record { fits = area-small file judged-passed i j a o n };
           areas = areas-small file judged-passed i j;
           outside = outside-small file judged-passed i j;

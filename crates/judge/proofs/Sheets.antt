@@ -27,7 +27,7 @@ use Rattle.links.specs.Links.{equal, entryIs, some, nodeEntry, endNode, meets, 
 use Rattle.layers.specs.Passing.{basesOf, layerAt}
 use Rattle.measures.specs.Sum.{sum, upTo}
 use Rattle.measures.specs.Measures.{steps, lineMeasure, loopMeasure, areaMeasure}
-use Rattle.measures.specs.Points.{coordinateIn, pointIn, pointAt, pointCount, firstOf, linePoints, measureIn}
+use Rattle.measures.specs.Points.{coordinateIn, pairBy, pointBy, pointCount, firstOf, pointsBy, measureBy}
 use Rattle.entries.specs.Entries.{slotOf, entriesTo, recordsFor, countAt, loopsAt, recordsTo, slotsOf, loopAt, loopsTo}
 use Rattle.entries.specs.Loops.{measureOf, loopMeasureIn, areaMeasureIn}
 use Rattle.loops.specs.Loops.{repeatsArea, lastNode, entryBefore, joins, rightArea, loopSlot, winds, windChecks, firstRecord, areaRecord, loopChecks, stageFive}
@@ -52,7 +52,7 @@ walking = tt
 
 -- the rules
 judging : Unit {0}
-unfolding walking isName isBlanks textAt layoutOf faultOf within isMeshCode followsMesh isLayerCode followsLayer isDate isNodeItem isFrame isLineItem isLineKind isLink isCode isSide isAreaCode isSlot isPoint isNext isLoopSerial from meshAsks layerAsks nodeAsks lineAsks coordinateAsks areaAsks loopAsks asksOf askedOf formChecks valueChecks along checksOf firstBroken block rows endChecks lengthChecks stageOne lastChecks stageTwo wordsOf roomRule early sumsFrom sumsBehind meshTotals layerTotals areaTotals stageThree gather tableOf numberIn spread wordsBefore layerIn names namesLine nodeOf lineNamed areaOf equal entryIs some nodeEntry endNode meets repeatsNode nodeSlot nodeChecks listed linkFits lineEndChecks sideChecks lineChecks atNode firstPointChecks lastPointChecks pointChecks loopEntry entryChecks layerAt stageFour coordinateIn pointIn pointAt pointCount firstOf linePoints measureIn sum steps lineMeasure loopMeasure slotOf entriesTo recordsFor countAt loopsAt recordsTo slotsOf loopAt measureOf loopMeasureIn repeatsArea lastNode entryBefore joins rightArea loopSlot winds windChecks firstRecord areaRecord loopChecks stageFive lists sideListed listChecks stageSix basesOf late rulesOf measureRule verdictOf
+unfolding walking isName isBlanks textAt layoutOf faultOf within isMeshCode followsMesh isLayerCode followsLayer isDate isNodeItem isFrame isLineItem isLineKind isLink isCode isSide isAreaCode isSlot isPoint isNext isLoopSerial from meshAsks layerAsks nodeAsks lineAsks coordinateAsks areaAsks loopAsks asksOf askedOf formChecks valueChecks along checksOf firstBroken block rows endChecks lengthChecks stageOne lastChecks stageTwo wordsOf roomRule early sumsFrom sumsBehind meshTotals layerTotals areaTotals stageThree gather tableOf numberIn spread wordsBefore layerIn names namesLine nodeOf lineNamed areaOf equal entryIs some nodeEntry endNode meets repeatsNode nodeSlot nodeChecks listed linkFits lineEndChecks sideChecks lineChecks atNode firstPointChecks lastPointChecks pointChecks loopEntry entryChecks layerAt stageFour coordinateIn pairBy pointBy pointCount firstOf pointsBy measureBy sum steps lineMeasure loopMeasure slotOf entriesTo recordsFor countAt loopsAt recordsTo slotsOf loopAt measureOf loopMeasureIn repeatsArea lastNode entryBefore joins rightArea loopSlot winds windChecks firstRecord areaRecord loopChecks stageFive lists sideListed listChecks stageSix basesOf late rulesOf measureRule verdictOf
 judging = tt
 
 -- the figures

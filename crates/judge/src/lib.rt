@@ -21,12 +21,11 @@ ghost use Rattle.walk.specs.Stages.{recordsOf, stageTwo};
 ghost use Rattle.walk.specs.Table.{tableOf};
 ghost use Rattle.layers.specs.Passing.{basesOf};
 ghost use Rattle.measures.specs.Points.{firstOf};
-ghost use Rattle.entries.specs.Keeping.{Kept};
-ghost use Rattle.entries.specs.Loops.{areaMeasureIn};
+ghost use Rattle.entries.specs.Keeping.{keptMeasure, Kept};
 ghost use Rattle.ground.specs.Layers.{areaOfLayer, areasSum, outsideSum};
 ghost use Rattle.judge.specs.Rulebook.{late};
 ghost use Rattle.judge.specs.Outcomes.{outcomeBy, outcomeOf, tableAfter, measuresAfter, judgedOf, tableJudged, sumsWith, sumsOf, tableAfterSums};
-ghost use Rattle.judge.specs.Measuring.{Measurable, outsideAt, Summable, Fillable, filledTo};
+ghost use Rattle.judge.specs.Measuring.{Measurable, keptArea, outsideAt, Summable, Fillable, filledTo};
 
 // What is answered: a refusal's number and place, or 0 at 0, 0; the file's meshes, layers, nodes, lines,
 // areas and records, 0 where it is refused; and the words that it needs where the table is too short (9),
@@ -124,18 +123,18 @@ fn judge_file(file: &[u8], table: &mut [u32]) -> Tabled
 
 // ---- measures
 
-// The measure of the area whose A is record `a`: the sum of its loops'. `kept` has the first line
-// measures of the layer.
-fn area_measure(file: &[u8], table: &[u32], l: Layer, kept: &[i64], a: usize) -> i64
-    requires { ⌜ (a ≤ 4294967295) × Kept (now file) (now table) l (now kept) × Measurable (now file) (now table) l a ⌝ }
-    ensures { λ r. ⌜ r ≡ areaMeasureIn (now (file .entry)) (now (table .entry)) l a ⌝ }
+// The measure of the area whose A is record `a`, the sum of its loops', by the line measures `kept` of its
+// layer.
+fn area_measure(file: &[u8], l: Layer, kept: &[i64], a: usize) -> i64
+    requires { ⌜ (a ≤ 4294967295) × Measurable (now file) (keptMeasure l (now kept)) a ⌝ }
+    ensures { λ r. ⌜ r ≡ keptArea (now (file .entry)) l (now (kept .entry)) a ⌝ }
 {
     let n = entries::loops_at(file, a);
     let mut sum: i64 = 0;
     let mut f = a + 1;
     let mut i: usize = 0;
     while i < n {
-        sum += entries::loop_measure(file, table, l, kept, f);
+        sum += entries::loop_measure(file, l, kept, f);
         f += entries::loop_records(file, f);
         i += 1;
     }
@@ -150,7 +149,7 @@ fn fill_layer(file: &[u8], table: &[u32], l: Layer, kept: &[i64], at: usize, mea
     let n = l.areas as usize;
     let mut a: usize = 0;
     while a < n {
-        measures[at + a] = area_measure(file, table, l, kept, layers::area_word(table, l, a));
+        measures[at + a] = area_measure(file, l, kept, layers::area_word(table, l, a));
         a += 1;
     }
 }
@@ -181,7 +180,7 @@ fn areas_sum(file: &[u8], table: &[u32], l: Layer, kept: &[i64]) -> i64
     let mut sum: i64 = 0;
     let mut a: usize = 0;
     while a < n {
-        sum += area_measure(file, table, l, kept, layers::area_word(table, l, a));
+        sum += area_measure(file, l, kept, layers::area_word(table, l, a));
         a += 1;
     }
     sum
@@ -200,7 +199,7 @@ fn outside_at(file: &[u8], table: &[u32], l: Layer, kept: &[i64], n: usize) -> i
     if rules::same(left, right) {
         return 0;
     }
-    let m = entries::line_measure(file, table, l, kept, v);
+    let m = entries::line_measure(l, kept, v);
     if left {
         return m;
     }

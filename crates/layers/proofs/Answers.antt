@@ -13,7 +13,7 @@ use Rattle.rules.proofs.Signs.{own-told, own-asked}
 use Rattle.layers.specs.Naming.{names, namesLine}
 
 -- an entry that names a line has a size of 1 or more, and no more than there are
-line-size : (n : ℕ) (v : ℤ) → namesLine n v ≡ true → (1 ≤ size v) × (size v ≤ n)
+pub line-size : (n : ℕ) (v : ℤ) → namesLine n v ≡ true → (1 ≤ size v) × (size v ≤ n)
 unfolding namesLine
 line-size n v e =
     let s = and-both (leb 1 (size v)) (leb (size v) n) e in

@@ -26,6 +26,8 @@ use Rattle.links.specs.Links.{isZero, loopEntry}
 use Rattle.links.proofs.Numbers.{told, asked}
 use Rattle.links.proofs.LineLaws.{Small, passed}
 use Rattle.entries.specs.Loops.{loopMeasureIn}
+use Rattle.entries.specs.Keeping.{keptLoop, Kept}
+use Rattle.entries.proofs.Keeping.{loop-kept}
 use Rattle.loops.specs.Loops.{repeatsArea, joins, rightArea, loopSlot, winds, windChecks, firstRecord, areaRecord, loopChecks, sixth}
 use Rattle.loops.specs.Scanning.{clean, FirstRepeat}
 
@@ -114,38 +116,43 @@ module _ (file t : List ℕ) (l : Layer) (a area f r : ℕ) where
 
 -- ---- the way round
 
-module _ (file t : List ℕ) (l : Layer) (r left : ℕ) where
+module _ (file : List ℕ) (x : ℤ) (r left : ℕ) where
   -- the loop began before record r
-  pub wind-none : 0 < left → Fine ≡ firstBroken (block sixth r (windChecks file t l r left))
+  pub wind-none : 0 < left → Fine ≡ firstBroken (block sixth r (windChecks file x r left))
   unfolding windChecks
   wind-none h = rw (lt-ltb 0 left h) (check-none sixth r)
 
-  -- it begins there: z is its serial, m its measure, and b says whether they fit
-  module _ (h : left ≤ 0) {z m : ℤ} {b : Bool} (ok : Small z) (e : z ≡ numberIn file r 1 5) (okm : mag m < 2 ^ hbits w64) (em : m ≡ loopMeasureIn file t l r)
+  -- it begins there: z is its serial, m its measure x, and b says whether they fit
+  module _ (h : left ≤ 0) {z m : ℤ} {b : Bool} (ok : Small z) (e : z ≡ numberIn file r 1 5) (okm : mag m < 2 ^ hbits w64) (em : m ≡ x)
       (q : b ≡ winds (passed z) (toZ w64 (ofZ w64 m))) where
-    wound : winds (numberIn file r 1 5) (loopMeasureIn file t l r) ≡ b
-    wound = asked (λ v. winds v (loopMeasureIn file t l r)) ok e (q ∙ rw (toZ-ofZ {w = w64} {z = m} (record { sfits = okm }), em)) refl
+    wound : winds (numberIn file r 1 5) x ≡ b
+    wound = asked (λ v. winds v x) ok e (q ∙ rw (toZ-ofZ {w = w64} {z = m} (record { sfits = okm }), em)) refl
 
-    pub wind-broken : not b ≡ true → Broken 16 r 1 ≡ firstBroken (block sixth r (windChecks file t l r left))
+    pub wind-broken : not b ≡ true → Broken 16 r 1 ≡ firstBroken (block sixth r (windChecks file x r left))
     unfolding windChecks
     wind-broken u = rw (le-ltb 0 left h) (sym (check-broken sixth r 1 16 _ [] (wound ∙ not-true b u)))
 
-    pub wind-fine : not b ≡ false → Fine ≡ firstBroken (block sixth r (windChecks file t l r left))
+    pub wind-fine : not b ≡ false → Fine ≡ firstBroken (block sixth r (windChecks file x r left))
     unfolding windChecks
     wind-fine u = rw (le-ltb 0 left h) (check-none sixth r ∙ sym (check-kept sixth r 1 16 _ [] (wound ∙ not-false b u)))
 
+-- by what was kept of its lines, where that is their measures
+pub wind-kept : (file t : List ℕ) (l : Layer) (ms : List ℤ) (r left : ℕ) {v : Verdict} → Kept file t l ms → v ≡ firstBroken (block sixth r (windChecks file (keptLoop file l ms r) r left))
+    → v ≡ firstBroken (block sixth r (windChecks file (loopMeasureIn file t l r) r left))
+wind-kept file t l ms r left k e = rw (← loop-kept file t l ms k r) e
+
 -- ---- a loop record
 
-module _ (file t : List ℕ) (l : Layer) (area count left r : ℕ) {v : Verdict} (e : v ≡ firstBroken (block sixth r (windChecks file t l r left))) where
+module _ (file t : List ℕ) (l : Layer) (area count left r : ℕ) {v : Verdict} (e : v ≡ firstBroken (block sixth r (windChecks file (loopMeasureIn file t l r) r left))) where
   -- its loop turns the wrong way round, and that is returned
   pub loop-stops : {x y z : ℕ} → v ≡ Broken x y z → v ≡ firstBroken (block sixth r (loopChecks file t l area count left r))
   unfolding loopChecks
-  loop-stops h = stands (block sixth r (windChecks file t l r left)) _ h e ∙ ap firstBroken (sym (block-append sixth r (windChecks file t l r left) _))
+  loop-stops h = stands (block sixth r (windChecks file (loopMeasureIn file t l r) r left)) _ h e ∙ ap firstBroken (sym (block-append sixth r (windChecks file (loopMeasureIn file t l r) r left) _))
 
   -- it does not, and the verdict w of the slots is returned
   pub loop-passes : {a f : ℕ} {w : Verdict} → v ≡ Fine → a ≡ areaRecord t l area → f ≡ firstRecord r count left → w ≡ firstBroken (block sixth r (spread 12 (loopSlot file t l a area f r)))
       → w ≡ firstBroken (block sixth r (loopChecks file t l area count left r))
   unfolding loopChecks
   loop-passes h p q k =
-      goes-on (block sixth r (windChecks file t l r left)) _ h e (rw (← p, ← q) k)
-      ∙ ap firstBroken (sym (block-append sixth r (windChecks file t l r left) _))
+      goes-on (block sixth r (windChecks file (loopMeasureIn file t l r) r left)) _ h e (rw (← p, ← q) k)
+      ∙ ap firstBroken (sym (block-append sixth r (windChecks file (loopMeasureIn file t l r) r left) _))

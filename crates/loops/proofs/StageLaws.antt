@@ -2,10 +2,14 @@
 use mathlib.Core.Bool.{Bool, true, false, cond, false≢true}
 use mathlib.Core.List.{List}
 use mathlib.Core.Path.{_≡_, refl, sym, _∙_}
-use Prim.Native.Nat.{ℕ, zero, suc, _+_, _-_, _≤_, _<_}
+use Prim.Native.Nat.{ℕ, zero, suc, _+_, _-_, _≤_, _<_, min}
+use native.Mathlib.Numerals.{add-one}
 use native.Mathlib.Omega.{arith}
+use lib.Dec.{ltb}
 use lib.IntN.{ℤ}
 use lib.ListN.{length, take, getD}
+use lib.Seq.{sets}
+use borrow.Author.Tests.{le-ltb, ltb-true, ltb-false}
 use Rattle.verdict.specs.declared.Verdict.{Verdict}
 use Rattle.verdict.specs.declared.Verdict.the-variants.{Fine, Broken}
 use Rattle.verdict.specs.Rules.{Rule, firstBroken, block, rows}
@@ -22,9 +26,10 @@ use Rattle.layers.specs.declared.Bases.{Bases}
 use Rattle.layers.specs.declared.Layer.{Layer}
 use Rattle.layers.specs.Passing.{isLayer, layerAt}
 use Rattle.layers.proofs.Passing.{counts-step}
-use Rattle.entries.specs.Keeping.{Kept, SoundLayer}
+use Rattle.entries.specs.Keeping.{walkedTo, Kept, SoundLayer}
+use Rattle.entries.proofs.Keeping.{kept-room, kept-lines}
 use Rattle.loops.specs.Loops.{areaRecord, areaChecks, sixth, stageFive}
-use Rattle.loops.specs.Scanning.{Unrepeated, KeptBehind, SoundTable, KnownBehind}
+use Rattle.loops.specs.Scanning.{Unrepeated, KeptFor, KeptBehind, SoundTable, KnownBehind}
 use Rattle.loops.proofs.Repeats.{unrepeated-none}
 
 -- ---- line measures
@@ -39,20 +44,76 @@ module _ (file t : List ℕ) (l : Layer) (have : ℕ) (ms : List ℤ) where
   }
 
   -- behind an H there are n, ns, of its layer
-  pub kept-anew : {n : ℕ} {ns : List ℤ} → (n ≤ length ns) × (length ns ≡ length ms) × (SoundLayer file t l → Kept file t l (take n ns)) → KeptBehind true file t l have ms n ns
+  pub kept-anew : {n : ℕ} {ns : List ℤ} → (n ≡ min (l .lines) (length ms)) × (ns ≡ sets ms 0 (walkedTo file t l n)) → KeptBehind true file t l have ms n ns
   kept-anew h = record {
-    room = h .0;
-    new = λ e. h .2;
+    room = kept-room file t l ms h;
+    new = λ e. kept-lines file t l ms h;
     old = λ e. absurd (false≢true (sym e));
   }
 
--- they are those of the next record's layer, x
-pub kept-next : (file t : List ℕ) (b : Bool) (l y : Layer) {x : Layer} {have n : ℕ} {ms ns : List ℤ} → KeptBehind b file t x have ms n ns → x ≡ cond b y l → (b ≡ true → SoundLayer file t x)
-    → Kept file t l (take have ms) → Kept file t x (take n ns)
-kept-next file t true l y k e s h = k .new refl (s refl)
-kept-next file t false l y k e s h =
-    let p = k .old refl in
-    rw (p .0, p .1, e) h
+-- they are those of the next record's layer, x; an H raises the count i of layers to j
+pub kept-next : (file t : List ℕ) (b : Bool) (l y : Layer) {x : Layer} {have n i j : ℕ} {ms ns : List ℤ} → KeptBehind b file t x have ms n ns → x ≡ cond b y l → 9999 ≤ length ms
+    → (b ≡ true → SoundLayer file t x) → j ≡ i + cond b 1 0 → (0 < i → Kept file t l (take have ms)) → 0 < j → Kept file t x (take n ns)
+kept-next file t true l y k e r s c h p = k .new refl r (s refl)
+kept-next file t false l y k e r s c h p =
+    let q = k .old refl in
+    rw (q .0, q .1, e) (h (omega (arith, c)))
+
+-- ---- before the first H nothing but an M or an H is due
+
+record Bare (s : State) : Type 0 where
+  points : s .points ≡ 0
+  entries : s .entries ≡ 0
+  loops : s .loops ≡ 0
+  nodes : s .nodes ≡ 0
+  lines : s .lines ≡ 0
+  areas : s .areas ≡ 0
+
+bare-due : (s : State) → Bare s → dueOf s ≡ cond (ltb 0 (s .layers)) (due.Layer (s .layer)) (due.Mesh (s .mesh))
+unfolding dueOf
+bare-due s h =
+    rw (le-ltb 0 (s .points) (omega (arith, h .points)), le-ltb 0 (s .entries) (omega (arith, h .entries)), le-ltb (s .begun) (s .loops) (omega (arith, h .loops)), le-ltb (s .node) (s .nodes) (omega (arith, h .nodes)), le-ltb (s .line) (s .lines) (omega (arith, h .lines)), le-ltb (s .area) (s .areas) (omega (arith, h .areas)))
+
+module _ (file : List ℕ) where
+  bare-next : (k : ℕ) → Bare (stateAt file k) → countsAt file (suc k) .layers ≡ 0 → (b : Bool) → ltb 0 (stateAt file k .layers) ≡ b → Bare (stateAt file (suc k))
+  unfolding stateAt nextOf countsAt
+  bare-next k h c true e =
+      let d : dueOf (stateAt file k) ≡ due.Layer (stateAt file k .layer) = bare-due (stateAt file k) h ∙ rw e in
+      absurd (omega (arith, rw d at c))
+  bare-next k h c false e =
+      let d : dueOf (stateAt file k) ≡ due.Mesh (stateAt file k .mesh) = bare-due (stateAt file k) h ∙ rw e in
+      rw d (record { points = refl; entries = refl; loops = refl; nodes = refl; lines = refl; areas = refl })
+
+  bare-at : (k : ℕ) → countsAt file k .layers ≡ 0 → Bare (stateAt file k)
+  unfolding stateAt
+  bare-at zero c = record { points = refl; entries = refl; loops = refl; nodes = refl; lines = refl; areas = refl }
+  bare-at (suc k) c =
+      let u = rw (← add-one k) at c in
+      bare-next k (bare-at k (omega (arith, counts-step file k, u))) c (ltb 0 (stateAt file k .layers)) refl
+
+module _ (file t : List ℕ) (l : Layer) (ms : List ℤ) where
+  any-kept : (d : Due) → Kept file t l ms → KeptFor d file t l ms
+  any-kept (due.Mesh last) h = tt
+  any-kept (due.Layer last) h = tt
+  any-kept (due.Node layer last) h = tt
+  any-kept (due.Line layer last) h = tt
+  any-kept (due.Coordinates left) h = tt
+  any-kept (due.Area layer last) h = tt
+  any-kept (due.Loop last count left) h = h
+
+  none-kept : (b : Bool) (i j : ℕ) → KeptFor (cond b (due.Layer i) (due.Mesh j)) file t l ms
+  none-kept true i j = tt
+  none-kept false i j = tt
+
+  -- so what is to be kept before a record is kept where it is of a layer that has begun
+  pub kept-for : (k : ℕ) {s : State} {d : Due} {i : ℕ} → s ≡ stateAt file k → d ≡ dueOf s → i ≡ countsAt file k .layers → (0 < i → Kept file t l ms) → KeptFor d file t l ms
+  kept-for k {s} {d} {i} e f c h = by (ltb 0 i) refl
+    where
+      by : (b : Bool) → ltb 0 i ≡ b → KeptFor d file t l ms
+      by true q = any-kept d (h (ltb-true 0 i q))
+      by false q =
+          let z = bare-due (stateAt file k) (bare-at file k (omega (arith, c, ltb-false 0 i q))) in
+          rw (f, e, z) (none-kept (ltb 0 (stateAt file k .layers)) (stateAt file k .layer) (stateAt file k .mesh))
 
 -- the layer that begins with record k + 1, an H, is one of the file's
 pub layer-sound : (file t : List ℕ) (b : Bases) (k : ℕ) {n : ℕ} {s : State} {d : Due} {x : Layer} → n ≡ recordsOf file → k < n → s ≡ stateAt file k → d ≡ dueOf s → x ≡ layerAt file t b (k + 1)

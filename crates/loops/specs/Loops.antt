@@ -65,9 +65,10 @@ loopSlot file t l a area f r i =
 unfoldable pub winds : ℤ → ℤ → Bool
 winds serial m = cond (natural serial) (ltZ (pos 0) m) (ltZ m (pos 0))
 
--- RULES 6.8, 16: a loop's measure has the sign of its serial; at column 1 of its first record. Entries are left of a loop that has begun
-unfoldable pub windChecks : List ℕ → List ℕ → layers.Layer → ℕ → ℕ → List Check
-windChecks file t l r left = cond (ltb 0 left) [] (check 1 16 (winds (numberIn file r 1 5) (loopMeasureIn file t l r)) ∷ [])
+-- RULES 6.8, 16: the measure m of a loop has the sign of its serial; at column 1 of its first record. Entries are left of a loop that has
+-- begun
+unfoldable pub windChecks : List ℕ → ℤ → ℕ → ℕ → List Check
+windChecks file m r left = cond (ltb 0 left) [] (check 1 16 (winds (numberIn file r 1 5) m) ∷ [])
 
 -- RULES 2.6: the loop's first record: of its `count` entries `left` are left, twelve a record
 unfoldable pub firstRecord : ℕ → ℕ → ℕ → ℕ
@@ -80,7 +81,7 @@ areaRecord t l area = getD t (l .area + (area - 1)) 0
 -- RULES 6.8: a loop record: its loop, then its twelve slots
 unfoldable pub loopChecks : List ℕ → List ℕ → layers.Layer → ℕ → ℕ → ℕ → ℕ → List Check
 loopChecks file t l area count left r =
-    windChecks file t l r left
+    windChecks file (loopMeasureIn file t l r) r left
     ++ spread 12 (loopSlot file t l (areaRecord t l area) area (firstRecord r count left) r)
 
 -- ---- the stage

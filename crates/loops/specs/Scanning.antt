@@ -44,10 +44,20 @@ pub record Marking (before : List ℕ) (v : ℤ) (a : ℕ) (r : Bool) (after : L
   pub fresh : r ≡ true → isZero v ≡ false → (getD before (markOf v) 0 ≡ a → ⊥) × (getD after (markOf v) 0 ≡ a)
   pub kept : r ≡ true → (i : ℕ) → getD before i 0 ≡ a → getD after i 0 ≡ a
 
--- what is kept behind a record: another layer's line measures behind an H, else what was
+-- what is to be kept before a record: its layer's line measures before a loop record, else nothing
+abbrev pub KeptFor : Due → List ℕ → List ℕ → Layer → List ℤ → Type 0
+KeptFor (due.Mesh last) file t l ms = Unit {0}
+KeptFor (due.Layer last) file t l ms = Unit {0}
+KeptFor (due.Node layer last) file t l ms = Unit {0}
+KeptFor (due.Line layer last) file t l ms = Unit {0}
+KeptFor (due.Coordinates left) file t l ms = Unit {0}
+KeptFor (due.Area layer last) file t l ms = Unit {0}
+KeptFor (due.Loop last count left) file t l ms = Kept file t l ms
+
+-- what is kept behind a record: another layer's line measures behind an H, if there is room for all that a layer can have; else what was
 pub record KeptBehind (another : Bool) (file t : List ℕ) (l : Layer) (have : ℕ) (before : List ℤ) (r : ℕ) (after : List ℤ) : Type 0 where
   pub room : r ≤ ListN.length after
-  pub new : another ≡ true → SoundLayer file t l → Kept file t l (take r after)
+  pub new : another ≡ true → 9999 ≤ ListN.length before → SoundLayer file t l → Kept file t l (take r after)
   pub old : another ≡ false → (r ≡ have) × (after ≡ before)
 
 -- the lines of the file's layers, where the table t says that they stand, are known to be well formed

@@ -16,9 +16,9 @@ ghost use Rattle.verdict.specs.Rules.{firstBroken, block, spread};
 ghost use Rattle.rules.specs.Permitted.{is};
 ghost use Rattle.layers.specs.Passing.{isLayer};
 ghost use Rattle.links.specs.Links.{isZero, loopEntry};
-ghost use Rattle.entries.specs.Keeping.{Kept};
+ghost use Rattle.entries.specs.Keeping.{keptLoop, Kept};
 ghost use Rattle.loops.specs.Loops.{lastNode, entryBefore, joins, rightArea, loopSlot, winds, windChecks, firstRecord, areaRecord, loopChecks, areaChecks, sixth, stageFive};
-ghost use Rattle.loops.specs.Scanning.{clean, FirstRepeat, markOf, Unrepeated, Marking, KeptBehind, SoundTable, KnownBehind};
+ghost use Rattle.loops.specs.Scanning.{clean, FirstRepeat, markOf, Unrepeated, Marking, KeptFor, KeptBehind, SoundTable, KnownBehind};
 
 // ---- numbers
 
@@ -271,24 +271,17 @@ fn winds(serial: i32, m: i64) -> bool
     m < 0
 }
 
-// The way round of the loop that begins at record `r`; nothing of a later record. `kept` has the first line
-// measures of the layer.
-fn judge_winding(
-    file: &[u8],
-    table: &[u32],
-    l: Layer,
-    kept: &[i64],
-    left: usize,
-    r: usize,
-) -> Verdict
+// The way round of the loop that begins at record `r`, by the line measures `kept` of its layer; nothing of
+// a later record.
+fn judge_winding(file: &[u8], l: Layer, kept: &[i64], left: usize, r: usize) -> Verdict
     requires { ⌜ r ≤ 6399936 ⌝ }
-    ensures { λ x. ⌜ (Kept (now (file .entry)) (now (table .entry)) l (now (kept .entry)) → x ≡ firstBroken (block sixth r (windChecks (now (file .entry)) (now (table .entry)) l r left))) ⌝ }
+    ensures { λ x. ⌜ x ≡ firstBroken (block sixth r (windChecks (now (file .entry)) (keptLoop (now (file .entry)) l (now (kept .entry)) r) r left)) ⌝ }
 {
     if 0 < left {
         return Verdict::Fine;
     }
     let serial = records::number_at(file, r, 1, 5);
-    let m = entries::loop_measure(file, table, l, kept, r);
+    let m = entries::loop_measure(file, l, kept, r);
     if !winds(serial, m) {
         return Verdict::Broken {
             number: 16,
@@ -331,7 +324,7 @@ fn judge_loop(
     requires { ⌜ (r ≤ 6399936) × Unrepeated (now file) (areaRecord (now table) l area) known ⌝ }
     ensures { λ x. ⌜ (Kept (now (file .entry)) (now (table .entry)) l (now (kept .entry)) → x ≡ firstBroken (block sixth r (loopChecks (now (file .entry)) (now (table .entry)) l area count left r))) ⌝ }
 {
-    let v = judge_winding(file, table, l, kept, left, r);
+    let v = judge_winding(file, l, kept, left, r);
     if let Verdict::Broken {
         number: _,
         record: _,
@@ -358,7 +351,7 @@ fn judge_record(
     r: usize,
 ) -> Verdict
     requires { ⌜ (r ≤ 6399936) × Unrepeated (now file) (areaRecord (now table) l area) known ⌝ }
-    ensures { λ x. ⌜ (Kept (now (file .entry)) (now (table .entry)) l (now (kept .entry)) → x ≡ firstBroken (block sixth r (areaChecks d (now (file .entry)) (now (table .entry)) l area r))) ⌝ }
+    ensures { λ x. ⌜ (KeptFor d (now (file .entry)) (now (table .entry)) l (now (kept .entry)) → x ≡ firstBroken (block sixth r (areaChecks d (now (file .entry)) (now (table .entry)) l area r))) ⌝ }
 {
     match d {
         Due::Mesh(_) => Verdict::Fine,

@@ -1,14 +1,14 @@
 -- Bounds of signed sums and products by their size, `natAbs`, and what the machine makes of numbers that fit. Assumes nothing.
 use mathlib.Core.Bool.{Bool, true, false, cond}
-use mathlib.Core.Path.{_≡_, refl, _∙_}
+use mathlib.Core.Path.{_≡_, refl}
 use Prim.Native.Nat.{ℕ, zero, suc, _+_, _*_, _-_, _^_, _≤_}
 use native.Mathlib.Nat.{mul-le-mul}
 use native.Mathlib.Omega.{arith}
 use lib.Dec.{T, ltb, ltb→lt}
 use lib.IntN.{ℤ, pos, negsuc, negℤ, natAbs, _+ℤ_, _-ℤ_, _*ℤ_, +ℤ-idl}
 use lib.Signed.{mag}
-use mir.Facts.{toZ-ofZ, sfits-widen}
-use mir.Syntax.{Width, w32, w64}
+use mir.Facts.{toZ-ofZ}
+use mir.Syntax.{Width}
 use mir.Val.{SFits, toZ, ofZ, hbits}
 use borrow.Author.Tests.{ltb-true}
 use Rattle.measures.specs.Walks.{Small}
@@ -61,14 +61,6 @@ mag-le (negsuc n) = omega arith
 
 pub fits-by : {w : Width} {z : ℤ} {m : ℕ} → Small m z → T (ltb m (2 ^ hbits w)) → SFits w z
 fits-by {w} {z} {m} p t = record { sfits = omega (arith, mag-le z, p .small, ltb→lt m (2 ^ hbits w) t) }
-
--- `x as i64` of an `i32`: it fits, and it is x
-module _ {z : ℤ} (f : SFits w32 z) where
-  pub widens : SFits w64 (toZ w32 (ofZ w32 z))
-  widens = rw (toZ-ofZ f) (sfits-widen {w = w32} {w′ = w64} tt f)
-
-  pub widened : toZ w64 (ofZ w64 (toZ w32 (ofZ w32 z))) ≡ z
-  widened = toZ-ofZ widens ∙ toZ-ofZ f
 
 -- `0 - x`
 pub zero-minus : (z : ℤ) → pos 0 -ℤ z ≡ negℤ z

@@ -1,6 +1,7 @@
--- Laws of the crate's definitions. `SumLaws`, `MeasureLaws`, `LineLaws` and `Ground` have those that other crates and readers go by; the
--- other files serve the proofs.
+-- Laws of the crate's definitions. `SumLaws`, `FirstLaws`, `MeasureLaws`, `LineLaws`, `Sounding` and `Ground` have those that other crates and
+-- readers go by; the other files serve the proofs.
 pub mod SumLaws
+pub mod FirstLaws
 pub mod MeasureLaws
 pub mod LineLaws
 pub mod Ground

@@ -1,32 +1,40 @@
--- The walk without tests goes where the walk with tests goes, along a line whose coordinates are well formed and permitted. Assumes nothing.
+-- A line whose coordinates are well formed and permitted: what the code measures without a test is its measure, and that is small.
+-- Assumes nothing.
 use mathlib.Core.List.{List}
-use mathlib.Core.Path.{_≡_, sym, _∙_}
-use Prim.Native.Nat.{ℕ, _+_, _-_, _*_, _≤_}
+use mathlib.Core.Path.{_≡_, refl, ap}
+use Prim.Native.Nat.{ℕ, _<_}
 use native.Mathlib.Omega.{arith}
-use lib.IntN.{ℤ, pos}
-use borrow.Author.Tests.{le-leb}
-use Rattle.fields.specs.Number.{numberAt}
-use Rattle.fields.specs.declared.Number.the-variants as number
-use Rattle.measures.specs.Points.{coordinateIn, pointCount}
-use Rattle.measures.specs.Sound.{SoundAt, SoundPairs, Sound}
-use Rattle.measures.specs.Walks.{Small, Near, stepTo}
-use Rattle.measures.specs.declared.Walk.{Walk}
-use Rattle.records.specs.View.{recordOf}
-use Rattle.measures.proofs.Walking.{coordinate-is, near-step, near-le}
+use lib.IntN.{ℤ}
+use Rattle.fields.proofs.Remainders.{sum-said}
+use Rattle.measures.specs.Measures.{lineMeasure}
+use Rattle.measures.specs.Points.{coordinateIn, pairBy, pointBy, pointAt, pointCount, pointsBy, measureBy, measureIn}
+use Rattle.measures.specs.Sound.{SoundAt, Sound, addedUp}
+use Rattle.measures.specs.Walks.{Small}
+use Rattle.measures.proofs.Bounds.{small-le}
+use Rattle.measures.proofs.FirstLaws.{first-ext}
+use Rattle.measures.proofs.Walking.{along-near, begin-near, measure-is, count-le}
 
 -- a coordinate is the number that its bytes add up to
-pub sound-is : (s : List ℕ) (c : ℕ) {r : ℕ} → ((n : ℕ) → numberAt s c 5 ≡ number.Value (pos n) → r ≡ n) → SoundAt s c → (coordinateIn s c ≡ pos r) × (r ≤ 10000)
-sound-is s c f h =
-    let e = f (h .value) (h .said) in
-    (coordinate-is s c (sym (h .said)) ∙ rw (le-leb (h .value) 10000 (h .permitted), e), omega (arith, h .permitted))
+sound-is : (s : List ℕ) (c : ℕ) {z : ℤ} → SoundAt s c z → addedUp s c ≡ coordinateIn s c
+unfolding addedUp coordinateIn
+sound-is s c h = rw (sum-said s c 5 (h .value) (h .said), h .said)
 
--- a step keeps the walk near, whatever the coordinates are
-pub near-next : (m i : ℕ) {w v : Walk} {x y : ℤ} → Near (m + i * 200000000) w → Small 10000 x → Small 10000 y → v ≡ stepTo w (record { x = x; y = y }) → Near (m + (i + 1) * 200000000) v
-near-next m i g a b e = rw e (near-le (m + (i + 1) * 200000000) (near-step g a b) (omega arith))
+sound-few : {s : List ℕ} {c : ℕ} {z : ℤ} → SoundAt s c z → Small 10000 z
+sound-few h = rw (h .is) (record { small = h .permitted })
 
--- the record behind k has `part` of the points that are left
-pub pairs-on : (file : List ℕ) (line n left k part : ℕ) → n ≡ pointCount file line → line ≤ k → left ≤ n → part ≤ left → part ≤ 7 → n - left ≡ 7 * (k - line)
-    → Sound file line → {s : List ℕ} → s ≡ recordOf file (k + 1) → SoundPairs s part
-pairs-on file line n left k part p a b c d e h q =
-    let i : k + 1 ≡ line + 1 + (k - line) = omega arith in
-    rw (q, i) (h .points (k - line) part d (omega arith))
+module _ (file : List ℕ) (r : ℕ) (s : Sound file r) where
+  point-is : (i : ℕ) → i < pointCount file r → pointBy addedUp file r i ≡ pointAt file r i
+  unfolding pointBy pairBy
+  point-is i l = rw (sound-is _ _ (s .east i l), sound-is _ _ (s .north i l))
+
+  -- THE CODE'S NUMBER IS THE LINE'S MEASURE
+  pub sound-measure : measureBy addedUp file r ≡ measureIn file r
+  unfolding measureBy pointsBy
+  sound-measure = ap lineMeasure (first-ext (pointBy addedUp file r) (pointAt file r) (pointCount file r) point-is)
+
+  -- and at most 999,999 steps of 2 * 10^8
+  pub sound-small : Small 200000000000000 (measureIn file r)
+  sound-small =
+      let n = count-le file r in
+      rw (← measure-is coordinateIn file r refl)
+      (small-le 200000000000000 (along-near (pointAt file r) (pointCount file r) (λ i l. (sound-few (s .east i l), sound-few (s .north i l))) (begin-near 10000) .sum) (omega arith))

@@ -6,7 +6,7 @@ use mir.Facts.{toZ-ofZ}
 use mir.Syntax.{w64}
 use mir.Val.{SFits, toZ, ofZ}
 use Rattle.measures.specs.Measures.{cross}
-use Rattle.measures.specs.Walks.{Small, Near, standing}
+use Rattle.measures.specs.Walks.{Small, Near, far, standing}
 use Rattle.measures.specs.declared.Walk.{Walk}
 use Rattle.measures.proofs.Bounds.{mul-small, sub-small, add-small, fits-by, read-back}
 
@@ -14,7 +14,7 @@ use Rattle.measures.proofs.Bounds.{mul-small, sub-small, add-small, fit
 abbrev pub back : ℤ → ℤ
 back z = toZ w64 (ofZ w64 z)
 
-module _ {w : Walk} {x y : ℤ} (g : Near 1000000000000000 w) (a : Small 10000 x) (b : Small 10000 y) where
+module _ {w : Walk} {x y : ℤ} (g : Near far 1000000000000000000 w) (a : Small far x) (b : Small far y) where
   pub east-fits : SFits w64 (back x *ℤ back (w .y))
   east-fits = rw (read-back w64 a tt, read-back w64 (g .y) tt) (fits-by (mul-small a (g .y)) tt)
 

@@ -1,31 +1,20 @@
 -- The points of a line in a file (RULES 4.4: points 50-55; RULES 4.5: X and Y of seven points in 1-70). Assumes nothing.
---   linePoints file r   the points of the line whose L is record r: as many as it counts, from the records behind it
---   measureIn file r    the line's measure
-use mathlib.Core.Bool.{cond}
+--   coordinateIn s c    the coordinate that starts at column c of the record s: the number that stands there
+--   pointAt file r i    point i, counted from 0, of the line whose L is record r
+--   linePoints file r   its points, as many as it counts
+--   measureIn file r    its measure
+-- `pairBy`, `pointBy`, `pointsBy` and `measureBy` are the same for any way to read a coordinate.
 use mathlib.Core.List.{List, [], _∷_, _++_}
 use Prim.Native.Nat.{ℕ, zero, suc, _+_, _*_, _/_, _%_}
-use lib.Dec.{leb}
 use lib.IntN.{ℤ, pos, negsuc}
 use Rattle.fields.specs.Number.{numberAt}
 use Rattle.fields.specs.Answer.{valueOf}
 use Rattle.records.specs.View.{recordOf, numberIn}
 use Rattle.measures.specs.Measures.{Point, lineMeasure}
 
--- RULES 5.5: a coordinate counts where it is permitted, 0 to 10000, and as 0 elsewhere, so that no sum can grow too large
-abbrev pub coordinateOf : ℤ → ℤ
-coordinateOf (pos n) = cond (leb n 10000) (pos n) (pos 0)
-coordinateOf (negsuc n) = pos 0
-
+-- RULES 7.1: the number that stands there; 0 where none does
 unfoldable pub coordinateIn : List ℕ → ℕ → ℤ
-coordinateIn s c = coordinateOf (valueOf (numberAt s c 5))
-
--- RULES 4.5: pair i of a coordinate record, counted from 0
-unfoldable pub pointIn : List ℕ → ℕ → Point
-pointIn s i = record { x = coordinateIn s (1 + 10 * i); y = coordinateIn s (6 + 10 * i) }
-
--- RULES 2.6: point i of the line at record r, counted from 0; a coordinate record has seven
-unfoldable pub pointAt : List ℕ → ℕ → ℕ → Point
-pointAt file r i = pointIn (recordOf file (r + 1 + i / 7)) (i % 7)
+coordinateIn s c = valueOf (numberAt s c 5)
 
 -- RULES 5.9: the count alone says where the points end, and within it (0,0) is a point
 abbrev pub countOf : ℤ → ℕ
@@ -41,8 +30,29 @@ unfoldable pub firstOf : {A : Type 0} → (ℕ → A) → ℕ → List A
 firstOf f zero = []
 firstOf f (suc n) = firstOf f n ++ (f n ∷ [])
 
-unfoldable pub linePoints : List ℕ → ℕ → List Point
-linePoints file r = firstOf (pointAt file r) (pointCount file r)
+-- ---- where `read` reads the coordinate that starts at a column of a record
 
-unfoldable pub measureIn : List ℕ → ℕ → ℤ
-measureIn file r = lineMeasure (linePoints file r)
+-- RULES 4.5: pair i of a coordinate record, counted from 0
+unfoldable pub pairBy : (List ℕ → ℕ → ℤ) → List ℕ → ℕ → Point
+pairBy read s i = record { x = read s (1 + 10 * i); y = read s (6 + 10 * i) }
+
+-- RULES 2.6: point i of the line at record r, counted from 0; a coordinate record has seven
+unfoldable pub pointBy : (List ℕ → ℕ → ℤ) → List ℕ → ℕ → ℕ → Point
+pointBy read file r i = pairBy read (recordOf file (r + 1 + i / 7)) (i % 7)
+
+unfoldable pub pointsBy : (List ℕ → ℕ → ℤ) → List ℕ → ℕ → List Point
+pointsBy read file r = firstOf (pointBy read file r) (pointCount file r)
+
+unfoldable pub measureBy : (List ℕ → ℕ → ℤ) → List ℕ → ℕ → ℤ
+measureBy read file r = lineMeasure (pointsBy read file r)
+
+-- ---- RULES 7.1: by the numbers that stand in the records
+
+abbrev pub pointAt : List ℕ → ℕ → ℕ → Point
+pointAt = pointBy coordinateIn
+
+abbrev pub linePoints : List ℕ → ℕ → List Point
+linePoints = pointsBy coordinateIn
+
+abbrev pub measureIn : List ℕ → ℕ → ℤ
+measureIn = measureBy coordinateIn

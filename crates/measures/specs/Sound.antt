@@ -1,25 +1,31 @@
--- Lines whose coordinates are known to be well formed and permitted, so that the code may read them without a test. It serves the code and
--- is no part of a promise. Assumes nothing.
---   Sound file r     every coordinate of the line whose L is record r is so
+-- Lines whose coordinates are well formed and permitted, so that the code may read them without a test: it adds up the remainders of their
+-- bytes. Assumes nothing.
+--   SoundAt s c z    the coordinate z at column c of the record s is a well formed number from 0 to 10000
+--   Sound file r     so is every coordinate of the line whose L is record r
+--   addedUp s c      the remainders of the bytes of the coordinate that starts at column c of s, added up
 use mathlib.Core.List.{List}
 use mathlib.Core.Path.{_≡_}
-use Prim.Native.Nat.{ℕ, _+_, _*_, _≤_, _<_}
-use lib.IntN.{pos}
+use Prim.Native.Nat.{ℕ, _+_, _*_, _/_, _%_, _≤_, _<_}
+use lib.IntN.{ℤ, pos}
+use Rattle.fields.specs.Glimpse.{remaindersAt}
 use Rattle.fields.specs.Number.{numberAt}
 use Rattle.fields.specs.declared.Number.the-variants as number
 use Rattle.records.specs.View.{recordOf}
-use Rattle.measures.specs.Points.{pointCount}
+use Rattle.measures.specs.Points.{pointCount, pointAt}
 
--- RULES 5.5: a coordinate starts at column c, and it is 0 to 10000
-pub record SoundAt (s : List ℕ) (c : ℕ) : Type 0 where
+-- RULES 5.5: a coordinate is 0 to 10000
+pub record SoundAt (s : List ℕ) (c : ℕ) (z : ℤ) : Type 0 where
   pub value : ℕ
   pub permitted : value ≤ 10000
   pub said : numberAt s c 5 ≡ number.Value (pos value)
+  pub is : z ≡ pos value
 
--- the first n pairs of a coordinate record
-pub record SoundPairs (s : List ℕ) (n : ℕ) : Type 0 where
-  pub pair : (i : ℕ) → i < n → SoundAt s (1 + 10 * i) × SoundAt s (6 + 10 * i)
-
--- the points of a line, q records on
+-- point i stands in the coordinate record i / 7 behind the L, counted from 0, as its pair i % 7
 pub record Sound (file : List ℕ) (r : ℕ) : Type 0 where
-  pub points : (q n : ℕ) → n ≤ 7 → 7 * q + n ≤ pointCount file r → SoundPairs (recordOf file (r + 1 + q)) n
+  pub east : (i : ℕ) → i < pointCount file r → SoundAt (recordOf file (r + 1 + i / 7)) (1 + 10 * (i % 7)) (pointAt file r i .x)
+  pub north : (i : ℕ) → i < pointCount file r → SoundAt (recordOf file (r + 1 + i / 7)) (6 + 10 * (i % 7)) (pointAt file r i .y)
+
+-- ---- as the code reads a coordinate
+
+unfoldable pub addedUp : List ℕ → ℕ → ℤ
+addedUp s c = pos (remaindersAt s c 5)

@@ -26,11 +26,15 @@ along w f (suc n) = stepTo (along w f n) (f n)
 abbrev pub begin : Walk
 begin = record { sum = pos 0; x = pos 0; y = pos 0 }
 
--- a walk whose next step fits
-pub record Near (m : ℕ) (w : Walk) : Type 0 where
+-- a walk whose sum is no larger than m, and its coordinates than b, either way
+pub record Near (b m : ℕ) (w : Walk) : Type 0 where
   pub sum : Small m (w .sum)
-  pub x : Small 10000 (w .x)
-  pub y : Small 10000 (w .y)
+  pub x : Small b (w .x)
+  pub y : Small b (w .y)
+
+-- what five bytes come to at most, read by their remainders
+abbrev pub far : ℕ
+far = 166665
 
 -- what one record takes of the points that are left: seven, or all
 pub record Seven (left part : ℕ) : Type 0 where

@@ -2,13 +2,12 @@
 // records of a file. Every public function takes every file and every record number.
 //
 // The contracts cite `specs/`: `Measures` says what a line's, a loop's and an area's measure is,
-// `Points` which points a line of a file has.
-use fields::Number;
+// `Points` which points a line of a file has, `Sound` which lines the code measures so.
 ghost use mathlib.Core.Path.{_≡_};
-ghost use Prim.Native.Nat.{ℕ, _+_, _*_, _≤_};
-ghost use Rattle.measures.specs.Points.{coordinateIn, pointIn, pointCount, measureIn};
-ghost use Rattle.measures.specs.Walks.{Small, Near, Seven, stepTo, along};
-ghost use Rattle.measures.specs.Sound.{SoundAt, SoundPairs, Sound};
+ghost use Prim.Native.Nat.{_≤_};
+ghost use Rattle.measures.specs.Points.{pairBy, pointCount, measureBy};
+ghost use Rattle.measures.specs.Walks.{Small, Near, far, Seven, stepTo, along};
+ghost use Rattle.measures.specs.Sound.{addedUp};
 
 // A walk along points: the sum so far, and the point where it stands.
 struct Walk {
@@ -17,27 +16,16 @@ struct Walk {
     y: i64,
 }
 
-// The coordinate that starts at a column: a number of width 5 from 0 to 10000. Anything else counts
-// as 0.
+// The coordinate that starts at a column, read without a test of a byte: it is 166665 at most.
 fn coordinate(s: &[u8], column: usize) -> i64
-    ensures { λ r. ⌜ r ≡ coordinateIn (now (s .entry)) column ⌝ }
+    ensures { λ r. ⌜ r ≡ addedUp (now (s .entry)) column ⌝ }
 {
-    let answer = fields::read_number(s, column, 5);
-    let Number::Value(v) = answer else {
-        return 0;
-    };
-    if v < 0 {
-        return 0;
-    }
-    if 10000 < v {
-        return 0;
-    }
-    v as i64
+    fields::sum_of_five(s, column) as i64
 }
 
 // One step (RULES 7.1): x2*y1 - x1*y2 from where the walk stands.
 fn step(w: Walk, x: i64, y: i64) -> Walk
-    requires { ⌜ (Near 1000000000000000 w) × (Small 10000 x) × (Small 10000 y) ⌝ }
+    requires { ⌜ (Near far 1000000000000000000 w) × (Small far x) × (Small far y) ⌝ }
     ensures { λ r. ⌜ r ≡ stepTo w (record { x = x; y = y }) ⌝ }
 {
     let x1 = w.x;
@@ -52,8 +40,8 @@ fn step(w: Walk, x: i64, y: i64) -> Walk
 
 // On along the first `count` points of a coordinate record.
 fn walk_record(s: &[u8], count: usize, w: Walk) -> Walk
-    requires { ⌜ (count ≤ 7) × (Near 900000000000000 w) ⌝ }
-    ensures { λ r. ⌜ r ≡ along w (pointIn (now (s .entry))) count ⌝ }
+    requires { ⌜ (count ≤ 7) × (Near far 900000000000000000 w) ⌝ }
+    ensures { λ r. ⌜ r ≡ along w (pairBy addedUp (now (s .entry))) count ⌝ }
 {
     let mut at = w;
     let mut i = 0;
@@ -88,9 +76,10 @@ fn seven_of(left: usize) -> usize
     7
 }
 
-// The measure of the line whose L is record `line`.
+// The line whose L is record `line`, measured without a test of a byte: its measure, where its coordinates
+// are well formed and permitted.
 pub fn line_measure(file: &[u8], line: usize) -> i64
-    ensures { λ r. ⌜ r ≡ measureIn (now (file .entry)) line ⌝ }
+    ensures { λ r. ⌜ r ≡ measureBy addedUp (now (file .entry)) line ⌝ }
 {
     if file.len() / 74 < line {
         return 0;
@@ -104,58 +93,6 @@ pub fn line_measure(file: &[u8], line: usize) -> i64
         let part = seven_of(left);
         let next = walk_record(records::record_view(file, k), part, w);
         w = next;
-        left -= part;
-    }
-    w.sum
-}
-
-// ---- the same, of lines that are known to be well formed
-
-// The coordinate that starts at a column, where one is known to; else some number that is permitted.
-fn sound_coordinate(s: &[u8], column: usize) -> i64
-    ensures { λ r. ⌜ (Small 10000 r) × (SoundAt (now (s .entry)) column → r ≡ coordinateIn (now (s .entry)) column) ⌝ }
-{
-    let n = fields::sum_of_five(s, column);
-    if 10000 < n {
-        return 0;
-    }
-    n as i64
-}
-
-// On along the first `count` points of a coordinate record.
-fn sound_record(s: &[u8], count: usize, w: Walk) -> Walk
-    requires { ⌜ (count ≤ 7) × (Near 900000000000000 w) ⌝ }
-    ensures { λ r. ⌜ ((m : ℕ) → Near m w → Near (m + count * 200000000) r) × (SoundPairs (now (s .entry)) count → r ≡ along w (pointIn (now (s .entry))) count) ⌝ }
-{
-    let mut at = w;
-    let mut i = 0;
-    while i < count {
-        let x = sound_coordinate(s, 1 + 10 * i);
-        let y = sound_coordinate(s, 6 + 10 * i);
-        let on = step(at, x, y);
-        at = on;
-        i += 1;
-    }
-    at
-}
-
-// The measure of the line whose L is record `line`, where its coordinates are known to be well formed and
-// permitted; else some number. It is here for speed alone.
-pub fn sound_measure(file: &[u8], line: usize) -> i64
-    ensures { λ r. ⌜ (Sound (now (file .entry)) line → r ≡ measureIn (now (file .entry)) line) ⌝ }
-{
-    if file.len() / 74 < line {
-        return 0;
-    }
-    let n = point_count(file, line);
-    let mut left = n;
-    let mut k = line;
-    let mut w = Walk { sum: 0, x: 0, y: 0 };
-    while left != 0 {
-        k += 1;
-        let part = seven_of(left);
-        let on = sound_record(records::record_view(file, k), part, w);
-        w = on;
         left -= part;
     }
     w.sum

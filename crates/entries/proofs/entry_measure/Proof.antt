@@ -2,7 +2,8 @@
 use borrow.Author.Needs.{needs}
 use Rattle.rules.specs.Permitted.{natural}
 use Rattle.rules.proofs.Signs.{own-asked}
-use Rattle.entries.proofs.Summing.{turned-fits, entry-forwards, entry-backwards}
+use Rattle.entries.proofs.Keeping.{kept-small}
+use Rattle.entries.proofs.Summing.{turned-fits, line-small, entry-forwards, entry-backwards}
 use Rattle.entries.proofs.entry_measure.Statement.{statement}
 use Rattle.entries.proofs.entry_measure.Tie as tie
 
@@ -14,16 +15,16 @@ natural-requires c κs = search needs
 
 returns : tie.Need-returns
 returns c =
-    let a = c .before .before .before .before .before in
-    entry-forwards _ _ _ (a .fits .v) (c .before .before .line-measure .ensures) (own-asked natural (a .fits .v) (c .before .natural .ensures) (c .if1 .taken))
+    let a = c .before .before .before in
+    entry-forwards _ (kept-small _ _) (a .fits .v) (c .before .before .line-measure .ensures) (own-asked natural (a .fits .v) (c .before .natural .ensures) (c .if1 .taken))
 
 sub-result : tie.Need-sub-result
-sub-result c = turned-fits (c .before .before .line-measure .ensures .0)
+sub-result c = turned-fits (line-small _ (kept-small _ _) (c .before .before .before .fits .v) (c .before .before .line-measure .ensures))
 
 returns-2 : tie.Need-returns-2
 returns-2 c =
-    let a = c .before .before .before .before .before in
-    entry-backwards _ _ _ (a .fits .v) (c .before .before .line-measure .ensures) (own-asked natural (a .fits .v) (c .before .natural .ensures) (c .if1 .left))
+    let a = c .before .before .before in
+    entry-backwards _ (kept-small _ _) (a .fits .v) (c .before .before .line-measure .ensures) (own-asked natural (a .fits .v) (c .before .natural .ensures) (c .if1 .left))
 
 pub entry-measure-spec : {M : Type 1} → statement M
 entry-measure-spec =

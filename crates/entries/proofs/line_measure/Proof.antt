@@ -1,16 +1,14 @@
--- `entries::line_measure` meets its contract: a kept measure that is the line's is small, a line that is walked has its own, and what
--- names no line has 0. Assumes nothing.
+-- `entries::line_measure` meets its contract: it reads the list where that has the line, and a list has 0 past its end. Assumes nothing.
 use denote.Ref.{now}
-use mathlib.Core.Path.{sym, ap}
+use mathlib.Core.Path.{ap}
 use Prim.Native.Nat.{_-_}
-use native.Mathlib.Omega.{arith}
 use borrow.Author.Tests.{not-true, not-false}
 use borrow.Author.Needs.{needs}
 use Rattle.rules.specs.Permitted.{size}
 use Rattle.rules.proofs.Signs.{own-told, own-asked}
-use Rattle.layers.specs.Naming.{namesLine, lineOf}
+use Rattle.layers.specs.Naming.{namesLine}
 use Rattle.layers.proofs.Answers.{line-counted}
-use Rattle.entries.proofs.Summing.{measure-unnamed, kept-told, walked-told}
+use Rattle.entries.proofs.Keeping.{unnamed-told, kept-told, past-told}
 use Rattle.entries.proofs.line_measure.Statement.{statement}
 use Rattle.entries.proofs.line_measure.Tie as tie
 
@@ -19,15 +17,15 @@ names-line-requires c κs = search needs
 
 returns : tie.Need-returns
 returns c =
-    let a = c .before .before .before .before in
-    (record { small = omega arith }, λ k. sym (measure-unnamed (now (a .args .file)) (now (a .args .table)) (a .args .l) (a .args .v) (own-asked (namesLine _) (a .fits .v) (c .before .names-line .ensures) (not-true _ (c .if1 .taken)))))
+    let a = c .before .before in
+    unnamed-told (a .args .l) (now (a .args .kept)) (a .args .v) (own-asked (namesLine _) (a .fits .v) (c .before .names-line .ensures) (not-true _ (c .if1 .taken)))
 
 size-requires : tie.Need-size-requires
 size-requires c κs = search needs
 
 sub-i : tie.Need-sub-i
 sub-i c =
-    let a = c .before .before .before .before .before in
+    let a = c .before .before .before in
     line-counted (a .fits .v) _ (c .before .before .names-line .ensures) (not-false _ (c .before .if1 .left)) (c .size .ensures) .0
 
 mul-possible : tie.Need-mul-possible
@@ -42,21 +40,16 @@ possible-requires c κs = search needs
 returns-2 : tie.Need-returns-2
 returns-2 c =
     let s = c .before .before .before in
-    let a = s .before .before .before .before .before in
+    let a = s .before .before .before in
     let n = own-asked (namesLine _) (a .fits .v) (s .before .before .names-line .ensures) (not-false _ (s .before .if1 .left)) in
-    kept-told _ _ _ (now (a .args .kept)) (a .args .v) (s .size .result - 1) n (ap (λ n. n - 1) (own-told size (a .fits .v) (s .size .ensures))) (c .before .before .if2 .taken) (c .before .possible-arg .given) (c .possible .ensures)
-
-line-of-requires : tie.Need-line-of-requires
-line-of-requires c κs = search needs
-
-line-measure-requires : tie.Need-line-measure-requires
-line-measure-requires c κs = search needs
+    kept-told (a .args .l) (now (a .args .kept)) (a .args .v) (s .size .result - 1) n (ap (λ n. n - 1) (own-told size (a .fits .v) (s .size .ensures))) (c .before .possible-arg .given) (c .possible .ensures)
 
 returns-3 : tie.Need-returns-3
 returns-3 c =
-    let a = c .before .before .before .before .before .before .before .before in
-    let w = walked-told (now (a .args .file)) (now (a .args .table)) (a .args .l) (a .args .v) (own-told (lineOf _ _) (a .fits .v) (c .before .line-of .ensures)) (c .line-measure .ensures) in
-    (w .0, λ k. w .1)
+    let s = c .before in
+    let a = s .before .before .before in
+    let n = own-asked (namesLine _) (a .fits .v) (s .before .before .names-line .ensures) (not-false _ (s .before .if1 .left)) in
+    past-told (a .args .l) (now (a .args .kept)) (a .args .v) (s .size .result - 1) n (ap (λ n. n - 1) (own-told size (a .fits .v) (s .size .ensures))) (c .if2 .left)
 
 pub line-measure-spec : {M : Type 1} → statement M
 line-measure-spec =
@@ -70,6 +63,4 @@ line-measure-spec =
     shared-slice-copy-out-possible
     possible-requires
     returns-2
-    line-of-requires
-    line-measure-requires
     returns-3)

@@ -63,7 +63,7 @@ add-result-4 c = search needs
 returns : tie.Need-returns
 returns c =
     let s = c .before .before .before .before .before .before .before .before .before .before .before in
-    (search needs, omega (arith, five-sum (now (s .args .f)) (s .pre)))
+    omega (arith, five-sum (now (s .args .f)) (s .pre))
 
 pub remainders-of-spec : {M : Type 1} → statement M
 remainders-of-spec =

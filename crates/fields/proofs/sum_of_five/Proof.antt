@@ -1,14 +1,13 @@
--- `fields::sum_of_five` meets its contract: the part that is cut out is the field's bytes, and their remainders add up to its number. Assumes nothing.
+-- `fields::sum_of_five` meets its contract: the part that is cut out is the field's bytes. Assumes nothing.
 use denote.Ref.{now}
-use mathlib.Core.Path.{_∙_}
+use mathlib.Core.Path.{sym, _∙_}
 use Prim.Native.Nat.{_+_, _-_, _≤_}
 use native.Mathlib.Omega.{arith}
-use lib.Dec.{lit≤}
 use lib.ListN.{length}
 use borrow.Author.Needs.{needs}
-use borrow.Author.Tests.{not-true}
+use borrow.Author.Tests.{not-true, not-false}
 use Rattle.fields.proofs.Places.{passed}
-use Rattle.fields.proofs.Remainders.{field-sum, nothing-said}
+use Rattle.fields.proofs.Remainders.{part-sum, no-sum}
 use Rattle.fields.proofs.sum_of_five.Statement.{statement}
 use Rattle.fields.proofs.sum_of_five.Tie as tie
 
@@ -20,7 +19,9 @@ inside-requires : tie.Need-inside-requires
 inside-requires c κs = search needs
 
 returns : tie.Need-returns
-returns c = (lit≤ tt, λ n e. absurd (nothing-said _ _ _ n (c .before .inside .ensures) (not-true _ (c .if1 .taken)) e))
+returns c =
+    let a = c .before .before .before .args in
+    no-sum (now (a .s)) (a .column) 5 (sym (c .before .inside .ensures) ∙ not-true _ (c .if1 .taken))
 
 sub-at : tie.Need-sub-at
 sub-at c = let p = bounds c in omega arith
@@ -42,8 +43,9 @@ remainders-of-requires c κs = search needs
 
 returns-2 : tie.Need-returns-2
 returns-2 c =
-    let a = c .before .before .before .before .before .args in
-    (c .remainders-of .ensures .0, λ n e. c .remainders-of .ensures .1 ∙ field-sum (now (a .s)) (a .column) 5 n e)
+    let b = c .before .before in
+    let a = b .before .before .before .args in
+    c .remainders-of .ensures ∙ part-sum (now (a .s)) (a .column) 5 (sym (b .before .inside .ensures) ∙ not-false _ (b .if1 .left))
 
 pub sum-of-five-spec : {M : Type 1} → statement M
 sum-of-five-spec =

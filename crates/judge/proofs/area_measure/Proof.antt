@@ -10,24 +10,26 @@ use borrow.Author.Needs.{needs}
 use Rattle.measures.specs.Sum.{sum}
 use Rattle.measures.specs.Measures.{areaMeasure}
 use Rattle.entries.specs.Entries.{loopsAt, loopsTo, recordsTo}
-use Rattle.entries.specs.Loops.{measureOf, areaMeasureIn}
+use Rattle.entries.specs.Keeping.{keptMeasure, keptLoop}
+use Rattle.judge.specs.Measuring.{keptArea}
 use Rattle.judge.proofs.Adding.{Added, loop-added}
 use Rattle.judge.proofs.area_measure.Statement.{statement}
 use Rattle.judge.proofs.area_measure.Tie as tie
 
 abbrev Inv-loop : tie.InvT-loop
-Inv-loop file table l kept a n sum₀ f₀ i₀ sum f i = (i ≤ n) × (f ≡ a + 1 + recordsTo file a i) × (recordsTo file a i ≤ 834 * i) × (toZ w64 sum ≡ areaMeasure (measureOf file table l) (loopsTo file a i))
+Inv-loop file l kept a n sum₀ f₀ i₀ sum f i = (i ≤ n) × (f ≡ a + 1 + recordsTo file a i) × (recordsTo file a i ≤ 834 * i) × (toZ w64 sum ≡ areaMeasure (keptMeasure l kept) (loopsTo file a i))
 
 abbrev μ-loop : tie.MeasureT-loop
-μ-loop file table l kept a n sum₀ f₀ i₀ sum f i = n - i
+μ-loop file l kept a n sum₀ f₀ i₀ sum f i = n - i
 
 -- the loop's measure goes to the sum
 next : (c : tie.After-loop-measure Inv-loop μ-loop)
-    → Added (toZ w64 (c .before .before .loop .sum)) (c .loop-measure .result) (areaMeasure (measureOf (c .before .before .before .before .before .before .args .file .now) (c .before .before .before .before .before .before .args .table .now) (c .before .before .before .before .before .before .args .l)) (loopsTo (c .before .before .before .before .before .before .args .file .now) (c .before .before .before .before .before .before .args .a) (c .before .before .loop .i + 1)))
+    → Added (toZ w64 (c .before .before .loop .sum)) (c .loop-measure .result) (areaMeasure (keptMeasure (c .before .before .before .before .before .args .l) (c .before .before .before .before .before .args .kept .now)) (loopsTo (c .before .before .before .before .before .args .file .now) (c .before .before .before .before .before .args .a) (c .before .before .loop .i + 1)))
+unfolding keptLoop
 next c =
-    let s = c .before .before .before .before .before .before in
+    let s = c .before .before .before .before .before in
     let l = c .before .before .loop in
-    loop-added _ _ _ _ (l .i) (s .pre .2) (omega (arith, c .before .loop-test .taken, c .before .before .before .loops-at .ensures .0)) (l .inv .1) (l .inv .3) (c .loop-measure .ok) (c .loop-measure .ensures (s .pre .1))
+    loop-added _ _ _ (l .i) (s .pre .1) (omega (arith, c .before .loop-test .taken, c .before .before .before .loops-at .ensures .0)) (l .inv .1) (l .inv .3) (c .loop-measure .ok) (c .loop-measure .ensures)
 
 loops-at-requires : tie.Need-loops-at-requires Inv-loop μ-loop
 loops-at-requires c κs = search needs
@@ -62,15 +64,15 @@ unfolding recordsTo
 loop-again c =
     let l = c .before .before .before .loop in
     let r = c .loop-records .ensures in
-    let a = c .before .before .before .before .before .before .before .args in
+    let a = c .before .before .before .before .before .before .args in
     let e : recordsTo (now (a .file)) (a .a) (l .i + 1) ≡ recordsTo (now (a .file)) (a .a) (l .i) + c .loop-records .result = rw (add-one, ← l .inv .1, r .0) in
     (omega (arith, c .before .before .loop-test .taken), omega (arith, e), omega (arith, e, r .1), next (c .before) .is)
 
 returns : tie.Need-returns Inv-loop μ-loop
-unfolding areaMeasureIn
+unfolding keptArea
 returns c =
     let l = c .before .loop in
-    let a = c .before .before .before .before .before .args in
+    let a = c .before .before .before .before .args in
     let e : l .i ≡ loopsAt (now (a .file)) (a .a) = omega (arith, c .loop-test .left, c .before .before .loops-at .ensures .0) in
     rw (← e) (l .inv .3)
 

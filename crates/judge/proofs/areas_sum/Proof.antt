@@ -25,7 +25,7 @@ next : (c : tie.After-area-measure Inv-loop μ-loop)
 next c =
     let h = c .before .before .loop-test .taken in
     let l = c .before .before .before .loop in
-    sum-added _ _ (l .a) (c .before .before .before .before .before .before .before .pre .1 .areas) h (l .inv .1) (c .area-measure .ok) (area-told _ _ _ h (c .before .area-word .ensures .0) (c .area-measure .ensures))
+    sum-added _ _ (l .a) (c .before .before .before .before .before .before .before .pre .1 .areas) h (l .inv .1) (c .area-measure .ok) (area-told _ _ _ h (c .before .area-word .ensures .0) (c .before .before .before .before .before .before .before .pre .0) (c .area-measure .ensures))
 
 cast-n : tie.Need-cast-n Inv-loop μ-loop
 cast-n c = search needs
@@ -39,7 +39,7 @@ area-word-requires c κs = search needs
 area-measure-requires : tie.Need-area-measure-requires Inv-loop μ-loop
 area-measure-requires c κs =
     let s = c .before .before .before .before .before .before in
-    (c .area-word .ensures .1, s .pre .0, area-measurable _ _ _ (c .before .loop-test .taken) (c .area-word .ensures .0) (s .pre .1))
+    (c .area-word .ensures .1, area-measurable _ _ _ (c .before .loop-test .taken) (c .area-word .ensures .0) (s .pre .0) (s .pre .1))
 
 add-sum : tie.Need-add-sum Inv-loop μ-loop
 add-sum c = next c .fits

@@ -30,7 +30,7 @@ area-word-requires c κs = search needs
 area-measure-requires : tie.Need-area-measure-requires Inv-loop μ-loop
 area-measure-requires c κs =
     let s = c .before .before .before .before .before .before in
-    (c .area-word .ensures .1, s .pre .1, area-measurable _ _ _ (c .before .loop-test .taken) (c .area-word .ensures .0) (s .pre .2))
+    (c .area-word .ensures .1, area-measurable _ _ _ (c .before .loop-test .taken) (c .area-word .ensures .0) (s .pre .1) (s .pre .2))
 
 add-t12 : tie.Need-add-t12 Inv-loop μ-loop
 add-t12 c = omega (arith, c .before .before .loop-test .taken, c .before .before .before .before .before .before .before .pre .0)
@@ -48,7 +48,7 @@ loop-less : tie.Need-loop-less Inv-loop μ-loop
 loop-less c = search needs
 
 loop-again : tie.Need-loop-again Inv-loop μ-loop
-loop-again c = (omega (arith, c .before .before .loop-test .taken), area-stored _ _ _ (c .before .before .loop-test .taken) (c .before .area-word .ensures .0) _ _ (c .before .before .before .loop .inv .1) (c .area-measure .ok) (c .area-measure .ensures))
+loop-again c = (omega (arith, c .before .before .loop-test .taken), area-stored _ _ _ (c .before .before .loop-test .taken) (c .before .area-word .ensures .0) (c .before .before .before .before .before .before .before .pre .1) _ _ (c .before .before .before .loop .inv .1) (c .area-measure .ok) (c .area-measure .ensures))
 
 same-length : tie.Need-same-length Inv-loop μ-loop
 same-length c = rw (c .before .loop .inv .1) (simp length-sets)

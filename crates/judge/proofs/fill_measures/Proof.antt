@@ -8,6 +8,7 @@ use lib.ListN.{length, length-replicate}
 use lib.Seq.{length-take-le}
 use borrow.Author.Needs.{needs}
 use Rattle.layers.specs.Naming.{wordsBefore}
+use Rattle.entries.proofs.Keeping.{kept-length, kept-room, kept-lines}
 use Rattle.judge.specs.Measuring.{filledTo}
 use Rattle.judge.proofs.Adding.{none-filled, same-many, room, layer-summable, at-more, layer-put}
 use Rattle.judge.proofs.fill_measures.Statement.{statement}
@@ -36,7 +37,7 @@ array-share-prefix-kept : tie.Need-array-share-prefix-kept Inv-loop μ-loop
 array-share-prefix-kept c = search needs
 
 slice-aggregate-fill-layer : tie.Need-slice-aggregate-fill-layer Inv-loop μ-loop
-slice-aggregate-fill-layer c = sym (length-take-le _ _ (c .before .before .keep-measures .ensures .0))
+slice-aggregate-fill-layer c = sym (length-take-le _ _ (kept-room _ _ _ _ (c .before .before .keep-measures .ensures)))
 
 fill-layer-requires : tie.Need-fill-layer-requires Inv-loop μ-loop
 fill-layer-requires c κs =
@@ -45,7 +46,7 @@ fill-layer-requires c κs =
     let h = c .before .before .before .before .before .before .loop-test .taken in
     let e = c .before .before .before .before .before .layer-in .ensures in
     let u = layer-summable _ _ _ _ _ _ (s .pre) (l .inv .2) (l .inv .3) h e in
-    (room _ _ _ _ _ _ (s .pre) (l .inv .2) (l .inv .3) h e, c .before .before .before .keep-measures .ensures .2 (u .sound), u)
+    (room _ _ _ _ _ _ (s .pre) (l .inv .2) (l .inv .3) h e, kept-lines _ _ _ _ (c .before .before .before .keep-measures .ensures) (omega (arith, l .inv .1)) (u .sound), u)
 
 cast-at : tie.Need-cast-at Inv-loop μ-loop
 cast-at c = search needs
@@ -69,7 +70,7 @@ loop-again c =
     let l = c .before .before .before .before .before .before .before .before .before .before .loop in
     let h = c .before .before .before .before .before .before .before .before .before .loop-test .taken in
     let e = c .before .before .before .before .before .before .before .before .layer-in .ensures in
-    (omega (arith, h), c .before .before .before .before .before .before .keep-measures .ensures .1 ∙ l .inv .1, at-more _ _ _ _ _ _ (s .pre) (l .inv .2) (l .inv .3) h e, layer-put _ _ _ _ _ _ (s .pre) (l .inv .2) (l .inv .3) h e (c .before .before .fill-layer .ensures))
+    (omega (arith, h), kept-length _ _ _ _ (c .before .before .before .before .before .before .keep-measures .ensures) ∙ l .inv .1, at-more _ _ _ _ _ _ (s .pre) (l .inv .2) (l .inv .3) h e, layer-put _ _ _ _ _ _ (s .pre) (l .inv .2) (l .inv .3) h e (c .before .before .fill-layer .ensures))
 
 same-length : tie.Need-same-length Inv-loop μ-loop
 same-length c = same-many _ _ _ _ _ _ (c .before .before .before .before .pre) (c .before .loop .inv .2) (c .before .loop .inv .3) (c .before .loop .inv .0)

@@ -2,8 +2,7 @@
 -- Assumes nothing.
 use denote.Ref.{now}
 use borrow.Author.Needs.{needs}
-use Rattle.entries.proofs.Summing.{turned-fits}
-use Rattle.judge.proofs.Adding.{Sided, sided, outside-none, outside-left, outside-right, measure-passed, measure-turned}
+use Rattle.judge.proofs.Adding.{Sided, sided, outside-none, outside-left, outside-right, measure-passed, measure-fits, measure-turned}
 use Rattle.judge.proofs.outside_at.Statement.{statement}
 use Rattle.judge.proofs.outside_at.Tie as tie
 
@@ -44,7 +43,7 @@ returns-2 : tie.Need-returns-2
 returns-2 c = outside-left _ _ _ _ (sides (c .before .before .before)) (c .before .before .before .same .ensures) (c .before .before .if1 .left) (c .if2 .taken) (measure-passed _ _ _ _ (c .before .before .before .before .before .before .before .before .before .before .before .pre .0) (c .before .before .before .before .before .before .before .before .before .before .before .pre .1) (c .before .line-measure .ensures))
 
 sub-result : tie.Need-sub-result
-sub-result c = turned-fits (c .before .line-measure .ensures .0)
+sub-result c = measure-fits _ _ _ _ (c .before .before .before .before .before .before .before .before .before .before .before .pre .0) (c .before .before .before .before .before .before .before .before .before .before .before .pre .1) (c .before .line-measure .ensures)
 
 returns-3 : tie.Need-returns-3
 returns-3 c = outside-right _ _ _ _ (sides (c .before .before .before)) (c .before .before .before .same .ensures) (c .before .before .if1 .left) (c .if2 .left) (measure-turned _ _ _ _ (c .before .before .before .before .before .before .before .before .before .before .before .pre .0) (c .before .before .before .before .before .before .before .before .before .before .before .pre .1) (c .before .line-measure .ensures))

@@ -35,16 +35,16 @@ loop-holds : tie.Need-loop-holds Inv-loop μ-loop
 loop-holds c = (omega arith, sym (sumTo-none _))
 
 add-outside-at : tie.Need-add-outside-at Inv-loop μ-loop
-add-outside-at c = omega (arith, c .loop-test .taken, c .before .before .before .before .before .pre .1 .lines)
+add-outside-at c = omega (arith, c .loop-test .taken, c .before .before .before .before .before .pre .1 .sound .few)
 
 outside-at-requires : tie.Need-outside-at-requires Inv-loop μ-loop
-outside-at-requires c κs = (omega (arith, c .loop-test .taken, c .before .before .before .before .before .pre .1 .lines), c .before .before .before .before .before .pre .0)
+outside-at-requires c κs = (omega (arith, c .loop-test .taken, c .before .before .before .before .before .pre .1 .sound .few), c .before .before .before .before .before .pre .0)
 
 add-sum : tie.Need-add-sum Inv-loop μ-loop
 add-sum c = next c .fits
 
 add-i : tie.Need-add-i Inv-loop μ-loop
-add-i c = omega (arith, c .before .loop-test .taken, c .before .before .before .before .before .before .pre .1 .lines)
+add-i c = omega (arith, c .before .loop-test .taken, c .before .before .before .before .before .before .pre .1 .sound .few)
 
 loop-less : tie.Need-loop-less Inv-loop μ-loop
 loop-less c = search needs

@@ -1,10 +1,12 @@
 -- `judge::sums_in` meets its contract: the lines' measures are kept once, for both sums. Assumes nothing.
 use mathlib.Core.Path.{sym, _∙_, ap₂}
+use lib.Dec.{lit≤}
 use lib.Seq.{length-take-le}
 use mir.Facts.{toZ-ofZ}
 use mir.Syntax.{w64}
 use borrow.Author.Needs.{needs}
 use Rattle.verdict.specs.declared.Verdict.the-variants.{Fine}
+use Rattle.entries.proofs.Keeping.{kept-room, kept-lines}
 use Rattle.judge.specs.Outcomes.{sumsWith}
 use Rattle.judge.proofs.sums_in.Statement.{statement}
 use Rattle.judge.proofs.sums_in.Tie as tie
@@ -19,17 +21,17 @@ array-share-prefix-measures : tie.Need-array-share-prefix-measures
 array-share-prefix-measures c = search needs
 
 slice-aggregate-kept : tie.Need-slice-aggregate-kept
-slice-aggregate-kept c = sym (length-take-le _ _ (c .before .before .keep-measures .ensures .0))
+slice-aggregate-kept c = sym (length-take-le _ _ (kept-room _ _ _ _ (c .before .before .keep-measures .ensures)))
 
 areas-sum-requires : tie.Need-areas-sum-requires
 areas-sum-requires c κs =
     let u = c .before .before .before .before .before .before .pre in
-    (c .before .before .keep-measures .ensures .2 (u .sound), u)
+    (kept-lines _ _ _ _ (c .before .before .keep-measures .ensures) (lit≤ tt) (u .sound), u)
 
 outside-sum-requires : tie.Need-outside-sum-requires
 outside-sum-requires c κs =
     let u = c .before .before .before .before .before .before .before .pre in
-    (c .before .before .before .keep-measures .ensures .2 (u .sound), u)
+    (kept-lines _ _ _ _ (c .before .before .before .keep-measures .ensures) (lit≤ tt) (u .sound), u)
 
 returns : tie.Need-returns
 returns c = ap₂ (sumsWith Fine) (toZ-ofZ {w = w64} (record { sfits = c .before .areas-sum .ok }) ∙ c .before .areas-sum .ensures) (toZ-ofZ {w = w64} (record { sfits = c .outside-sum .ok }) ∙ c .outside-sum .ensures)

@@ -1,5 +1,5 @@
 -- `loops::judge_loop` meets its contract: the way round comes first, then the slots. Assumes nothing.
-use Rattle.loops.proofs.SlotLaws.{loop-stops, loop-passes}
+use Rattle.loops.proofs.SlotLaws.{wind-kept, loop-stops, loop-passes}
 use borrow.Author.Needs.{needs}
 use Rattle.loops.proofs.judge_loop.Statement.{statement}
 use Rattle.loops.proofs.judge_loop.Tie as tie
@@ -11,7 +11,7 @@ enum-told : tie.Need-enum-told
 enum-told c = search needs
 
 returns : tie.Need-returns
-returns c = λ h. loop-stops _ _ _ _ _ _ _ (c .before .before .judge-winding .ensures h) (c .enum-told .given .1)
+returns c = λ h. loop-stops _ _ _ _ _ _ _ (wind-kept _ _ _ _ _ _ h (c .before .before .judge-winding .ensures)) (c .enum-told .given .1)
 
 enum-told-2 : tie.Need-enum-told-2
 enum-told-2 c = search needs
@@ -33,7 +33,7 @@ returns-2 c =
     let a = c .before .before .before in
     let e = a .before in
     let v = e .before .before in
-    λ h. loop-passes _ _ _ _ _ _ _ (v .judge-winding .ensures h) (e .enum-told2 .given .1) (a .area-record .ensures .0) (c .before .first-record .ensures) (c .judge-slots .ensures)
+    λ h. loop-passes _ _ _ _ _ _ _ (wind-kept _ _ _ _ _ _ h (v .judge-winding .ensures)) (e .enum-told2 .given .1) (a .area-record .ensures .0) (c .before .first-record .ensures) (c .judge-slots .ensures)
 
 pub judge-loop-spec : {M : Type 1} → statement M
 judge-loop-spec =

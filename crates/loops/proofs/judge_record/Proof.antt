@@ -48,7 +48,7 @@ returns-6 : tie.Need-returns-6
 returns-6 c = λ h. rw (c .enum-told6 .given .1) (check-none sixth _)
 
 returns-7 : tie.Need-returns-7
-returns-7 c = λ h. rw (c .before .before .d .given .1) (c .judge-loop .ensures h)
+returns-7 c = λ h. rw (c .before .before .d .given .1) (c .judge-loop .ensures (rw (c .before .before .d .given .1) at h))
 
 pub judge-record-spec : {M : Type 1} → statement M
 judge-record-spec =

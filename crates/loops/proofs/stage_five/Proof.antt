@@ -1,8 +1,7 @@
 -- `loops::stage_five` meets its contract: the loop leaves at the first broken rule, passes quiet records, and carries the next record's
 -- layer with what is kept of its lines and known of its area. Assumes nothing.
-use mathlib.Core.List.{[]}
 use mathlib.Core.Path.{_≡_, sym, _∙_}
-use Prim.Native.Nat.{_-_, _≤_}
+use Prim.Native.Nat.{_-_, _≤_, _<_}
 use native.Mathlib.Nat.{le-refl}
 use native.Mathlib.Omega.{arith}
 use lib.ListN.{length, take}
@@ -15,18 +14,17 @@ use Rattle.walk.proofs.Passing.{pass-most, pass-are-quiet, passed-state}
 use Rattle.layers.specs.Passing.{layerAt}
 use Rattle.layers.proofs.Passing.{rows-start, rows-more, rows-small, layer-start, layer-next, rows-passed, layer-passed}
 use Rattle.entries.specs.Keeping.{Kept}
-use Rattle.entries.proofs.Summing.{kept-none}
 use Rattle.loops.specs.Loops.{areaRecord}
 use Rattle.loops.specs.Scanning.{Unrepeated, SoundTable}
 use Rattle.loops.proofs.Repeats.{unrepeated-none}
-use Rattle.loops.proofs.StageLaws.{Passed, rule-is, five-passes, five-stops, five-done, known-next, kept-next, layer-sound}
+use Rattle.loops.proofs.StageLaws.{Passed, rule-is, five-passes, five-stops, five-done, known-next, kept-next, kept-for, layer-sound}
 use Rattle.loops.proofs.stage_five.Statement.{statement}
 use Rattle.loops.proofs.stage_five.Tie as tie
 
 abbrev Inv-loop : tie.InvT-loop
 Inv-loop file table b n kept₀ marks₀ have₀ known₀ s₀ rows₀ l₀ k₀ kept marks have known s rows l k =
     (k ≤ n) × (s ≡ stateAt file k) × (rows ≡ countsAt file k .layers) × (l ≡ layerAt file table b k) × (SoundTable file table b → Passed file table b k)
-    × (have ≤ 9999) × (length kept ≡ 9999) × (length marks ≡ 20000) × (SoundTable file table b → Kept file table l (take have kept)) × Unrepeated file (areaRecord table l (s .area)) known
+    × (have ≤ 9999) × (length kept ≡ 9999) × (length marks ≡ 20000) × (SoundTable file table b → 0 < rows → Kept file table l (take have kept)) × Unrepeated file (areaRecord table l (s .area)) known
 
 abbrev μ-loop : tie.MeasureT-loop
 μ-loop file table b n kept₀ marks₀ have₀ known₀ s₀ rows₀ l₀ k₀ kept marks have known s rows l k = n - k
@@ -41,7 +39,7 @@ layer-in-requires : tie.Need-layer-in-requires Inv-loop μ-loop
 layer-in-requires c κs = search needs
 
 loop-holds : tie.Need-loop-holds Inv-loop μ-loop
-loop-holds c = (search needs, c .before .at-start .ensures ∙ at-none _, rows-start _, layer-start _ _ _ (c .layer-in .ensures), λ h. rows-none _, search needs, search needs, search needs, λ h. kept-none _ _ _ [], unrepeated-none _ _)
+loop-holds c = (search needs, c .before .at-start .ensures ∙ at-none _, rows-start _, layer-start _ _ _ (c .layer-in .ensures), λ h. rows-none _, search needs, search needs, search needs, λ h p. absurd (omega (arith, p)), unrepeated-none _ _)
 
 due-requires : tie.Need-due-requires Inv-loop μ-loop
 due-requires c κs = search needs
@@ -68,7 +66,7 @@ returns c =
     let t = d .before in
     let l = t .before in
     let n = l .before .before .before in
-    λ w. five-stops _ _ _ (n .records-of .ensures .0) _ (c .enum-told .given .1) (rule-is _ _ _ _ (l .loop .inv .1) (d .due .ensures) (l .loop .inv .3) (v .judge-record .ensures (l .loop .inv .8 w))) (l .loop .inv .4 w) (t .loop-test .taken)
+    λ w. five-stops _ _ _ (n .records-of .ensures .0) _ (c .enum-told .given .1) (rule-is _ _ _ _ (l .loop .inv .1) (d .due .ensures) (l .loop .inv .3) (v .judge-record .ensures (kept-for _ _ _ _ _ (l .loop .inv .1) (d .due .ensures) (l .loop .inv .2) (l .loop .inv .8 w)))) (l .loop .inv .4 w) (t .loop-test .taken)
 
 enum-told-2 : tie.Need-enum-told-2 Inv-loop μ-loop
 enum-told-2 c = search needs
@@ -146,11 +144,11 @@ loop-again c =
       p .pass-quiet .ensures .1 ∙ passed-state _ _ s q _ (le-refl _),
       rows-passed _ _ s q r,
       layer-passed _ _ _ _ s q g,
-      λ w. five-passes _ _ _ _ s q (rows-pass _ _ (l .loop .inv .4 w) (rule-is _ _ _ _ (l .loop .inv .1) (d .due .ensures) (l .loop .inv .3) (v .judge-record .ensures (l .loop .inv .8 w))) (e .enum-told2 .given .1)),
+      λ w. five-passes _ _ _ _ s q (rows-pass _ _ (l .loop .inv .4 w) (rule-is _ _ _ _ (l .loop .inv .1) (d .due .ensures) (l .loop .inv .3) (v .judge-record .ensures (kept-for _ _ _ _ _ (l .loop .inv .1) (d .due .ensures) (l .loop .inv .2) (l .loop .inv .8 w)))) (e .enum-told2 .given .1)),
       omega (arith, k .kept-behind .ensures .room, h .kept3 .given),
       h .kept3 .given,
       o .marks2 .given,
-      λ w. kept-next _ _ _ _ _ (k .kept-behind .ensures) (b .layer-behind .ensures) (layer-sound _ _ _ _ (n .records-of .ensures .0) (t .loop-test .taken) (l .loop .inv .1) (d .due .ensures) g w) (l .loop .inv .8 w),
+      λ w. kept-next _ _ _ _ _ (k .kept-behind .ensures) (b .layer-behind .ensures) (omega (arith, l .loop .inv .6)) (layer-sound _ _ _ _ (n .records-of .ensures .0) (t .loop-test .taken) (l .loop .inv .1) (d .due .ensures) g w) (rw (m .rows-of .ensures)) (l .loop .inv .8 w),
       rw (p .pass-quiet .ensures .1) (known-next _ _ _ _ _ _ (d .due .ensures) (x .next .ensures) (b .layer-behind .ensures) (u .known-behind .ensures)),
     )
 

@@ -5,7 +5,8 @@ use mathlib.Core.Path.{_≡_, sym, _∙_}
 use Prim.Native.Nat.{_-_, _*_, _≤_, _<_}
 use native.Mathlib.Omega.{arith}
 use borrow.Author.Needs.{needs}
-use Rattle.measures.specs.Points.{pointAt}
+use Rattle.measures.specs.Points.{pointBy}
+use Rattle.measures.specs.Sound.{addedUp}
 use Rattle.measures.specs.Walks.{along, begin}
 use Rattle.records.proofs.Numbers.{record-past}
 use Rattle.measures.proofs.Walking.{some, turn, sum-back, near-le, line-near, measure-none, measure-is, full}
@@ -17,14 +18,14 @@ Inv-loop file line n left₀ k₀ w₀ left k w =
     (left ≤ n)
     × (line ≤ k)
     × (k - line ≤ n - left)
-    × (w ≡ along begin (pointAt file line) (n - left))
+    × (w ≡ along begin (pointBy addedUp file line) (n - left))
     × (0 < left → n - left ≡ 7 * (k - line))
 
 abbrev μ-loop : tie.MeasureT-loop
 μ-loop file line n left₀ k₀ w₀ left k w = left
 
 returns : tie.Need-returns Inv-loop μ-loop
-returns c = sym (measure-none (now (c .before .before .args .file)) (c .before .before .args .line) (record-past _ _ (c .if1 .taken)))
+returns c = sym (measure-none addedUp (now (c .before .before .args .file)) (c .before .before .args .line) (record-past _ _ (c .if1 .taken)))
 
 point-count-requires : tie.Need-point-count-requires Inv-loop μ-loop
 point-count-requires c κs = search needs
@@ -49,7 +50,7 @@ walk-record-requires c κs =
     let b = c .before .before .before in
     let s = b .before .before .before .before in
     let e = b .before .point-count .ensures .1 in
-    (c .before .seven-of .ensures .few, rw (b .loop .inv .3) (near-le 900000000000000 (line-near (now (s .args .file)) (s .args .line) (b .before .point-count .result - b .loop .left)) (omega arith)))
+    (c .before .seven-of .ensures .few, rw (b .loop .inv .3) (near-le 900000000000000000 (line-near (now (s .args .file)) (s .args .line) (b .before .point-count .result - b .loop .left)) (omega arith)))
 
 sub-left : tie.Need-sub-left Inv-loop μ-loop
 sub-left c = omega (arith, c .before .before .seven-of .ensures .within)
@@ -68,7 +69,7 @@ loop-again c =
       omega (arith, s .within),
       omega arith,
       omega (arith, s .within),
-      turn _ _ _ (b .loop .left) (b .loop .k) (c .before .before .seven-of .result) (l .1) (l .0) (s .within) (s .few) e (l .3) (c .before .record-view .ensures) (c .walk-record .ensures),
+      turn addedUp _ _ _ (b .loop .left) (b .loop .k) (c .before .before .seven-of .result) (l .1) (l .0) (s .within) (s .few) e (l .3) (c .before .record-view .ensures) (c .walk-record .ensures),
       λ h.
           let f = full s h in
           omega (arith, s .within),
@@ -80,7 +81,7 @@ returns-2 c =
     let s = b .before .before .before .before in
     let n = b .before .point-count .ensures in
     let z : b .before .point-count .result - b .loop .left ≡ b .before .point-count .result = omega arith in
-    sum-back (now (s .args .file)) (s .args .line) (b .before .point-count .result) (n .1) (b .loop .inv .3 ∙ rw z) ∙ measure-is (now (s .args .file)) (s .args .line) (n .0)
+    sum-back (now (s .args .file)) (s .args .line) (b .before .point-count .result) (n .1) (b .loop .inv .3 ∙ rw z) ∙ measure-is addedUp (now (s .args .file)) (s .args .line) (n .0)
 
 pub line-measure-spec : {M : Type 1} → statement M
 line-measure-spec =

@@ -1,4 +1,4 @@
--- `measures::step` meets its contract: every product, difference and sum fits, since each coordinate is 10000 at most.
+-- `measures::step` meets its contract: every product, difference and sum fits, since each coordinate is 166665 at most.
 -- Assumes nothing.
 use mir.Syntax.{w64}
 use Rattle.measures.proofs.Bounds.{read-back}

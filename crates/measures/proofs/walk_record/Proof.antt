@@ -6,24 +6,25 @@ use native.Mathlib.Omega.{arith}
 use mir.Facts.{toZ-ofZ}
 use mir.Syntax.{w64}
 use borrow.Author.Needs.{needs}
-use Rattle.measures.specs.Points.{coordinateIn, pointIn}
-use Rattle.measures.specs.Walks.{Small, along}
+use Rattle.measures.specs.Points.{pairBy}
+use Rattle.measures.specs.Sound.{addedUp}
+use Rattle.measures.specs.Walks.{Small, far, along}
 use Rattle.measures.proofs.Stepping.{back}
-use Rattle.measures.proofs.Walking.{near-le, record-near, coordinate-small, along-next}
+use Rattle.measures.proofs.Walking.{near-le, record-near, added-small, along-next}
 use Rattle.measures.proofs.walk_record.Statement.{statement}
 use Rattle.measures.proofs.walk_record.Tie as tie
 
 abbrev Inv-loop : tie.InvT-loop
-Inv-loop s count at₀ i₀ at i = (i ≤ count) × (at ≡ along at₀ (pointIn s) i)
+Inv-loop s count at₀ i₀ at i = (i ≤ count) × (at ≡ along at₀ (pairBy addedUp s) i)
 
 abbrev μ-loop : tie.MeasureT-loop
 μ-loop s count at₀ i₀ at i = count - i
 
 -- X and Y, as the machine hands them on
-x-is : (c : tie.After-coordinate Inv-loop μ-loop) → back (c .coordinate .result) ≡ coordinateIn (now (c .before .before .before .before .args .s)) (1 + 10 * c .before .before .loop .i)
+x-is : (c : tie.After-coordinate Inv-loop μ-loop) → back (c .coordinate .result) ≡ addedUp (now (c .before .before .before .before .args .s)) (1 + 10 * c .before .before .loop .i)
 x-is c = toZ-ofZ {w = w64} (record { sfits = c .coordinate .ok }) ∙ c .coordinate .ensures
 
-y-is : (c : tie.After-coordinate2 Inv-loop μ-loop) → back (c .coordinate2 .result) ≡ coordinateIn (now (c .before .before .before .before .before .args .s)) (6 + 10 * c .before .before .before .loop .i)
+y-is : (c : tie.After-coordinate2 Inv-loop μ-loop) → back (c .coordinate2 .result) ≡ addedUp (now (c .before .before .before .before .before .args .s)) (6 + 10 * c .before .before .before .loop .i)
 y-is c = toZ-ofZ {w = w64} (record { sfits = c .coordinate2 .ok }) ∙ c .coordinate2 .ensures
 
 loop-holds : tie.Need-loop-holds Inv-loop μ-loop
@@ -52,9 +53,9 @@ step-requires : tie.Need-step-requires Inv-loop μ-loop
 step-requires c κs =
     let l = c .before .before .before in
     let s = l .before .before in
-    let x : Small 10000 (back (c .before .coordinate .result)) = rw (x-is (c .before)) (coordinate-small _ _) in
-    let y : Small 10000 (back (c .coordinate2 .result)) = rw (y-is c) (coordinate-small _ _) in (
-      rw (l .loop .inv .1) (near-le 1000000000000000 (record-near (now (s .args .s)) (s .pre .1) (l .loop .i)) (omega arith)),
+    let x : Small far (back (c .before .coordinate .result)) = rw (x-is (c .before)) (added-small _ _) in
+    let y : Small far (back (c .coordinate2 .result)) = rw (y-is c) (added-small _ _) in (
+      rw (l .loop .inv .1) (near-le 1000000000000000000 (record-near (now (s .args .s)) (s .pre .1) (l .loop .i)) (omega arith)),
       search needs,
       search needs,
     )
@@ -66,12 +67,12 @@ loop-less : tie.Need-loop-less Inv-loop μ-loop
 loop-less c = search needs
 
 loop-again : tie.Need-loop-again Inv-loop μ-loop
-unfolding pointIn
+unfolding pairBy
 loop-again c =
     let l = c .before .before .before .before in
     let s = l .before .before in (
       omega arith,
-      c .step .ensures ∙ rw (x-is (c .before .before), y-is (c .before), l .loop .inv .1) (along-next (s .args .w) (pointIn (now (s .args .s))) (l .loop .i)),
+      c .step .ensures ∙ rw (x-is (c .before .before), y-is (c .before), l .loop .inv .1) (along-next (s .args .w) (pairBy addedUp (now (s .args .s))) (l .loop .i)),
     )
 
 returns : tie.Need-returns Inv-loop μ-loop
