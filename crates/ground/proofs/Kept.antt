@@ -23,7 +23,7 @@ use Rattle.rules.specs.Checks.{formChecks, valueChecks, along, checksOf}
 use Rattle.walk.specs.States.{sizeIn, dueOf, stateAt, countsAt}
 use Rattle.walk.specs.Stages.{recordsOf, stageTwo}
 use Rattle.walk.specs.Table.{tableOf}
-use Rattle.walk.proofs.Judging.{ended}
+use Rattle.walk.proofs.Judging.{two-holds, ended}
 use Rattle.layers.specs.declared.Layer as layers
 use Rattle.layers.specs.Naming.{layerIn, names, namesLine, lineOf, areaOf}
 use Rattle.layers.specs.Passing.{isLayer, layerAt, basesIn, layerOf}
@@ -35,7 +35,7 @@ use Rattle.entries.proofs.Owning.{inside, complete}
 use Rattle.loops.specs.Loops.{repeatsArea, rightArea, loopSlot, windChecks, firstRecord, areaRecord, loopChecks, areaChecks, sixth, stageFive}
 use Rattle.sides.specs.Sides.{lists, sideListed, listChecks, lineListChecks, seventh, stageSix}
 use Rattle.ground.specs.Layers.{leftOf, rightOf}
-use Rattle.ground.proofs.Soundness.{two-holds, within-most}
+use Rattle.ground.proofs.Soundness.{within-most}
 
 -- ---- the stages
 

@@ -21,8 +21,7 @@ use Rattle.records.specs.declared.Field.{Field}
 use Rattle.records.specs.declared.Field.the-variants as field
 use Rattle.verdict.specs.declared.Verdict.the-variants.{Fine}
 use Rattle.verdict.specs.Rules.{firstBroken}
-use Rattle.verdict.proofs.Parts.{both-fine}
-use Rattle.verdict.proofs.Holding.{row-fine, Holding, all-hold}
+use Rattle.verdict.proofs.Holding.{Holding}
 use Rattle.verdict.proofs.Orders.{and-both}
 use Rattle.rules.specs.declared.Due.{Due}
 use Rattle.rules.specs.declared.Due.the-variants.{Line, Coordinates}
@@ -34,20 +33,13 @@ use Rattle.walk.specs.States.{sizeIn, dueOf, nextOf, stateAt}
 use Rattle.walk.specs.Stages.{recordsOf, mayEnd, stageTwo}
 use Rattle.walk.specs.Table.{tableOf}
 use Rattle.walk.specs.Quiet.{Quiet}
-use Rattle.walk.proofs.Judging.{rulesOf, ended}
+use Rattle.walk.proofs.Judging.{two-holds, ended}
 use Rattle.walk.proofs.Passing.{quiet-points, passed-due}
 use Rattle.layers.specs.Passing.{basesIn, layerOf}
 use Rattle.layers.proofs.Laid.{line-named, line-laid}
 use Rattle.measures.specs.Points.{countOf, pointCount}
 use Rattle.measures.specs.Sound.{SoundAt, SoundPairs, Sound}
 use Rattle.loops.specs.Scanning.{SoundTable}
-
--- ---- stage 2
-
--- of record k + 1, due as d, all checks hold
-pub two-holds : (file : List ℕ) → firstBroken (stageTwo file) ≡ Fine → (k : ℕ) → k < recordsOf file → {d : Due} → dueOf (stateAt file k) ≡ d → Holding (checksOf d (recordOf file (k + 1)))
-unfolding stageTwo
-two-holds file h k l e = rw (← e) (all-hold 2 (k + 1) _ (row-fine (rulesOf file) (recordsOf file) (both-fine _ _ h .0) k l))
 
 pub within-most : (low high : ℕ) (v : ℤ) → within low high v ≡ true → size v ≤ high
 unfolding within

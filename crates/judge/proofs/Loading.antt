@@ -13,7 +13,7 @@ use Rattle.verdict.specs.declared.Verdict.the-variants.{Fine, Broken}
 use Rattle.verdict.specs.Rules.{firstBroken}
 use Rattle.verdict.proofs.Parts.{stands, goes-on, both-fine}
 use Rattle.verdict.proofs.Orders.{and-both}
-use Rattle.verdict.proofs.Numbers.{upTo9, above9, Numbered, append-numbered, broken-number}
+use Rattle.verdict.proofs.Numbers.{upTo9, tenTo18, Numbered, append-numbered, broken-number}
 use Rattle.walk.specs.declared.Tabled.{Tabled}
 use Rattle.walk.specs.declared.Counts.{Counts}
 use Rattle.walk.specs.States.{countsAt}
@@ -40,14 +40,14 @@ use Rattle.judge.specs.Rulebook.{late, rulesOf}
 use Rattle.judge.specs.Outcomes.{judgedOf, tableBy, tableJudged}
 
 -- behind refusal 9 every rule has a number above 9
-pub late-numbered : (file : List ℕ) → Numbered above9 (late file)
+pub late-numbered : (file : List ℕ) → Numbered tenTo18 (late file)
 unfolding late
 late-numbered file =
     let t : List ℕ = tableOf file in
     let b : Bases = basesIn file in
-    append-numbered above9 (stageThree file) _ (three-numbered file)
-    (append-numbered above9 (stageFour file t b) _ (four-numbered file t b)
-    (append-numbered above9 (stageFive file t b) (stageSix file t b) (five-numbered file t b) (six-numbered file t b)))
+    append-numbered tenTo18 (stageThree file) _ (three-numbered file)
+    (append-numbered tenTo18 (stageFour file t b) _ (four-numbered file t b)
+    (append-numbered tenTo18 (stageFive file t b) (stageSix file t b) (five-numbered file t b) (six-numbered file t b)))
 
 -- the counts of a file are small
 pub counts-few : (file : List ℕ) {c : Counts} → c ≡ countsAt file (recordsOf file) → (c .layers ≤ 6399936) × (c .lines ≤ 6399936)
@@ -168,7 +168,7 @@ module _ (file : List ℕ) (room : ℕ) {t : Tabled} (e : t ≡ tabledOf file ro
       stood : (v : Verdict) (words : List ℕ) → v ≡ firstBroken (late file) → filled (tableOf file) words ≡ tableBy v file words
       stood Fine words h = refl
       stood (Broken n r c) words h =
-          let b : leb 10 n ≡ true = broken-number above9 (late file) (late-numbered file) (sym h) in
+          let b : leb 10 n ≡ true = broken-number tenTo18 (late file) (late-numbered file) (sym h) in
           let d : leb n 9 ≡ false = lt-leb n 9 (leb-true 10 n b) in
           rw d
 

@@ -117,7 +117,7 @@ parts-next t c s r ol oa w p =
     (λ _ _. record { lines = p .lines; areas = p .areas })
     (λ _ _. record { lines = p .lines; areas = p .areas })
     (λ _ _. record { lines = part-one (p .lines); areas = p .areas })
-    (λ _ _. record { lines = p .lines; areas = part-one (p .areas) })
+    (λ _ _ _. record { lines = p .lines; areas = part-one (p .areas) })
     (λ i h. record {
       lines = part-row (sizeIn r 10 5) (omega (arith, i .lines)) (h refl .0) (p .lines);
       areas = part-row (sizeIn r 15 5) (omega (arith, i .areas)) (h refl .1) (p .areas);
@@ -163,7 +163,7 @@ line-due s {layer} {m} =
     (λ _ e. clash (cc))
     (λ _ e. clash (cc))
     (λ l e. (cc, l))
-    (λ _ e. clash (cc))
+    (λ _ _ e. clash (cc))
     (λ _ e. clash (cc))
     (λ _ e. clash (cc))
 
@@ -175,7 +175,7 @@ area-due s {layer} {m} =
     (λ _ e. clash (cc))
     (λ _ e. clash (cc))
     (λ _ e. clash (cc))
-    (λ l e. (cc, l))
+    (λ _ l e. (cc, l))
     (λ _ e. clash (cc))
     (λ _ e. clash (cc))
 
@@ -264,7 +264,7 @@ line-passed s c r p l =
     (λ _ m. absurd (omega arith))
     (λ _ m. absurd (omega arith))
     (λ _ m. (refl, omega arith))
-    (λ _ m. absurd (omega arith))
+    (λ _ _ m. absurd (omega arith))
     (λ _ m. absurd (omega arith))
     (λ _ m. absurd (omega arith))
 
@@ -276,7 +276,7 @@ area-passed s c r p l =
     (λ _ m. absurd (omega arith))
     (λ _ m. absurd (omega arith))
     (λ _ m. absurd (omega arith))
-    (λ _ m. (refl, omega arith))
+    (λ _ _ m. (refl, omega arith))
     (λ _ m. absurd (omega arith))
     (λ _ m. absurd (omega arith))
 
