@@ -179,6 +179,12 @@ area-due s {layer} {m} =
     (λ _ e. clash (cc))
     (λ _ e. clash (cc))
 
+-- the A behind the first k records is area m of layer i
+pub record AreaPlace (file : List ℕ) (k i m : ℕ) : Type 0 where
+  pub layer : i < countsAt file (recordsOf file) .layers
+  pub inside : m < layerOf file i .areas
+  pub place : countsAt file k .areas ≡ wordsBefore (tableOf file) 3 i + m
+
 module _ (file : List ℕ) (k : ℕ) (l : k < recordsOf file) where
   -- the layers that came up to here are among those of the file
   here : countsAt file k .layers - 1 ≤ countsAt file (recordsOf file) .layers
@@ -218,13 +224,22 @@ module _ (file : List ℕ) (k : ℕ) (l : k < recordsOf file) where
       let z : basesIn file .lines + wordsBefore (tableOf file) 2 (countsAt file k .layers - 1) + m ≡ basesIn file .lines + countsAt file k .lines = omega (arith, x .place, d .0) in
       rw (is-row file (countsAt file k .layers - 1) here, z) (line-there e)
 
+  -- where an A is due, it is area m of its layer, whose areas come behind those of the layers before it
+  pub area-place : {layer m : ℕ} → dueOf (stateAt file k) ≡ Area layer m → AreaPlace file k (countsAt file k .layers - 1) m
+  area-place {m = m} e =
+      let d = area-due (stateAt file k) e in
+      let x = next (parts file k (omega arith) .areas) (d .1) in
+      record {
+        layer = omega (arith, x .row, grown file (recordsOf file) k (omega arith) .layers);
+        inside = rw (is-row file (countsAt file k .layers - 1) here) (omega (arith, x .inside, d .0));
+        place = omega (arith, x .place, d .0);
+      }
+
   -- so with the areas and an A
   pub area-word : {layer m : ℕ} → dueOf (stateAt file k) ≡ Area layer m → getD (tableOf file) (layerAt file (tableOf file) (basesIn file) k .area + m) 0 ≡ suc k
   unfolding layerAt
   area-word {m = m} e =
-      let d = area-due (stateAt file k) e in
-      let x = next (parts file k (omega arith) .areas) (d .1) in
-      let z : basesIn file .areas + wordsBefore (tableOf file) 3 (countsAt file k .layers - 1) + m ≡ basesIn file .areas + countsAt file k .areas = omega (arith, x .place, d .0) in
+      let z : basesIn file .areas + wordsBefore (tableOf file) 3 (countsAt file k .layers - 1) + m ≡ basesIn file .areas + countsAt file k .areas = omega (arith, area-place e .place) in
       rw (is-row file (countsAt file k .layers - 1) here, z) (area-there e)
 
 -- ---- a layer's word
