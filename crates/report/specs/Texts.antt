@@ -10,15 +10,15 @@ use mathlib.Core.List.{List, [], _∷_, _++_}
 use Prim.Native.Nat.{ℕ, zero, suc, _+_, _/_, _%_}
 use lib.Dec.{eqb, ltb}
 use lib.IntN.{ℤ, pos, negsuc}
-use lib.ListN.{length, getD, replicate}
+use lib.ListN.{length, getD}
 use Rattle.records.specs.View.{recordOf}
 use Rattle.rules.specs.declared.Due.{Due}
 use Rattle.rules.specs.declared.Due.the-variants.{Mesh, Layer, Node, Line, Coordinates, Area, Loop}
 use Rattle.walk.specs.declared.State.{State}
 use Rattle.walk.specs.States.{sizeIn, dueOf, stateAt, countsAt}
-use Rattle.walk.specs.Stages.{recordsOf}
+use Rattle.walk.specs.Stages.{recordsOf, needOf}
 use Rattle.judge.specs.declared.Outcome.{Outcome}
-use Rattle.judge.specs.Outcomes.{outcomeOf, measuresAfter}
+use Rattle.judge.specs.Outcomes.{outcomeOf, measuresOf}
 use Rattle.report.specs.declared.Shown.{Shown}
 
 -- the last digit, and those before it; w is more than the digits
@@ -179,13 +179,9 @@ areasText file ms (suc k) =
 abbrev pub bounded : List ℕ → List ℕ → List ℕ
 bounded input text = cond (ltb 65490 (length input)) statusTooLong text
 
--- the judge's answer, with buffers that are long enough for 885 records
+-- the judge's answer, with as much room as the file needs
 abbrev pub answerTo : List ℕ → Outcome
-answerTo file = outcomeOf file 3540 443
-
--- the measures that the judge leaves
-abbrev pub measuresTold : List ℕ → List ℤ
-measuresTold file = measuresAfter file 3540 (replicate 443 (pos 0))
+answerTo file = outcomeOf file (needOf file) (needOf file)
 
 -- "Program `check`"
 unfoldable pub checkText : List ℕ → List ℕ
@@ -194,4 +190,4 @@ checkText input = bounded input (outcomeText (answerTo input))
 -- "Program `measure`, same input and bound, prints .. one line an area in file order ..; other outcomes as in `check`"
 unfoldable pub measureText : List ℕ → List ℕ
 measureText input =
-    bounded input (cond (eqb (answerTo input .number) 0) (areasText input (measuresTold input) (recordsOf input)) (refusedText (answerTo input)))
+    bounded input (cond (eqb (answerTo input .number) 0) (areasText input (measuresOf input) (recordsOf input)) (refusedText (answerTo input)))
