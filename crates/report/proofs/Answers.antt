@@ -39,9 +39,9 @@ module _ (input : List ℕ) (h : length input ≤ 65490) {room places : ℕ} (a 
   check-refused z = rw (le-ltb 65490 (length input) h, ← told, ne-eqb (o .number) 0 z)
 
   -- the measures ms that the judge leaves where zs stood
-  pub measure-ok : o .number ≡ 0 → {zs ms : List ℤ} → places ≡ length zs → ms ≡ measuresAfter input room zs → areasText input ms (recordsOf input) ≡ measureText input
+  pub measure-ok : o .number ≡ 0 → (zs : List ℤ) {ms : List ℤ} → places ≡ length zs → ms ≡ measuresAfter input room zs → areasText input ms (recordsOf input) ≡ measureText input
   unfolding measureText measuresAfter
-  measure-ok z {zs} l f =
+  measure-ok z zs l f =
       let v : verdictOf input room places ≡ Fine = zero-accepts input room places (ap (λ (x : Outcome). x .number) (sym e) ∙ z) in
       let m = measuresOf input in
       rw (le-ltb 65490 (length input) h, ← told, eq-eqb (o .number) 0 z, (rw (← l, v) at f))

@@ -33,7 +33,7 @@ put-areas-requires : tie.Need-put-areas-requires
 put-areas-requires c κs = few-records _ (c .before .before .before .before .before .before .before .before .before .if1 .left)
 
 returns-2 : tie.Need-returns-2
-returns-2 c = (named (measure-ok _ (c .before .before .before .before .before .before .before .before .before .before .if1 .left) (omega arith) (omega arith) (c .before .before .before .before .before .before .before .load .ensures .0) (c .before .before .before .if2 .taken) refl (c .before .before .before .before .before .before .before .load .ensures .2)) (c .put-areas .ensures .0), omega (arith, c .put-areas .ensures .1))
+returns-2 c = (named (measure-ok _ (c .before .before .before .before .before .before .before .before .before .before .if1 .left) (omega arith) (omega arith) (c .before .before .before .before .before .before .before .load .ensures .0) (c .before .before .before .if2 .taken) _ refl (c .before .before .before .before .before .before .before .load .ensures .2)) (c .put-areas .ensures .0), omega (arith, c .put-areas .ensures .1))
 
 put-refused-requires : tie.Need-put-refused-requires
 put-refused-requires c κs = search needs
