@@ -23,7 +23,6 @@ use Rattle.verdict.specs.declared.Verdict.the-variants.{Fine}
 use Rattle.verdict.specs.Rules.{firstBroken}
 use Rattle.verdict.proofs.Holding.{Holding}
 use Rattle.verdict.proofs.Orders.{and-both}
-use Rattle.rules.specs.declared.Due.{Due}
 use Rattle.rules.specs.declared.Due.the-variants.{Line, Coordinates}
 use Rattle.rules.specs.Permitted.{natural, size, within, isPoint}
 use Rattle.rules.specs.Asks.{permitted, at, coordinateAsks, asksOf, askedOf}

@@ -38,8 +38,8 @@ first-at g zero i l = absurd (omega arith)
 first-at g (suc n) i l =
     ⊎-elim
     (λ e.
-        let z : i ≡ length (firstOf g n) + 0 = omega (arith, first-many g n) in
-        ap (λ (j : ℕ). getD (firstOf g n ++ (g n ∷ [])) j (pos 0)) z ∙ getD-append-add (firstOf g n) (g n ∷ []) 0 (pos 0) ∙ ap g (sym e))
+    let z : i ≡ length (firstOf g n) + 0 = omega (arith, first-many g n) in
+    ap (λ (j : ℕ). getD (firstOf g n ++ (g n ∷ [])) j (pos 0)) z ∙ getD-append-add (firstOf g n) (g n ∷ []) 0 (pos 0) ∙ ap g (sym e))
     (λ m. List·getD-append (firstOf g n) (g n ∷ []) (pos 0) i (rw first-many m) ∙ first-at g n i m)
     (eq-or-lt-of-le (le-of-suc-le-suc l))
 
@@ -61,9 +61,9 @@ module _ (t : List ℕ) (b : Bases) (file : List ℕ) where
       ⊎-elim
       (λ e. subst (λ (j : ℕ). getD (measuresTo file t b (suc j)) (wordsBefore t 3 i + m) (pos 0) ≡ areaOfLayer file t (layerIn t b i) (suc m)) e (last-measure i m (omega arith) a))
       (λ u.
-          List·getD-append (measuresTo file t b n) (ofLayer n) (pos 0) (wordsBefore t 3 i + m)
-          (rw (measures-many t b file n (omega arith)) (omega (arith, areas-more t b i n u (omega arith))))
-          ∙ layer-measure n i m (omega arith) u a)
+      List·getD-append (measuresTo file t b n) (ofLayer n) (pos 0) (wordsBefore t 3 i + m)
+      (rw (measures-many t b file n (omega arith)) (omega (arith, areas-more t b i n u (omega arith))))
+      ∙ layer-measure n i m (omega arith) u a)
       (eq-or-lt-of-le (le-of-suc-le-suc l))
 
 -- ---- the file

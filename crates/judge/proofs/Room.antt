@@ -105,29 +105,27 @@ own-unlike file cs h =
     (λ a i. between-unlike 10 18 9 (a .number) (λ l g. omega arith) (late-numbered file a i)))
     (block-numbered (unlike 9) eighth 0 cs h)
 
+never-nine : (file : List ℕ) (room : ℕ) → needOf file ≤ room → (cs : List Check) → numbered (unlike 9) cs ≡ true
+    → (v : Verdict) → v ≡ firstBroken (rulesOf file room ++ block eighth 0 cs) → toldOf v .number ≡ 9 → ⊥
+never-nine file room w cs h v e t =
+    let f = not-told 9 (ownRules file ++ block eighth 0 cs) (own-unlike file cs h) v (e ∙ rules-then file room w (block eighth 0 cs)) t in
+    let z = zero-told t f in
+    omega arith
+
 -- THE JUDGE DOES NOT ANSWER 9 to a table as long as the need
 pub room-enough : (file : List ℕ) (room places : ℕ) → needOf file ≤ room → outcomeOf file room places .number ≡ 9 → ⊥
 unfolding outcomeOf verdictOf measureRule
 room-enough file room places w e =
     let v = verdictOf file room places in
-    let t : toldOf v .number ≡ 9 = sym (told-by v (countsAt file (recordsOf file)) (recordsOf file) (needOf file)) ∙ e in
-    let z = zero-told t
-        (not-told 9 (ownRules file ++ measureRule file places)
-        (own-unlike file (check 0 19 (leb (countsAt file (recordsOf file) .areas) places) ∷ []) refl)
-        v (rules-then file room w (measureRule file places)) t) in
-    omega arith
+    never-nine file room w (check 0 19 (leb (countsAt file (recordsOf file) .areas) places) ∷ []) refl v refl
+    (sym (told-by v (countsAt file (recordsOf file)) (recordsOf file) (needOf file)) ∙ e)
 
 -- nor do the layer sums
 pub sums-enough : (file : List ℕ) (room i : ℕ) → needOf file ≤ room → sumsOf file room i .number ≡ 9 → ⊥
 unfolding sumsOf sumsVerdict layerRule
 sums-enough file room i w e =
     let v = sumsVerdict file room i in
-    let t : toldOf v .number ≡ 9 = sym (sums-told v file i) ∙ e in
-    let z = zero-told t
-        (not-told 9 (ownRules file ++ layerRule file i)
-        (own-unlike file (check 0 22 (leb 1 i && leb i (countsAt file (recordsOf file) .layers)) ∷ []) refl)
-        v (rules-then file room w (layerRule file i)) t) in
-    omega arith
+    never-nine file room w (check 0 22 (leb 1 i && leb i (countsAt file (recordsOf file) .layers)) ∷ []) refl v refl (sym (sums-told v file i) ∙ e)
 
 -- AND NOT 19 to as many places for measures
 pub places-enough : (file : List ℕ) (room places : ℕ) → needOf file ≤ places → outcomeOf file room places .number ≡ 19 → ⊥

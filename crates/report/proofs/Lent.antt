@@ -1,7 +1,7 @@
 -- THE PROGRAMS LEND ENOUGH: a file of up to 65,490 bytes has at most 885 records, so it needs at most 3,540 words, and if it keeps stage 2 it
 -- has at most 442 areas. So the answer is that with as much room as the file needs, and neither 9 nor 19. Assumes nothing.
 use mathlib.Core.List.{List}
-use mathlib.Core.Path.{_≡_, ap, sym, _∙_}
+use mathlib.Core.Path.{_≡_}
 use Prim.Native.Nat.{ℕ, _≤_}
 use native.Mathlib.Nat.{le-refl}
 use native.Mathlib.Omega.{arith}
@@ -9,7 +9,6 @@ use lib.ListN.{length}
 use Rattle.walk.specs.Stages.{needOf}
 use Rattle.walk.proofs.Judging.{walked-fine}
 use Rattle.walk.proofs.Room.{need-most, areas-half}
-use Rattle.judge.specs.declared.Outcome.{Outcome}
 use Rattle.judge.specs.Outcomes.{outcomeOf}
 use Rattle.judge.proofs.Room.{Enough, need-enough, same-outcome, room-enough, places-enough}
 use Rattle.report.specs.Texts.{answerTo}

@@ -175,9 +175,12 @@ areasText file ms (suc k) =
 
 -- ---- the programs
 
--- "up to 65,490 bytes (885 records; beyond, it prints only `status=toolong`)"
+-- up to 885 records of 74 bytes are taken; beyond that only "status=toolong" is printed
+abbrev pub mostBytes : ℕ
+mostBytes = 65490
+
 abbrev pub bounded : List ℕ → List ℕ → List ℕ
-bounded input text = cond (ltb 65490 (length input)) statusTooLong text
+bounded input text = cond (ltb mostBytes (length input)) statusTooLong text
 
 -- the judge's answer, with as much room as the file needs
 abbrev pub answerTo : List ℕ → Outcome

@@ -200,6 +200,7 @@ fn put_areas(out: &mut [u8; 120000], file: &[u8], measures: &[i64]) -> usize
 // What the judge is lent for up to 885 records: a record gives the table at most four words, and at least
 // as many other records as areas stand in a file.
 const WORDS: usize = 3540;
+
 const PLACES: usize = 443;
 
 // What `check` prints of an input: that text stands in the first bytes of `out`, as many as are answered.
