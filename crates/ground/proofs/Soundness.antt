@@ -23,8 +23,7 @@ use Rattle.records.specs.declared.Field.{Field}
 use Rattle.records.specs.declared.Field.the-variants as field
 use Rattle.verdict.specs.declared.Verdict.the-variants.{Fine}
 use Rattle.verdict.specs.Rules.{firstBroken}
-use Rattle.verdict.proofs.Parts.{both-fine}
-use Rattle.verdict.proofs.Holding.{row-fine, Holding, all-hold}
+use Rattle.verdict.proofs.Holding.{Holding}
 use Rattle.verdict.proofs.Orders.{and-both}
 use Rattle.rules.specs.declared.Due.{Due}
 use Rattle.rules.specs.declared.Due.the-variants as due
@@ -37,7 +36,7 @@ use Rattle.walk.specs.States.{sizeIn, dueOf, nextOf, stateAt, countsAt}
 use Rattle.walk.specs.Stages.{recordsOf, mayEnd, stageTwo}
 use Rattle.walk.specs.Table.{tableOf}
 use Rattle.walk.specs.Quiet.{Quiet}
-use Rattle.walk.proofs.Judging.{rulesOf, ended}
+use Rattle.walk.proofs.Judging.{two-holds, ended}
 use Rattle.walk.proofs.Passing.{quiet-points, passed-due}
 use Rattle.layers.specs.Naming.{lineOf}
 use Rattle.layers.specs.Passing.{isLayer, basesIn, layerOf}
@@ -46,13 +45,6 @@ use Rattle.layers.proofs.Laid.{line-named, line-laid}
 use Rattle.measures.specs.Points.{coordinateIn, countOf, pointCount, pairBy, pointBy, pointAt}
 use Rattle.measures.specs.Sound.{SoundAt, Sound}
 use Rattle.loops.specs.Scanning.{SoundTable}
-
--- ---- stage 2
-
--- of record k + 1, due as d, all checks hold
-pub two-holds : (file : List ℕ) → firstBroken (stageTwo file) ≡ Fine → (k : ℕ) → k < recordsOf file → {d : Due} → dueOf (stateAt file k) ≡ d → Holding (checksOf d (recordOf file (k + 1)))
-unfolding stageTwo
-two-holds file h k l e = rw (← e) (all-hold 2 (k + 1) _ (row-fine (rulesOf file) (recordsOf file) (both-fine _ _ h .0) k l))
 
 pub within-most : (low high : ℕ) (v : ℤ) → within low high v ≡ true → size v ≤ high
 unfolding within

@@ -180,14 +180,15 @@ module _ (t : List ℕ) (b : Bases) where
   row-areas i h = rw (le-leb i 6399936 h)
 
   -- the areas of the layers before row i and its own are some of those of n rows
-  areas-more : (i n : ℕ) → i < n → n ≤ 6399936 → wordsBefore t 3 i + layerIn t b i .areas ≤ wordsBefore t 3 n
+  pub areas-more : (i n : ℕ) → i < n → n ≤ 6399936 → wordsBefore t 3 i + layerIn t b i .areas ≤ wordsBefore t 3 n
   areas-more i n h f = rw (row-areas i (omega arith)) (words-more t 3 i n h)
 
   words-up : (i n : ℕ) → i ≤ n → n ≤ 6399936 → wordsBefore t 3 i ≤ wordsBefore t 3 n
   words-up i n h f = ⊎-elim (λ e. rw e (omega arith)) (λ l. omega (arith, areas-more i n l f)) (eq-or-lt-of-le h)
 
   module _ (file : List ℕ) where
-    measures-many : (n : ℕ) → n ≤ 6399936 → length (measuresTo file t b n) ≡ wordsBefore t 3 n
+    -- as many measures as areas
+    pub measures-many : (n : ℕ) → n ≤ 6399936 → length (measuresTo file t b n) ≡ wordsBefore t 3 n
     unfolding measuresTo wordsBefore
     measures-many zero h = refl
     measures-many (suc n) h = rw (length-append, measures-many n (omega arith), first-many, row-areas n (omega arith))

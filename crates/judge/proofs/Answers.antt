@@ -4,18 +4,17 @@
 use mathlib.Core.Bool.{true, _&&_}
 use mathlib.Core.List.{List, [], _∷_, _++_, append-assoc}
 use mathlib.Core.Path.{_≡_, refl, subst, sym, _∙_, ap}
-use Prim.Native.Nat.{ℕ, _<_}
+use Prim.Native.Nat.{ℕ, _≤_, _<_}
 use native.Mathlib.Omega.{arith}
 use lib.Dec.{leb, lit<}
 use lib.IntN.{ℤ}
 use lib.ListN.{length}
-use borrow.Author.Tests.{leb-true}
 use Rattle.verdict.specs.declared.Verdict.{Verdict}
 use Rattle.verdict.specs.declared.Verdict.the-variants.{Fine, Broken}
-use Rattle.verdict.specs.Rules.{Rule, check, firstBroken, toldOf}
+use Rattle.verdict.specs.Rules.{Rule, check, toldOf}
 use Rattle.verdict.specs.Order.{In, Answer, Sorted}
 use Rattle.verdict.proofs.Orders.{answers, only, block-sorted, block-in, UpTo, Of, stage-sorted, stage-up}
-use Rattle.verdict.proofs.Numbers.{above0, upTo9-above0, above9-above0, Numbered, block-numbered, append-numbered, broken-number}
+use Rattle.verdict.proofs.Numbers.{unlike, between-unlike, Numbered, block-numbered, append-numbered, not-told}
 use Rattle.walk.specs.declared.Counts.{Counts}
 use Rattle.walk.specs.States.{countsAt}
 use Rattle.walk.specs.Stages.{recordsOf, third, early, needOf}
@@ -119,19 +118,15 @@ sums-only file words i v a =
 
 -- ---- the number 0
 
-stages-numbered : (file : List ℕ) (room : ℕ) → Numbered above0 (rulesOf file room)
+-- the rules of a file bear numbers from 1 to 18
+pub rules-unlike : (file : List ℕ) (room m : ℕ) → (1 ≤ m → m ≤ 18 → ⊥) → Numbered (unlike m) (rulesOf file room)
 unfolding rulesOf
-stages-numbered file room =
-    append-numbered above0 (early file room) (late file)
-    (λ a i. upTo9-above0 (a .number) (early-numbered file room a i))
-    (λ a i. above9-above0 (a .number) (late-numbered file a i))
+rules-unlike file room m o =
+    append-numbered (unlike m) (early file room) (late file)
+    (λ a i. between-unlike 1 9 m (a .number) (λ l h. o l (omega arith)) (early-numbered file room a i))
+    (λ a i. between-unlike 10 18 m (a .number) (λ l h. o (omega arith) h) (late-numbered file a i))
 
--- a verdict whose number is 0, of rules of which none bears that number
-none-broken : (rs : List Rule) → Numbered above0 rs → (v : Verdict) → v ≡ firstBroken rs → toldOf v .number ≡ 0 → v ≡ Fine
-none-broken rs h Fine e z = refl
-none-broken rs h (Broken n r c) e z = let b = leb-true 1 n (broken-number above0 rs h (sym e)) in absurd (omega arith)
-
-told-by : (v : Verdict) (c : Counts) (records need : ℕ) → outcomeBy v c records need .number ≡ toldOf v .number
+pub told-by : (v : Verdict) (c : Counts) (records need : ℕ) → outcomeBy v c records need .number ≡ toldOf v .number
 told-by Fine c records need = refl
 told-by (Broken n r p) c records need = refl
 
@@ -139,12 +134,12 @@ told-by (Broken n r p) c records need = refl
 pub zero-accepts : (file : List ℕ) (room places : ℕ) → outcomeOf file room places .number ≡ 0 → verdictOf file room places ≡ Fine
 unfolding outcomeOf verdictOf measureRule
 zero-accepts file room places e =
-    none-broken (judgeRules file room places)
-    (append-numbered above0 (rulesOf file room) _ (stages-numbered file room) (block-numbered above0 eighth 0 (check 0 19 (leb (countsAt file (recordsOf file) .areas) places) ∷ []) refl))
+    not-told 0 (judgeRules file room places)
+    (append-numbered (unlike 0) (rulesOf file room) _ (rules-unlike file room 0 (λ l h. omega arith)) (block-numbered (unlike 0) eighth 0 (check 0 19 (leb (countsAt file (recordsOf file) .areas) places) ∷ []) refl))
     (verdictOf file room places) refl
     (sym (told-by (verdictOf file room places) (countsAt file (recordsOf file)) (recordsOf file) (needOf file)) ∙ e)
 
-sums-told : (v : Verdict) (file : List ℕ) (i : ℕ) → sumsBy v file i .number ≡ toldOf v .number
+pub sums-told : (v : Verdict) (file : List ℕ) (i : ℕ) → sumsBy v file i .number ≡ toldOf v .number
 sums-told Fine file i = refl
 sums-told (Broken n r p) file i = refl
 
@@ -152,7 +147,7 @@ sums-told (Broken n r p) file i = refl
 pub zero-sums : (file : List ℕ) (room i : ℕ) → sumsOf file room i .number ≡ 0 → sumsVerdict file room i ≡ Fine
 unfolding sumsOf sumsVerdict layerRule
 zero-sums file room i e =
-    none-broken (sumsRules file room i)
-    (append-numbered above0 (rulesOf file room) _ (stages-numbered file room) (block-numbered above0 eighth 0 (check 0 22 (leb 1 i && leb i (countsAt file (recordsOf file) .layers)) ∷ []) refl))
+    not-told 0 (sumsRules file room i)
+    (append-numbered (unlike 0) (rulesOf file room) _ (rules-unlike file room 0 (λ l h. omega arith)) (block-numbered (unlike 0) eighth 0 (check 0 22 (leb 1 i && leb i (countsAt file (recordsOf file) .layers)) ∷ []) refl))
     (sumsVerdict file room i) refl
     (sym (sums-told (sumsVerdict file room i) file i) ∙ e)

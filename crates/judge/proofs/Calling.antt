@@ -21,8 +21,7 @@ use Rattle.walk.specs.Stages.{recordsOf, stageOne, stageTwo, roomRule, walkedBy
 use Rattle.walk.specs.Table.{tableOf, filled}
 use Rattle.walk.proofs.Walking.{counts-small, countable}
 use Rattle.walk.proofs.Judging.{records-small, walked-verdict, walked-fine, ended}
-use Rattle.walk.proofs.Dues.{words-counted}
-use Rattle.walk.proofs.Filling.{table-length}
+use Rattle.walk.proofs.Room.{table-need}
 use Rattle.totals.specs.Totals.{stageThree}
 use Rattle.layers.specs.declared.Bases.{Bases}
 use Rattle.layers.specs.declared.Layer.{Layer}
@@ -140,10 +139,7 @@ module _ (file : List ℕ) (room : ℕ) {t : Tabled} (e : t ≡ judgedOf file ro
     judged-counts = counted ∙ stages-kept file room rules-kept .1
 
     table-words : length (tableOf file) ≡ t .counts .words
-    table-words =
-        table-length file
-        ∙ sym (words-counted file (recordsOf file) (ended file (judged-passed .two)))
-        ∙ sym (ap (λ (c : Counts). c .words) judged-counts)
+    table-words = table-need file (walked-kept file room rules-kept) ∙ sym need-is
 
     module _ (words : List ℕ) {after : List ℕ} (m : room ≡ length words) (h : after ≡ tableJudged file words) where
       table-stands : after ≡ filled (tableOf file) words

@@ -7,22 +7,21 @@ use native.Mathlib.Omega.{arith}
 use lib.Dec.{leb}
 use lib.ListN.{length, take, drop, length-append}
 use lib.Seq.{take-append-seam}
-use borrow.Author.Tests.{leb-true, lt-leb}
+use borrow.Author.Tests.{lt-leb}
 use Rattle.verdict.specs.declared.Verdict.{Verdict}
 use Rattle.verdict.specs.declared.Verdict.the-variants.{Fine, Broken}
 use Rattle.verdict.specs.Rules.{firstBroken}
 use Rattle.verdict.proofs.Parts.{stands, goes-on, both-fine}
 use Rattle.verdict.proofs.Orders.{and-both}
-use Rattle.verdict.proofs.Numbers.{upTo9, above9, Numbered, append-numbered, broken-number}
+use Rattle.verdict.proofs.Numbers.{upTo9, tenTo18, between-both, Numbered, append-numbered, broken-number}
 use Rattle.walk.specs.declared.Tabled.{Tabled}
 use Rattle.walk.specs.declared.Counts.{Counts}
 use Rattle.walk.specs.States.{countsAt}
-use Rattle.walk.specs.Stages.{recordsOf, stageOne, stageTwo, roomRule, walkedOf, early}
+use Rattle.walk.specs.Stages.{recordsOf, stageOne, stageTwo, roomRule, walkedOf, needOf, early}
 use Rattle.walk.specs.Table.{tableOf, filled, filledBy, tabledOf}
 use Rattle.walk.proofs.Walking.{counts-small}
-use Rattle.walk.proofs.Judging.{records-small, walked-verdict, walked-fine, ended}
-use Rattle.walk.proofs.Dues.{words-counted}
-use Rattle.walk.proofs.Filling.{table-length}
+use Rattle.walk.proofs.Judging.{records-small, walked-verdict, walked-fine}
+use Rattle.walk.proofs.Room.{table-need}
 use Rattle.walk.proofs.InOrder.{early-numbered}
 use Rattle.totals.specs.Totals.{stageThree}
 use Rattle.totals.proofs.Summing.{three-numbered}
@@ -39,15 +38,15 @@ use Rattle.ground.proofs.Soundness.{table-sound}
 use Rattle.judge.specs.Rulebook.{late, rulesOf}
 use Rattle.judge.specs.Outcomes.{judgedOf, tableBy, tableJudged}
 
--- behind refusal 9 every rule has a number above 9
-pub late-numbered : (file : List ℕ) → Numbered above9 (late file)
+-- behind refusal 9 every rule has a number from 10 to 18
+pub late-numbered : (file : List ℕ) → Numbered tenTo18 (late file)
 unfolding late
 late-numbered file =
     let t : List ℕ = tableOf file in
     let b : Bases = basesIn file in
-    append-numbered above9 (stageThree file) _ (three-numbered file)
-    (append-numbered above9 (stageFour file t b) _ (four-numbered file t b)
-    (append-numbered above9 (stageFive file t b) (stageSix file t b) (five-numbered file t b) (six-numbered file t b)))
+    append-numbered tenTo18 (stageThree file) _ (three-numbered file)
+    (append-numbered tenTo18 (stageFour file t b) _ (four-numbered file t b)
+    (append-numbered tenTo18 (stageFive file t b) (stageSix file t b) (five-numbered file t b) (six-numbered file t b)))
 
 -- the counts of a file are small
 pub counts-few : (file : List ℕ) {c : Counts} → c ≡ countsAt file (recordsOf file) → (c .layers ≤ 6399936) × (c .lines ≤ 6399936)
@@ -142,7 +141,8 @@ module _ (file : List ℕ) (room : ℕ) {t : Tabled} (e : t ≡ tabledOf file ro
     all-counts = counted ∙ walked-fine file kept .2
 
     table-words : length (tableOf file) ≡ t .counts .words
-    table-words = table-length file ∙ sym (words-counted file (recordsOf file) (ended file two-kept)) ∙ sym (ap (λ (c : Counts). c .words) all-counts)
+    unfolding needOf
+    table-words = table-need file kept ∙ sym (ap (λ (c : Counts). c .words) counted)
 
     pub words-fit : (words after : List ℕ) → after ≡ filledBy (firstBroken (early file room)) file words → t .counts .words ≤ length after
     words-fit words after h =
@@ -168,8 +168,8 @@ module _ (file : List ℕ) (room : ℕ) {t : Tabled} (e : t ≡ tabledOf file ro
       stood : (v : Verdict) (words : List ℕ) → v ≡ firstBroken (late file) → filled (tableOf file) words ≡ tableBy v file words
       stood Fine words h = refl
       stood (Broken n r c) words h =
-          let b : leb 10 n ≡ true = broken-number above9 (late file) (late-numbered file) (sym h) in
-          let d : leb n 9 ≡ false = lt-leb n 9 (leb-true 10 n b) in
+          let b = between-both 10 18 n (broken-number tenTo18 (late file) (late-numbered file) (sym h)) in
+          let d : leb n 9 ≡ false = lt-leb n 9 (b .0) in
           rw d
 
       pub late-table : (words after : List ℕ) → room ≡ length words → after ≡ filledBy (firstBroken (early file room)) file words → after ≡ tableJudged file words

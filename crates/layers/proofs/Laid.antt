@@ -117,7 +117,7 @@ parts-next t c s r ol oa w p =
     (λ _ _. record { lines = p .lines; areas = p .areas })
     (λ _ _. record { lines = p .lines; areas = p .areas })
     (λ _ _. record { lines = part-one (p .lines); areas = p .areas })
-    (λ _ _. record { lines = p .lines; areas = part-one (p .areas) })
+    (λ _ _ _. record { lines = p .lines; areas = part-one (p .areas) })
     (λ i h. record {
       lines = part-row (sizeIn r 10 5) (omega (arith, i .lines)) (h refl .0) (p .lines);
       areas = part-row (sizeIn r 15 5) (omega (arith, i .areas)) (h refl .1) (p .areas);
@@ -163,7 +163,7 @@ line-due s {layer} {m} =
     (λ _ e. clash (cc))
     (λ _ e. clash (cc))
     (λ l e. (cc, l))
-    (λ _ e. clash (cc))
+    (λ _ _ e. clash (cc))
     (λ _ e. clash (cc))
     (λ _ e. clash (cc))
 
@@ -175,9 +175,15 @@ area-due s {layer} {m} =
     (λ _ e. clash (cc))
     (λ _ e. clash (cc))
     (λ _ e. clash (cc))
-    (λ l e. (cc, l))
+    (λ _ l e. (cc, l))
     (λ _ e. clash (cc))
     (λ _ e. clash (cc))
+
+-- the A behind the first k records is area m of layer i
+pub record AreaPlace (file : List ℕ) (k i m : ℕ) : Type 0 where
+  pub layer : i < countsAt file (recordsOf file) .layers
+  pub inside : m < layerOf file i .areas
+  pub place : countsAt file k .areas ≡ wordsBefore (tableOf file) 3 i + m
 
 module _ (file : List ℕ) (k : ℕ) (l : k < recordsOf file) where
   -- the layers that came up to here are among those of the file
@@ -218,13 +224,22 @@ module _ (file : List ℕ) (k : ℕ) (l : k < recordsOf file) where
       let z : basesIn file .lines + wordsBefore (tableOf file) 2 (countsAt file k .layers - 1) + m ≡ basesIn file .lines + countsAt file k .lines = omega (arith, x .place, d .0) in
       rw (is-row file (countsAt file k .layers - 1) here, z) (line-there e)
 
+  -- where an A is due, it is area m of its layer, whose areas come behind those of the layers before it
+  pub area-place : {layer m : ℕ} → dueOf (stateAt file k) ≡ Area layer m → AreaPlace file k (countsAt file k .layers - 1) m
+  area-place {m = m} e =
+      let d = area-due (stateAt file k) e in
+      let x = next (parts file k (omega arith) .areas) (d .1) in
+      record {
+        layer = omega (arith, x .row, grown file (recordsOf file) k (omega arith) .layers);
+        inside = rw (is-row file (countsAt file k .layers - 1) here) (omega (arith, x .inside, d .0));
+        place = omega (arith, x .place, d .0);
+      }
+
   -- so with the areas and an A
   pub area-word : {layer m : ℕ} → dueOf (stateAt file k) ≡ Area layer m → getD (tableOf file) (layerAt file (tableOf file) (basesIn file) k .area + m) 0 ≡ suc k
   unfolding layerAt
   area-word {m = m} e =
-      let d = area-due (stateAt file k) e in
-      let x = next (parts file k (omega arith) .areas) (d .1) in
-      let z : basesIn file .areas + wordsBefore (tableOf file) 3 (countsAt file k .layers - 1) + m ≡ basesIn file .areas + countsAt file k .areas = omega (arith, x .place, d .0) in
+      let z : basesIn file .areas + wordsBefore (tableOf file) 3 (countsAt file k .layers - 1) + m ≡ basesIn file .areas + countsAt file k .areas = omega (arith, area-place e .place) in
       rw (is-row file (countsAt file k .layers - 1) here, z) (area-there e)
 
 -- ---- a layer's word
@@ -264,7 +279,7 @@ line-passed s c r p l =
     (λ _ m. absurd (omega arith))
     (λ _ m. absurd (omega arith))
     (λ _ m. (refl, omega arith))
-    (λ _ m. absurd (omega arith))
+    (λ _ _ m. absurd (omega arith))
     (λ _ m. absurd (omega arith))
     (λ _ m. absurd (omega arith))
 
@@ -276,7 +291,7 @@ area-passed s c r p l =
     (λ _ m. absurd (omega arith))
     (λ _ m. absurd (omega arith))
     (λ _ m. absurd (omega arith))
-    (λ _ m. (refl, omega arith))
+    (λ _ _ m. (refl, omega arith))
     (λ _ m. absurd (omega arith))
     (λ _ m. absurd (omega arith))
 

@@ -9,7 +9,7 @@ use borrow.Author.Tests.{lt-ltb, ltb-true}
 use Rattle.records.specs.View.{numberIn}
 use Rattle.verdict.specs.Rules.{check, spread}
 use Rattle.verdict.specs.Order.{Sorted, rising}
-use Rattle.verdict.proofs.Numbers.{above9, numbered, Numbered, block-numbered, rows-numbered}
+use Rattle.verdict.proofs.Numbers.{tenTo18, numbered, Numbered, block-numbered, rows-numbered}
 use Rattle.verdict.proofs.Orders.{Of, and-both, rows-sorted, rows-in}
 use Rattle.rules.specs.Permitted.{size}
 use Rattle.rules.specs.declared.Due.{Due}
@@ -28,7 +28,7 @@ node-rising : (file t : List ℕ) (l : Layer) (r : ℕ) → rising (nodeChecks f
 unfolding nodeChecks nodeSlot spread
 node-rising file t l r = refl
 
-node-numbered : (file t : List ℕ) (l : Layer) (r : ℕ) → numbered above9 (nodeChecks file t l r) ≡ true
+node-numbered : (file t : List ℕ) (l : Layer) (r : ℕ) → numbered tenTo18 (nodeChecks file t l r) ≡ true
 unfolding nodeChecks nodeSlot spread
 node-numbered file t l r = refl
 
@@ -36,7 +36,7 @@ line-rising : (file t : List ℕ) (l : Layer) (r : ℕ) → rising (lineChecks f
 unfolding lineChecks lineEndChecks sideChecks
 line-rising file t l r = refl
 
-line-numbered : (file t : List ℕ) (l : Layer) (r : ℕ) → numbered above9 (lineChecks file t l r) ≡ true
+line-numbered : (file t : List ℕ) (l : Layer) (r : ℕ) → numbered tenTo18 (lineChecks file t l r) ≡ true
 unfolding lineChecks lineEndChecks sideChecks
 line-numbered file t l r = refl
 
@@ -44,7 +44,7 @@ entry-rising : (file : List ℕ) (l : Layer) (r : ℕ) → rising (entryChecks f
 unfolding entryChecks spread
 entry-rising file l r = refl
 
-entry-numbered : (file : List ℕ) (l : Layer) (r : ℕ) → numbered above9 (entryChecks file l r) ≡ true
+entry-numbered : (file : List ℕ) (l : Layer) (r : ℕ) → numbered tenTo18 (entryChecks file l r) ≡ true
 unfolding entryChecks spread
 entry-numbered file l r = refl
 
@@ -57,7 +57,7 @@ two-rising left true false x y h = refl
 two-rising left false true x y h = refl
 two-rising left false false x y h = refl
 
-two-numbered : (left : ℕ) (a b x y : Bool) → numbered above9 (cond a (check 1 12 x ∷ []) [] ++ cond b (check (1 + 10 * (left - 1)) 12 y ∷ []) []) ≡ true
+two-numbered : (left : ℕ) (a b x y : Bool) → numbered tenTo18 (cond a (check 1 12 x ∷ []) [] ++ cond b (check (1 + 10 * (left - 1)) 12 y ∷ []) []) ≡ true
 two-numbered left true true x y = refl
 two-numbered left true false x y = refl
 two-numbered left false true x y = refl
@@ -69,7 +69,7 @@ point-rising file l q r left =
     two-rising left (ltb 1 left && eqb left (size (numberIn file q 50 6))) (ltb 0 left && leb left 7) (atNode file l (numberIn file q 18 5) r 0) (atNode file l (numberIn file q 24 5) r (left - 1))
     (λ h. ltb-true 1 left (and-both (ltb 1 left) (eqb left (size (numberIn file q 50 6))) h .0))
 
-point-numbered : (file : List ℕ) (l : Layer) (q r left : ℕ) → numbered above9 (pointChecks file l q r left) ≡ true
+point-numbered : (file : List ℕ) (l : Layer) (q r left : ℕ) → numbered tenTo18 (pointChecks file l q r left) ≡ true
 unfolding pointChecks firstPointChecks lastPointChecks
 point-numbered file l q r left =
     two-numbered left (ltb 1 left && eqb left (size (numberIn file q 50 6))) (ltb 0 left && leb left 7) (atNode file l (numberIn file q 18 5) r 0) (atNode file l (numberIn file q 24 5) r (left - 1))
@@ -83,7 +83,7 @@ link-rising (due.Coordinates left) file t l line r = point-rising file l _ r lef
 link-rising (due.Area layer last) file t l line r = refl
 link-rising (due.Loop last count left) file t l line r = entry-rising file l r
 
-link-numbered : (d : Due) (file t : List ℕ) (l : Layer) (line r : ℕ) → numbered above9 (linkChecks d file t l line r) ≡ true
+link-numbered : (d : Due) (file t : List ℕ) (l : Layer) (line r : ℕ) → numbered tenTo18 (linkChecks d file t l line r) ≡ true
 link-numbered (due.Mesh last) file t l line r = refl
 link-numbered (due.Layer last) file t l line r = refl
 link-numbered (due.Node layer last) file t l line r = node-numbered file t l r
@@ -105,8 +105,8 @@ module _ (file t : List ℕ) (b : Bases) where
   unfolding stageFour
   four-of a i = rows-in fifth (λ k. linkChecks (dueOf (stateAt file k)) file t (layerAt file t b k) (stateAt file k .line) (k + 1)) (recordsOf file) a i .0
 
-  pub four-numbered : Numbered above9 (stageFour file t b)
+  pub four-numbered : Numbered tenTo18 (stageFour file t b)
   unfolding stageFour
   four-numbered =
-      rows-numbered above9 (recordsOf file) (linksOf file t b)
-      (λ k. block-numbered above9 fifth (k + 1) (linkChecks (dueOf (stateAt file k)) file t (layerAt file t b k) (stateAt file k .line) (k + 1)) (link-numbered (dueOf (stateAt file k)) file t (layerAt file t b k) (stateAt file k .line) (k + 1)))
+      rows-numbered tenTo18 (recordsOf file) (linksOf file t b)
+      (λ k. block-numbered tenTo18 fifth (k + 1) (linkChecks (dueOf (stateAt file k)) file t (layerAt file t b k) (stateAt file k .line) (k + 1)) (link-numbered (dueOf (stateAt file k)) file t (layerAt file t b k) (stateAt file k .line) (k + 1)))

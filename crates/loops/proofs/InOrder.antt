@@ -7,7 +7,7 @@ use lib.Dec.{ltb}
 use Rattle.records.specs.View.{numberIn}
 use Rattle.verdict.specs.Rules.{check, spread}
 use Rattle.verdict.specs.Order.{Sorted, rising}
-use Rattle.verdict.proofs.Numbers.{above9, numbered, Numbered, block-numbered, rows-numbered}
+use Rattle.verdict.proofs.Numbers.{tenTo18, numbered, Numbered, block-numbered, rows-numbered}
 use Rattle.verdict.proofs.Orders.{Of, rows-sorted, rows-in}
 use Rattle.rules.specs.declared.Due.{Due}
 use Rattle.rules.specs.declared.Due.the-variants as due
@@ -29,7 +29,7 @@ module _ (file t : List ℕ) (l : Layer) (a area f r : ℕ) where
   by-rising true x = refl
   by-rising false x = refl
 
-  by-numbered : (b x : Bool) → numbered above9 (cond b [] (check 1 16 x ∷ []) ++ spread 12 (loopSlot file t l a area f r)) ≡ true
+  by-numbered : (b x : Bool) → numbered tenTo18 (cond b [] (check 1 16 x ∷ []) ++ spread 12 (loopSlot file t l a area f r)) ≡ true
   unfolding loopSlot spread
   by-numbered true x = refl
   by-numbered false x = refl
@@ -39,7 +39,7 @@ module _ (file t : List ℕ) (l : Layer) (area count left r : ℕ) where
   unfolding loopChecks windChecks
   loop-rising = by-rising file t l (areaRecord t l area) area (firstRecord r count left) r (ltb 0 left) (winds (numberIn file r 1 5) (loopMeasureIn file t l r))
 
-  loop-numbered : numbered above9 (loopChecks file t l area count left r) ≡ true
+  loop-numbered : numbered tenTo18 (loopChecks file t l area count left r) ≡ true
   unfolding loopChecks windChecks
   loop-numbered = by-numbered file t l (areaRecord t l area) area (firstRecord r count left) r (ltb 0 left) (winds (numberIn file r 1 5) (loopMeasureIn file t l r))
 
@@ -53,7 +53,7 @@ module _ (file t : List ℕ) (l : Layer) (area r : ℕ) where
   area-rising (due.Area layer last) = refl
   area-rising (due.Loop last count left) = loop-rising file t l area count left r
 
-  area-numbered : (d : Due) → numbered above9 (areaChecks d file t l area r) ≡ true
+  area-numbered : (d : Due) → numbered tenTo18 (areaChecks d file t l area r) ≡ true
   area-numbered (due.Mesh last) = refl
   area-numbered (due.Layer last) = refl
   area-numbered (due.Node layer last) = refl
@@ -75,10 +75,10 @@ module _ (file t : List ℕ) (b : Bases) where
   unfolding stageFive
   five-of a i = rows-in sixth (λ k. areaChecks (dueOf (stateAt file k)) file t (layerAt file t b k) (stateAt file k .area) (k + 1)) (recordsOf file) a i .0
 
-  pub five-numbered : Numbered above9 (stageFive file t b)
+  pub five-numbered : Numbered tenTo18 (stageFive file t b)
   unfolding stageFive
   five-numbered =
-      rows-numbered above9 (recordsOf file) (areasOf file t b)
+      rows-numbered tenTo18 (recordsOf file) (areasOf file t b)
       (λ k.
-      block-numbered above9 sixth (k + 1) (areaChecks (dueOf (stateAt file k)) file t (layerAt file t b k) (stateAt file k .area) (k + 1))
+      block-numbered tenTo18 sixth (k + 1) (areaChecks (dueOf (stateAt file k)) file t (layerAt file t b k) (stateAt file k .area) (k + 1))
       (area-numbered file t (layerAt file t b k) (stateAt file k .area) (k + 1) (dueOf (stateAt file k))))

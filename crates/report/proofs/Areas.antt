@@ -1,11 +1,11 @@
 -- The areas' lines, record by record: how many areas came, and the text so far. Assumes nothing.
-use mathlib.Core.Path.{_≡_, _∙_, ap}
+use mathlib.Core.Path.{_≡_, refl, _∙_, ap, ap₂}
 use mathlib.Core.List.{List, _++_}
-use Prim.Native.Nat.{ℕ, suc, _+_, _*_, _/_, _≤_, _<_}
+use Prim.Native.Nat.{ℕ, zero, suc, _+_, _*_, _/_, _≤_, _<_}
 use native.Mathlib.Numerals.{add-one}
 use native.Mathlib.Omega.{arith}
 use lib.IntN.{ℤ, pos}
-use lib.ListN.{length, getD}
+use lib.ListN.{length, getD, List·getD-append}
 use borrow.Author.Tests.{le-ltb}
 use Rattle.records.specs.View.{recordOf}
 use Rattle.rules.specs.declared.Due.{Due}
@@ -14,6 +14,7 @@ use Rattle.walk.specs.declared.State.{State}
 use Rattle.walk.specs.declared.Counts.{Counts}
 use Rattle.walk.specs.States.{dueOf, stateAt, countedFor, countsAt}
 use Rattle.walk.specs.Stages.{recordsOf}
+use Rattle.walk.proofs.Dues.{grown}
 use Rattle.walk.proofs.Walking.{counts-small}
 use Rattle.report.specs.declared.Shown.{Shown}
 use Rattle.report.specs.Texts.{areaText, recordText, areaCount, areasText}
@@ -75,3 +76,27 @@ pub all-areas : (file : List ℕ) (ms : List ℤ) (n k : ℕ) {a r : ℕ} {befor
 all-areas file ms n k e f p l m q x =
     let z : k ≡ recordsOf file = omega arith in
     (named (ap (λ j. areasText file ms j) z) x, omega (arith, few-areas file n k e f p l, q))
+
+-- ---- the measures
+
+-- only an A's line shows its measure
+same-record : (d : Due) (s : State) (t : List ℕ) {m n : ℤ} → (areaCount d ≡ 1 → m ≡ n) → recordText d s t m ≡ recordText d s t n
+unfolding recordText
+same-record (Mesh last) s t h = refl
+same-record (Layer last) s t h = refl
+same-record (Node layer last) s t h = refl
+same-record (Line layer last) s t h = refl
+same-record (Coordinates left) s t h = refl
+same-record (Area layer last) s t h = rw (h refl)
+same-record (Loop last count left) s t h = refl
+
+-- where there is one for each area, what stands behind them is not shown
+pub areas-told : (file : List ℕ) (ms rest : List ℤ) → length ms ≡ countsAt file (recordsOf file) .areas → (k : ℕ) → k ≤ recordsOf file → areasText file (ms ++ rest) k ≡ areasText file ms k
+unfolding areasText countsAt
+areas-told file ms rest e zero l = refl
+areas-told file ms rest e (suc k) l =
+    let d = dueOf (stateAt file k) in
+    let c = counted-areas d (countsAt file k) (recordOf file (suc k)) in
+    let g = grown file (recordsOf file) (suc k) l .areas in
+    ap₂ _++_ (areas-told file ms rest e k (omega arith))
+    (same-record d (stateAt file k) (recordOf file (suc k)) (λ one. List·getD-append ms rest (pos 0) (countsAt file k .areas) (omega (arith, c, g, e, one))))

@@ -10,15 +10,15 @@ use mathlib.Core.List.{List, [], _∷_, _++_}
 use Prim.Native.Nat.{ℕ, zero, suc, _+_, _/_, _%_}
 use lib.Dec.{eqb, ltb}
 use lib.IntN.{ℤ, pos, negsuc}
-use lib.ListN.{length, getD, replicate}
+use lib.ListN.{length, getD}
 use Rattle.records.specs.View.{recordOf}
 use Rattle.rules.specs.declared.Due.{Due}
 use Rattle.rules.specs.declared.Due.the-variants.{Mesh, Layer, Node, Line, Coordinates, Area, Loop}
 use Rattle.walk.specs.declared.State.{State}
 use Rattle.walk.specs.States.{sizeIn, dueOf, stateAt, countsAt}
-use Rattle.walk.specs.Stages.{recordsOf}
+use Rattle.walk.specs.Stages.{recordsOf, needOf}
 use Rattle.judge.specs.declared.Outcome.{Outcome}
-use Rattle.judge.specs.Outcomes.{outcomeOf, measuresAfter}
+use Rattle.judge.specs.Outcomes.{outcomeOf, measuresOf}
 use Rattle.report.specs.declared.Shown.{Shown}
 
 -- the last digit, and those before it; w is more than the digits
@@ -178,16 +178,15 @@ areasText file ms (suc k) =
 -- ---- the programs
 
 -- RULES 12.1: up to 65,490 bytes, 885 records; of a longer input only `status=toolong`
+abbrev pub mostBytes : ℕ
+mostBytes = 65490
+
 abbrev pub bounded : List ℕ → List ℕ → List ℕ
-bounded input text = cond (ltb 65490 (length input)) statusTooLong text
+bounded input text = cond (ltb mostBytes (length input)) statusTooLong text
 
--- RULES 12.3: the judge's answer, with buffers that are long enough for 885 records
+-- RULES 12.3: the judge's answer, with as much room as the file needs
 abbrev pub answerTo : List ℕ → Outcome
-answerTo file = outcomeOf file 3540 443
-
--- the measures that the judge leaves
-abbrev pub measuresTold : List ℕ → List ℤ
-measuresTold file = measuresAfter file 3540 (replicate 443 (pos 0))
+answerTo file = outcomeOf file (needOf file) (needOf file)
 
 -- RULES 12.1: the program `check`
 unfoldable pub checkText : List ℕ → List ℕ
@@ -196,4 +195,4 @@ checkText input = bounded input (outcomeText (answerTo input))
 -- RULES 12.2: the program `measure`: of an accepted file one line an area, in file order; otherwise what `check` prints
 unfoldable pub measureText : List ℕ → List ℕ
 measureText input =
-    bounded input (cond (eqb (answerTo input .number) 0) (areasText input (measuresTold input) (recordsOf input)) (refusedText (answerTo input)))
+    bounded input (cond (eqb (answerTo input .number) 0) (areasText input (measuresOf input) (recordsOf input)) (refusedText (answerTo input)))

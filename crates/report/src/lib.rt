@@ -197,6 +197,12 @@ fn put_areas(out: &mut [u8; 120000], file: &[u8], measures: &[i64]) -> usize
 
 // ---- the programs' texts
 
+// What the judge is lent for up to 885 records: a record gives the table at most four words, and at least
+// as many other records as areas stand in a file.
+const WORDS: usize = 3540;
+
+const PLACES: usize = 443;
+
 // What `check` prints of an input: that text stands in the first bytes of `out`, as many as are answered.
 pub fn check_text(input: &[u8], out: &mut [u8; 120000]) -> usize
     ensures { λ r. ⌜ Put (now (out .entry)) 0 (now (out .exit)) r (checkText (now (input .entry))) × (r ≤ 120000) ⌝ }
@@ -204,8 +210,8 @@ pub fn check_text(input: &[u8], out: &mut [u8; 120000]) -> usize
     if 65490 < input.len() {
         return put(out, 0, b"status=toolong\n");
     }
-    let mut table = [0u32; 3540];
-    let mut measures = [0i64; 443];
+    let mut table = [0u32; WORDS];
+    let mut measures = [0i64; PLACES];
     let o = judge::load(input, &mut table, &mut measures);
     if o.number == 0 {
         return put_ok(out, o);
@@ -220,8 +226,8 @@ pub fn measure_text(input: &[u8], out: &mut [u8; 120000]) -> usize
     if 65490 < input.len() {
         return put(out, 0, b"status=toolong\n");
     }
-    let mut table = [0u32; 3540];
-    let mut measures = [0i64; 443];
+    let mut table = [0u32; WORDS];
+    let mut measures = [0i64; PLACES];
     let o = judge::load(input, &mut table, &mut measures);
     if o.number == 0 {
         return put_areas(out, input, &measures);

@@ -6,7 +6,7 @@ use mathlib.Core.Path.{_≡_, refl}
 use Prim.Native.Nat.{ℕ}
 use Rattle.records.specs.Layout.{layoutOf}
 use Rattle.verdict.specs.Order.{rising}
-use Rattle.verdict.proofs.Numbers.{upTo9, numbered}
+use Rattle.verdict.proofs.Numbers.{upTo8, numbered}
 use Rattle.rules.specs.declared.Due.{Due}
 use Rattle.rules.specs.declared.Due.the-variants.{Mesh, Layer, Node, Line, Coordinates, Area, Loop}
 use Rattle.rules.specs.Asks.{from, meshAsks, layerAsks, nodeAsks, lineAsks, coordinateAsks, areaAsks, loopAsks, asksOf, askedOf}
@@ -22,8 +22,8 @@ checks-rising (Coordinates left) t = refl
 checks-rising (Area layer last) t = refl
 checks-rising (Loop last count left) t = refl
 
--- and none has a number above 9
-pub checks-numbered : (d : Due) (t : List ℕ) → numbered upTo9 (checksOf d t) ≡ true
+-- and none has a number above 8
+pub checks-numbered : (d : Due) (t : List ℕ) → numbered upTo8 (checksOf d t) ≡ true
 unfolding layoutOf from meshAsks layerAsks nodeAsks lineAsks coordinateAsks areaAsks loopAsks asksOf askedOf formChecks valueChecks along checksOf
 checks-numbered (Mesh last) t = refl
 checks-numbered (Layer last) t = refl

@@ -4,7 +4,7 @@ use mathlib.Core.List.{List}
 use mathlib.Core.Path.{_≡_, refl}
 use Prim.Native.Nat.{ℕ, _+_}
 use Rattle.verdict.specs.Order.{Sorted, rising}
-use Rattle.verdict.proofs.Numbers.{above9, numbered, Numbered, block-numbered, rows-numbered}
+use Rattle.verdict.proofs.Numbers.{tenTo18, numbered, Numbered, block-numbered, rows-numbered}
 use Rattle.verdict.proofs.Orders.{Of, rows-sorted, rows-in}
 use Rattle.rules.specs.declared.Due.{Due}
 use Rattle.rules.specs.declared.Due.the-variants as due
@@ -26,7 +26,7 @@ list-rising (due.Coordinates left) file t l r = refl
 list-rising (due.Area layer last) file t l r = refl
 list-rising (due.Loop last count left) file t l r = refl
 
-list-numbered : (d : Due) (file t : List ℕ) (l : Layer) (r : ℕ) → numbered above9 (lineListChecks d file t l r) ≡ true
+list-numbered : (d : Due) (file t : List ℕ) (l : Layer) (r : ℕ) → numbered tenTo18 (lineListChecks d file t l r) ≡ true
 unfolding listChecks
 list-numbered (due.Mesh last) file t l r = refl
 list-numbered (due.Layer last) file t l r = refl
@@ -47,8 +47,8 @@ module _ (file t : List ℕ) (b : Bases) where
   unfolding stageSix
   six-of a i = rows-in seventh (λ k. lineListChecks (dueOf (stateAt file k)) file t (layerAt file t b k) (k + 1)) (recordsOf file) a i .0
 
-  pub six-numbered : Numbered above9 (stageSix file t b)
+  pub six-numbered : Numbered tenTo18 (stageSix file t b)
   unfolding stageSix
   six-numbered =
-      rows-numbered above9 (recordsOf file) (sidesOf file t b)
-      (λ k. block-numbered above9 seventh (k + 1) (lineListChecks (dueOf (stateAt file k)) file t (layerAt file t b k) (k + 1)) (list-numbered (dueOf (stateAt file k)) file t (layerAt file t b k) (k + 1)))
+      rows-numbered tenTo18 (recordsOf file) (sidesOf file t b)
+      (λ k. block-numbered tenTo18 seventh (k + 1) (lineListChecks (dueOf (stateAt file k)) file t (layerAt file t b k) (k + 1)) (list-numbered (dueOf (stateAt file k)) file t (layerAt file t b k) (k + 1)))

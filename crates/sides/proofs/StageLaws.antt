@@ -79,7 +79,7 @@ lines-small file zero = lit≤ tt
 lines-small file (suc k) = lines-next (dueOf (stateAt file k)) (stateAt file k) (recordOf file (suc k)) (lines-small file k)
 
 state-countable : (s : State) → s .lines ≤ 999999 → Countable (dueOf s)
-state-countable s h = by-due Countable s (λ _. tt) (λ _. tt) (λ _. tt) (λ _. tt) (λ l. omega arith) (λ _. tt) (λ _. tt) (λ _. tt)
+state-countable s h = by-due Countable s (λ _. tt) (λ _. tt) (λ _. tt) (λ _. tt) (λ l. omega arith) (λ _ _. tt) (λ _. tt) (λ _. tt)
 
 pub due-countable : (file : List ℕ) (k : ℕ) {s : State} {d : Due} → s ≡ stateAt file k → d ≡ dueOf s → Countable d
 due-countable file k e f = rw (f, e) (state-countable (stateAt file k) (lines-small file k))

@@ -14,7 +14,7 @@ use Rattle.verdict.specs.declared.Verdict.the-variants.{Fine, Broken}
 use Rattle.verdict.specs.Rules.{Rule, Check, check, firstBroken, block, rows}
 use Rattle.verdict.specs.Order.{Sorted, rising}
 use Rattle.verdict.proofs.Parts.{rows-stop, rows-done, check-none, check-kept, check-broken}
-use Rattle.verdict.proofs.Numbers.{above9, numbered, Numbered, block-numbered, rows-numbered}
+use Rattle.verdict.proofs.Numbers.{tenTo18, numbered, Numbered, block-numbered, rows-numbered}
 use Rattle.verdict.proofs.Orders.{Of, rows-sorted, rows-in}
 use Rattle.rules.specs.declared.Due.{Due}
 use Rattle.rules.specs.declared.Due.the-variants.{Mesh, Layer, Node, Line, Coordinates, Area, Loop}
@@ -214,7 +214,7 @@ unfolding stageThree
 three-of file a i = rows-in fourth (λ k. totalChecks (dueOf (stateAt file k)) file k) (recordsOf file) a i .0
 
 -- every one has a number above 9
-total-numbered : (d : Due) (file : List ℕ) (k : ℕ) → numbered above9 (totalChecks d file k) ≡ true
+total-numbered : (d : Due) (file : List ℕ) (k : ℕ) → numbered tenTo18 (totalChecks d file k) ≡ true
 unfolding meshTotals layerTotals areaTotals
 total-numbered (Mesh last) file k = refl
 total-numbered (Layer last) file k = refl
@@ -224,6 +224,6 @@ total-numbered (Coordinates left) file k = refl
 total-numbered (Area layer last) file k = refl
 total-numbered (Loop last count left) file k = refl
 
-pub three-numbered : (file : List ℕ) → Numbered above9 (stageThree file)
+pub three-numbered : (file : List ℕ) → Numbered tenTo18 (stageThree file)
 unfolding stageThree
-three-numbered file = rows-numbered above9 (recordsOf file) (totalsOf file) (λ k. block-numbered above9 fourth (k + 1) (totalChecks (dueOf (stateAt file k)) file k) (total-numbered (dueOf (stateAt file k)) file k))
+three-numbered file = rows-numbered tenTo18 (recordsOf file) (totalsOf file) (λ k. block-numbered tenTo18 fourth (k + 1) (totalChecks (dueOf (stateAt file k)) file k) (total-numbered (dueOf (stateAt file k)) file k))

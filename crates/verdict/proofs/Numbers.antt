@@ -1,33 +1,51 @@
 -- What holds of the number of every rule holds of the number that is answered. Assumes nothing.
-use mathlib.Core.Bool.{Bool, true, false, cond, _&&_}
+use mathlib.Core.Bool.{Bool, true, false, cond, _&&_, not, false≢true}
 use mathlib.Core.List.{List, [], _∷_, _++_}
 use mathlib.Core.Logic.{⊎-elim, inl, inr}
-use mathlib.Core.Path.{_≡_, refl, ap, _∙_}
-use Prim.Native.Nat.{ℕ, zero, suc}
+use mathlib.Core.Path.{_≡_, refl, sym, ap, _∙_}
+use Prim.Native.Nat.{ℕ, zero, suc, _≤_}
 use native.Mathlib.Omega.{arith}
-use lib.Dec.{leb}
-use borrow.Author.Tests.{le-leb, leb-true}
-use Rattle.verdict.specs.declared.Verdict.the-variants.{Broken}
-use Rattle.verdict.specs.Rules.{Rule, brokenAt, firstBroken, Check, block, rows}
+use lib.Dec.{leb, eqb}
+use borrow.Author.Tests.{le-leb, leb-true, eq-eqb, ne-eqb}
+use Rattle.verdict.specs.declared.Verdict.{Verdict}
+use Rattle.verdict.specs.declared.Verdict.the-variants.{Fine, Broken}
+use Rattle.verdict.specs.Rules.{Rule, brokenAt, firstBroken, Check, block, rows, toldOf}
 use Rattle.verdict.specs.Order.{In}
 use Rattle.verdict.proofs.Orders.{in-append, and-both}
 
--- refusals 1 to 9, and those behind them
+-- n is one of a to b
+abbrev pub between : ℕ → ℕ → ℕ → Bool
+between a b n = leb a n && leb n b
+
+-- the refusals of stages 1 and 2; refusal 9 with them; those of the later stages
+abbrev pub upTo8 : ℕ → Bool
+upTo8 = between 1 8
+
 abbrev pub upTo9 : ℕ → Bool
-upTo9 n = leb 1 n && leb n 9
+upTo9 = between 1 9
 
-abbrev pub above9 : ℕ → Bool
-above9 n = leb 10 n
+abbrev pub tenTo18 : ℕ → Bool
+tenTo18 = between 10 18
 
--- any refusal
-abbrev pub above0 : ℕ → Bool
-above0 n = leb 1 n
+-- n is not m
+abbrev pub unlike : ℕ → ℕ → Bool
+unlike m n = not (eqb n m)
 
-pub upTo9-above0 : (n : ℕ) → upTo9 n ≡ true → above0 n ≡ true
-upTo9-above0 n h = and-both (leb 1 n) (leb n 9) h .0
+pub between-both : (a b n : ℕ) → between a b n ≡ true → (a ≤ n) × (n ≤ b)
+between-both a b n h =
+    let c = and-both (leb a n) (leb n b) h in
+    (leb-true a n (c .0), leb-true n b (c .1))
 
-pub above9-above0 : (n : ℕ) → above9 n ≡ true → above0 n ≡ true
-above9-above0 n h = le-leb 1 n (omega (arith, leb-true 10 n h))
+pub between-wider : (a b c n : ℕ) → b ≤ c → between a b n ≡ true → between a c n ≡ true
+between-wider a b c n l h =
+    let d = between-both a b n h in
+    rw (le-leb a n (d .0), le-leb n c (omega (arith, d .1)))
+
+-- m is none of a to b
+pub between-unlike : (a b m n : ℕ) → (a ≤ m → m ≤ b → ⊥) → between a b n ≡ true → unlike m n ≡ true
+between-unlike a b m n o h =
+    let d = between-both a b n h in
+    rw (ne-eqb n m (λ e. o (rw e at (d .0)) (rw e at (d .1))))
 
 module _ (p : ℕ → Bool) where
   -- of a record's checks; it computes
@@ -62,3 +80,10 @@ module _ (p : ℕ → Bool) where
       by : (t : Bool) → cond t (firstBroken rs) (brokenAt a) ≡ Broken n r c → (firstBroken rs ≡ Broken n r c → p n ≡ true) → p n ≡ true
       by true q rest = rest q
       by false q rest = let z : a .number ≡ n = cc in rw (← z) (h a (inl refl))
+
+-- a number that no rule bears is told of no refusal; 0 is told where all are kept
+pub not-told : (m : ℕ) (rs : List Rule) → Numbered (unlike m) rs → (v : Verdict) → v ≡ firstBroken rs → toldOf v .number ≡ m → v ≡ Fine
+not-told m rs h Fine e z = refl
+not-told m rs h (Broken n r c) e z =
+    let b : unlike m n ≡ true = broken-number (unlike m) rs h (sym e) in
+    absurd (false≢true (rw (eq-eqb n m z) at b))

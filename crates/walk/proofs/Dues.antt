@@ -20,8 +20,9 @@ pick : {A : Type 0} (P : A → Type 0) (b : Bool) {x y : A} → (b ≡ true → 
 pick P true p q = p refl
 pick P false p q = q refl
 
--- no line and no area of the layer is left
+-- no loop of the area, no line and no area of the layer is left
 pub record Idle (s : State) : Type 0 where
+  pub loops : s .loops ≤ s .begun
   pub lines : s .lines ≤ s .line
   pub areas : s .areas ≤ s .area
 
@@ -32,7 +33,7 @@ pub by-due : (P : Due → Type 0) (s : State)
     → (s .begun < s .loops → P (Loop (s .begun) (s .count) 0))
     → (s .node < s .nodes → P (Node (s .layer) (s .node)))
     → (s .line < s .lines → P (Line (s .layer) (s .line)))
-    → (s .area < s .areas → P (Area (s .layer) (s .area)))
+    → (s .loops ≤ s .begun → s .area < s .areas → P (Area (s .layer) (s .area)))
     → (Idle s → P (Layer (s .layer)))
     → (Idle s → P (Mesh (s .mesh)))
     → P (dueOf s)
@@ -40,11 +41,11 @@ unfolding dueOf
 by-due P s coordinates further loops node line area layer mesh =
     pick P (ltb 0 (s .points)) (λ t. coordinates (ltb-true _ _ t)) (λ _.
     pick P (ltb 0 (s .entries)) (λ t. further (ltb-true _ _ t)) (λ _.
-    pick P (ltb (s .begun) (s .loops)) (λ t. loops (ltb-true _ _ t)) (λ _.
+    pick P (ltb (s .begun) (s .loops)) (λ t. loops (ltb-true _ _ t)) (λ b.
     pick P (ltb (s .node) (s .nodes)) (λ t. node (ltb-true _ _ t)) (λ _.
     pick P (ltb (s .line) (s .lines)) (λ t. line (ltb-true _ _ t)) (λ l.
-    pick P (ltb (s .area) (s .areas)) (λ t. area (ltb-true _ _ t)) (λ a.
-    let i : Idle s = record { lines = ltb-false _ _ l; areas = ltb-false _ _ a } in
+    pick P (ltb (s .area) (s .areas)) (λ t. area (ltb-false _ _ b) (ltb-true _ _ t)) (λ a.
+    let i : Idle s = record { loops = ltb-false _ _ b; lines = ltb-false _ _ l; areas = ltb-false _ _ a } in
     pick P (ltb 0 (s .layers)) (λ _. layer i) (λ _. mesh i)))))))
 
 -- ---- counts grow
@@ -104,7 +105,7 @@ open-next c s t o =
     (λ _. open-loop (s .begun) (s .count) 0 c s t o)
     (λ _. record { lines = o .lines; areas = o .areas; words = o .words })
     (λ l. record { lines = omega (arith, l); areas = o .areas; words = omega (arith, o .words) })
-    (λ l. record { lines = o .lines; areas = omega (arith, l); words = omega (arith, o .words) })
+    (λ _ l. record { lines = o .lines; areas = omega (arith, l); words = omega (arith, o .words) })
     (λ i. record { lines = omega arith; areas = omega arith; words = omega (arith, o .words, o .lines, o .areas, i .lines, i .areas) })
     (λ i. record { lines = omega arith; areas = omega arith; words = omega (arith, o .words, o .lines, o .areas, i .lines, i .areas) })
 
@@ -122,7 +123,7 @@ idle-end s =
     (λ _ e. no e)
     (λ _ e. no e)
     (λ _ e. no e)
-    (λ _ e. no e)
+    (λ _ _ e. no e)
     (λ _ e. no e)
     (λ i e. i)
   where

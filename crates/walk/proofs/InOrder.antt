@@ -9,7 +9,7 @@ use lib.Dec.{leb, lit≤, lit<}
 use lib.ListN.{length}
 use Rattle.verdict.specs.Rules.{Check, check, block, rows}
 use Rattle.verdict.specs.Order.{Sorted, rising}
-use Rattle.verdict.proofs.Numbers.{upTo9, numbered, Numbered, block-numbered, append-numbered, rows-numbered}
+use Rattle.verdict.proofs.Numbers.{upTo8, upTo9, between-wider, numbered, Numbered, block-numbered, append-numbered, rows-numbered}
 use Rattle.verdict.proofs.Orders.{UpTo, Of, stage-sorted, stage-up, in-append, sorted-append, earlier-row, block-in, block-sorted, rows-in, rows-sorted}
 use Rattle.records.specs.View.{recordOf}
 use Rattle.rules.specs.declared.Due.{Due}
@@ -79,36 +79,40 @@ two-of file = staged-of 2 (λ k. checksOf (dueOf (stateAt file k)) (recordOf fil
 
 -- ---- all rules up to refusal 9
 
-end-numbered : (t : List ℕ) → numbered upTo9 (endChecks t) ≡ true
+end-numbered : (t : List ℕ) → numbered upTo8 (endChecks t) ≡ true
 unfolding endChecks
 end-numbered t = refl
 
-length-numbered : (n : ℕ) → numbered upTo9 (lengthChecks n) ≡ true
+length-numbered : (n : ℕ) → numbered upTo8 (lengthChecks n) ≡ true
 unfolding lengthChecks
 length-numbered n = refl
 
-last-numbered : (d : Due) → numbered upTo9 (lastChecks d) ≡ true
+last-numbered : (d : Due) → numbered upTo8 (lastChecks d) ≡ true
 unfolding lastChecks
 last-numbered d = refl
 
-one-numbered : (file : List ℕ) → Numbered upTo9 (stageOne file)
+one-numbered : (file : List ℕ) → Numbered upTo8 (stageOne file)
 unfolding stageOne
 one-numbered file =
-    staged-numbered 1 (λ k. endChecks (recordOf file (k + 1))) (recordsOf file) (lengthChecks (length file)) upTo9
+    staged-numbered 1 (λ k. endChecks (recordOf file (k + 1))) (recordsOf file) (lengthChecks (length file)) upTo8
     (λ k. end-numbered (recordOf file (k + 1))) (length-numbered (length file))
 
-two-numbered : (file : List ℕ) → Numbered upTo9 (stageTwo file)
+two-numbered : (file : List ℕ) → Numbered upTo8 (stageTwo file)
 unfolding stageTwo
 two-numbered file =
-    staged-numbered 2 (λ k. checksOf (dueOf (stateAt file k)) (recordOf file (k + 1))) (recordsOf file) (lastChecks (dueOf (stateAt file (recordsOf file)))) upTo9
+    staged-numbered 2 (λ k. checksOf (dueOf (stateAt file k)) (recordOf file (k + 1))) (recordsOf file) (lastChecks (dueOf (stateAt file (recordsOf file)))) upTo8
     (λ k. checks-numbered (dueOf (stateAt file k)) (recordOf file (k + 1))) (last-numbered (dueOf (stateAt file (recordsOf file))))
 
--- none has a number above 9
+-- none of stages 1 and 2 has a number above 8
+pub stages-numbered : (file : List ℕ) → Numbered upTo8 (stageOne file ++ stageTwo file)
+stages-numbered file = append-numbered upTo8 (stageOne file) (stageTwo file) (one-numbered file) (two-numbered file)
+
+-- none up to refusal 9 has a number above 9
 pub early-numbered : (file : List ℕ) (room : ℕ) → Numbered upTo9 (early file room)
 unfolding early roomRule
 early-numbered file room =
     append-numbered upTo9 (stageOne file ++ stageTwo file) (roomRule file room)
-    (append-numbered upTo9 (stageOne file) (stageTwo file) (one-numbered file) (two-numbered file))
+    (λ a i. between-wider 1 8 9 (a .number) (lit≤ tt) (stages-numbered file a i))
     (block-numbered upTo9 third 0 (check 0 9 (leb (wordsOf file) room) ∷ []) refl)
 
 -- they are in order

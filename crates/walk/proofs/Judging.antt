@@ -11,6 +11,7 @@ use Rattle.verdict.specs.declared.Verdict.{Verdict}
 use Rattle.verdict.specs.declared.Verdict.the-variants.{Fine, Broken}
 use Rattle.verdict.specs.Rules.{Rule, block, rows, firstBroken}
 use Rattle.verdict.proofs.Parts.{fine-broken, in-turn, both-fine, stands, goes-on, rows-stop, rows-done, check-none, check-kept, check-broken, check-fine}
+use Rattle.verdict.proofs.Holding.{row-fine, Holding, all-hold}
 use Rattle.verdict.proofs.Orders.{and-both}
 use Rattle.records.specs.View.{recordOf}
 use Rattle.rules.specs.declared.Due.{Due}
@@ -195,3 +196,8 @@ unfolding stageTwo lastChecks
 ended file h =
     let d = dueOf (stateAt file (recordsOf file)) in
     check-fine 2 (recordsOf file + 1) 1 4 (mayEnd d) (both-fine (rows (recordsOf file) (rulesOf file)) (block 2 (recordsOf file + 1) (lastChecks d)) h .1)
+
+-- of record k + 1, due as d, all checks hold
+pub two-holds : (file : List ℕ) → firstBroken (stageTwo file) ≡ Fine → (k : ℕ) → k < recordsOf file → {d : Due} → dueOf (stateAt file k) ≡ d → Holding (checksOf d (recordOf file (k + 1)))
+unfolding stageTwo
+two-holds file h k l e = rw (← e) (all-hold 2 (k + 1) _ (row-fine (rulesOf file) (recordsOf file) (both-fine _ _ h .0) k l))

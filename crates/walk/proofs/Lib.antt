@@ -1,4 +1,4 @@
--- Laws of the walk.
+-- Laws of the walk; `Room` has those that callers go by, of the need and of how many words and areas a file can have.
 pub mod Walking
 pub mod Judging
 pub mod InOrder
@@ -8,3 +8,4 @@ pub mod Filling
 pub mod Tabling
 pub mod Laid
 pub mod Passing
+pub mod Room

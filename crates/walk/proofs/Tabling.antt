@@ -14,8 +14,8 @@ use Rattle.walk.specs.declared.Walked.{Walked}
 use Rattle.walk.specs.States.{rowLength, countsAt}
 use Rattle.walk.specs.Stages.{recordsOf, stageOne, stageTwo, walkedOf, third, wordsOf, roomRule, early}
 use Rattle.walk.specs.Table.{filled, tableOf, filledBy, tabledOf}
-use Rattle.walk.proofs.Judging.{walked-verdict, walked-fine, ended}
-use Rattle.walk.proofs.Dues.{words-counted}
+use Rattle.walk.proofs.Judging.{need-is, walked-verdict, walked-fine}
+use Rattle.walk.proofs.Room.{need-counted}
 
 module _ (file : List ℕ) {w : Walked} (e : w ≡ walkedOf file) where
   judged : w .verdict ≡ firstBroken (stageOne file ++ stageTwo file)
@@ -27,12 +27,12 @@ module _ (file : List ℕ) {w : Walked} (e : w ≡ walkedOf file) where
   early-broken room q = stands (stageOne file ++ stageTwo file) (roomRule file room) q judged
 
   module _ (q : w .verdict ≡ Fine) where
-    fine : (firstBroken (stageOne file) ≡ Fine) × (firstBroken (stageTwo file) ≡ Fine) × (walkedOf file .counts ≡ countsAt file (recordsOf file))
-    fine = walked-fine file (sym (ap (λ (x : Walked). x .verdict) e) ∙ q)
+    kept : walkedOf file .verdict ≡ Fine
+    kept = sym (ap (λ (x : Walked). x .verdict) e) ∙ q
 
     -- the counts are those of all records
     pub all-counted : w .counts ≡ countsAt file (recordsOf file)
-    all-counted = ap (λ (x : Walked). x .counts) e ∙ fine .2
+    all-counted = ap (λ (x : Walked). x .counts) e ∙ walked-fine file kept .2
 
     words-are : w .counts .words ≡ wordsOf file
     unfolding wordsOf
@@ -52,8 +52,8 @@ module _ (file : List ℕ) {w : Walked} (e : w ≡ walkedOf file) where
       -- then it has room for all rows, lines and areas
       pub room-enough : rowLength * w .counts .layers + (w .counts .lines + w .counts .areas) ≤ room
       room-enough =
-          let c = words-counted file (recordsOf file) (ended file (fine .1)) in
-          rw all-counted (omega (arith, c, l, ap (λ (c : Counts). c .words) all-counted))
+          let c = need-counted file kept in
+          rw all-counted (omega (arith, c, l, need-is file e))
 
 -- ---- what is answered
 

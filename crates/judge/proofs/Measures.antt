@@ -1,0 +1,88 @@
+-- THE MEASURES OF AN ACCEPTED FILE: as many as it has areas, and the measure behind n others is that of the A behind n others. They are made
+-- layer by layer, a layer has as many as its row says, and the A records of a layer stand in its order. Assumes nothing.
+use mathlib.Core.List.{List, [], _∷_, _++_}
+use mathlib.Core.Logic.{⊎-elim}
+use mathlib.Core.Path.{_≡_, refl, sym, _∙_, ap, subst}
+use Prim.Native.Nat.{ℕ, zero, suc, _+_, _-_, _≤_, _<_}
+use native.Mathlib.Nat.{le-of-suc-le-suc, eq-or-lt-of-le}
+use native.Mathlib.Numerals.{add-one}
+use native.Mathlib.Omega.{arith}
+use lib.IntN.{ℤ, pos}
+use lib.ListN.{length, getD, List·getD-append}
+use lib.Seq.{getD-append-add}
+use Rattle.verdict.specs.declared.Verdict.the-variants.{Fine}
+use Rattle.verdict.proofs.Parts.{both-fine}
+use Rattle.rules.specs.declared.Due.the-variants.{Area}
+use Rattle.walk.specs.States.{dueOf, stateAt, countsAt}
+use Rattle.walk.specs.Stages.{recordsOf}
+use Rattle.walk.specs.Table.{tableOf}
+use Rattle.walk.proofs.Judging.{ended}
+use Rattle.measures.specs.Points.{firstOf}
+use Rattle.layers.specs.declared.Bases.{Bases}
+use Rattle.layers.specs.Naming.{wordsBefore, layerIn}
+use Rattle.layers.specs.Passing.{layerAt, basesIn, layerOf}
+use Rattle.layers.proofs.Laid.{area-named, area-place, area-word, areas-all}
+use Rattle.entries.specs.Loops.{areaMeasureIn}
+use Rattle.ground.specs.Layers.{areaOfLayer, measuresTo}
+use Rattle.judge.specs.Rulebook.{rulesOf, measureRule, verdictOf}
+use Rattle.judge.specs.Outcomes.{measuresOf}
+use Rattle.judge.proofs.Adding.{first-many, areas-more, measures-many}
+use Rattle.judge.proofs.Calling.{passed}
+use Rattle.judge.proofs.Loading.{counts-few}
+
+-- ---- layer by layer
+
+first-at : (g : ℕ → ℤ) (n i : ℕ) → i < n → getD (firstOf g n) i (pos 0) ≡ g i
+unfolding firstOf
+first-at g zero i l = absurd (omega arith)
+first-at g (suc n) i l =
+    ⊎-elim
+    (λ e.
+    let z : i ≡ length (firstOf g n) + 0 = omega (arith, first-many g n) in
+    ap (λ (j : ℕ). getD (firstOf g n ++ (g n ∷ [])) j (pos 0)) z ∙ getD-append-add (firstOf g n) (g n ∷ []) 0 (pos 0) ∙ ap g (sym e))
+    (λ m. List·getD-append (firstOf g n) (g n ∷ []) (pos 0) i (rw first-many m) ∙ first-at g n i m)
+    (eq-or-lt-of-le (le-of-suc-le-suc l))
+
+module _ (t : List ℕ) (b : Bases) (file : List ℕ) where
+  abbrev ofLayer : ℕ → List ℤ
+  ofLayer i = firstOf (λ a. areaOfLayer file t (layerIn t b i) (suc a)) (layerIn t b i .areas)
+
+  -- area m of the last layer, and of one before it
+  last-measure : (i m : ℕ) → i ≤ 6399936 → m < layerIn t b i .areas → getD (measuresTo file t b (suc i)) (wordsBefore t 3 i + m) (pos 0) ≡ areaOfLayer file t (layerIn t b i) (suc m)
+  unfolding measuresTo
+  last-measure i m f a =
+      rw (← measures-many t b file i f)
+      (getD-append-add (measuresTo file t b i) (ofLayer i) m (pos 0) ∙ first-at (λ a. areaOfLayer file t (layerIn t b i) (suc a)) (layerIn t b i .areas) m a)
+
+  layer-measure : (n i m : ℕ) → n ≤ 6399936 → i < n → m < layerIn t b i .areas → getD (measuresTo file t b n) (wordsBefore t 3 i + m) (pos 0) ≡ areaOfLayer file t (layerIn t b i) (suc m)
+  unfolding measuresTo
+  layer-measure zero i m f l a = absurd (omega arith)
+  layer-measure (suc n) i m f l a =
+      ⊎-elim
+      (λ e. subst (λ (j : ℕ). getD (measuresTo file t b (suc j)) (wordsBefore t 3 i + m) (pos 0) ≡ areaOfLayer file t (layerIn t b i) (suc m)) e (last-measure i m (omega arith) a))
+      (λ u.
+      List·getD-append (measuresTo file t b n) (ofLayer n) (pos 0) (wordsBefore t 3 i + m)
+      (rw (measures-many t b file n (omega arith)) (omega (arith, areas-more t b i n u (omega arith))))
+      ∙ layer-measure n i m (omega arith) u a)
+      (eq-or-lt-of-le (le-of-suc-le-suc l))
+
+-- ---- the file
+
+-- an accepted file has as many measures as areas
+pub measures-areas : (file : List ℕ) (room places : ℕ) → verdictOf file room places ≡ Fine → length (measuresOf file) ≡ countsAt file (recordsOf file) .areas
+unfolding verdictOf measuresOf
+measures-areas file room places h =
+    let p = passed file room (both-fine (rulesOf file room) (measureRule file places) h .0) in
+    measures-many (tableOf file) (basesIn file) file (countsAt file (recordsOf file) .layers) (counts-few file refl .0) ∙ areas-all file (ended file (p .two))
+
+-- the A that stands behind k records: behind as many areas as came in them stands its measure
+pub measure-place : (file : List ℕ) (k : ℕ) → k < recordsOf file → {layer last : ℕ} → dueOf (stateAt file k) ≡ Area layer last
+    → getD (measuresOf file) (countsAt file k .areas) (pos 0) ≡ areaMeasureIn file (tableOf file) (layerAt file (tableOf file) (basesIn file) k) (k + 1)
+unfolding measuresOf areaOfLayer layerAt
+measure-place file k l {last = m} e =
+    let t = tableOf file in
+    let i = countsAt file k .layers - 1 in
+    let x = area-place file k l e in
+    rw (x .place)
+    (layer-measure t (basesIn file) file (countsAt file (recordsOf file) .layers) i m (counts-few file refl .0) (x .layer) (x .inside)
+    ∙ ap (areaMeasureIn file t (layerOf file i)) (area-named t (layerOf file i) m (x .inside) ∙ area-word file k l e ∙ sym (add-one k)))
