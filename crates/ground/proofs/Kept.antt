@@ -1,6 +1,6 @@
 -- What a file that keeps stages 2, 4, 5 and 6 says of each line and each area of a layer: of rules that are fine every one holds, and the
 -- walk meets each L, each A and each loop record that the table and the counts tell of, in its layer. Assumes nothing.
-use mathlib.Core.Bool.{Bool, true, false, _||_, not, false≢true}
+use mathlib.Core.Bool.{Bool, true, false, _||_, false≢true}
 use mathlib.Core.List.{List}
 use mathlib.Core.Path.{_≡_, refl, _∙_, ap, subst}
 use Prim.Native.Nat.{ℕ, suc, _+_, _*_, _-_, _/_, _%_, _≤_, _<_}
@@ -15,7 +15,7 @@ use Rattle.verdict.specs.declared.Verdict.the-variants.{Fine}
 use Rattle.verdict.specs.Rules.{firstBroken}
 use Rattle.verdict.proofs.Holding.{row-fine, Holding, all-hold, both-hold, slot-holds}
 use Rattle.rules.specs.declared.Due.{Due}
-use Rattle.rules.specs.Permitted.{size, within, is}
+use Rattle.rules.specs.Permitted.{size, within}
 use Rattle.walk.specs.States.{dueOf, stateAt}
 use Rattle.walk.specs.Stages.{recordsOf, stageTwo}
 use Rattle.walk.specs.Table.{tableOf}
@@ -28,9 +28,10 @@ use Rattle.links.specs.Links.{isZero, lineEndChecks, sideChecks, lineChecks, lo
 use Rattle.entries.specs.Entries.{slotOf, loopsAt, recordsTo, slotsOf}
 use Rattle.entries.specs.Loops.{loopMeasureIn}
 use Rattle.entries.proofs.Owning.{inside, complete}
-use Rattle.loops.specs.Loops.{repeatsArea, rightArea, loopSlot, windChecks, firstRecord, areaRecord, loopChecks, areaChecks, sixth, stageFive}
+use Rattle.loops.specs.Loops.{loopSlot, windChecks, firstRecord, areaRecord, loopChecks, areaChecks, sixth, stageFive}
 use Rattle.sides.specs.Sides.{lists, sideListed, listChecks, lineListChecks, seventh, stageSix}
 use Rattle.ground.specs.Layers.{leftOf, rightOf}
+use Rattle.ground.specs.Standing.{LineKept, SlotKept}
 use Rattle.ground.proofs.Soundness.{within-most}
 
 -- ---- the stages
@@ -89,13 +90,6 @@ sides-named file t l r h =
     let b = h .1 .1 .1 .1 .1 .1 .1 in
     (b .0, b .1 .1 .0)
 
--- what stages 4 and 6 say of the layer's line n: its sides' areas are there (11) and list it (18)
-pub record LineKept (file t : List ℕ) (l : layers.Layer) (n : ℕ) : Type 0 where
-  pub left : leftOf file t l n ≤ l .areas
-  pub right : rightOf file t l n ≤ l .areas
-  pub leftLists : 0 < leftOf file t l n → lists file (areaOf t l (pos (leftOf file t l n))) true n ≡ true
-  pub rightLists : 0 < rightOf file t l n → lists file (areaOf t l (pos (rightOf file t l n))) false n ≡ true
-
 -- 18 of the side whose area, not 0, stands at column c
 side-lists : (file t : List ℕ) (l : layers.Layer) (r c : ℕ) (back : Bool) (n : ℕ) → (isZero (numberIn file r c 5) || names (l .areas) (numberIn file r c 5)) ≡ true
     → sideListed file t l r c back n ≡ true → 0 < size (numberIn file r c 5) → lists file (areaOf t l (pos (size (numberIn file r c 5)))) back n ≡ true
@@ -126,13 +120,6 @@ line-kept file p i m k x =
     kept-by file t (layerOf file i) (suc k) (suc m) (x .word) (rw (add-one k) at four) (rw (add-one k, add-one m) at six)
 
 -- ---- an area's slots
-
--- what stages 4 and 5 say of a slot of the layer's area a, whose A is record x: it names a line (11), repeats none before it (13), and
--- has the area on its right hand (17)
-pub record SlotKept (file t : List ℕ) (l : layers.Layer) (a x e : ℕ) : Type 0 where
-  pub known : (isZero (slotOf file (x + 1) e) || namesLine (l .lines) (slotOf file (x + 1) e)) ≡ true
-  pub once : (isZero (slotOf file (x + 1) e) || not (repeatsArea file x e)) ≡ true
-  pub own : (isZero (slotOf file (x + 1) e) || is a (rightArea file t l (slotOf file (x + 1) e))) ≡ true
 
 -- from the checks of slot i of the loop record r
 slot-by : (file t : List ℕ) (l : layers.Layer) (a x f r i e : ℕ) → r ≡ x + 1 + e / 12 → i ≡ e % 12 → areaRecord t l a ≡ x

@@ -30,7 +30,8 @@ use Rattle.loops.specs.Loops.{repeatsArea}
 use Rattle.ground.specs.Layers.{areaOfLayer, leftOf, rightOf}
 use Rattle.ground.proofs.Soundness.{table-sound}
 use Rattle.ground.proofs.Kept.{Passed}
-use Rattle.ground.proofs.Grounds.{entriesOf, areas-entries, slots-kept, listed}
+use Rattle.ground.proofs.Standing.{entriesOf, areas-entries, kept-listed}
+use Rattle.ground.proofs.Grounds.{slots-kept, layer-kept}
 
 -- ---- sums of small numbers
 
@@ -105,7 +106,7 @@ module _ (file : List ℕ) (p : Passed file) (i : ℕ) (l : i < countsAt file (r
   areas-small j m =
       let t = tableOf file in
       let y = layerOf file i in
-      rw (areas-entries file t y j, ground-prefix (y .lines) (measureOf file t y) (leftOf file t y) (rightOf file t y) (y .areas) (entriesOf file t y) (listed file p i l) j m)
+      rw (areas-entries file t y j, ground-prefix (y .lines) (measureOf file t y) (leftOf file t y) (rightOf file t y) (y .areas) (entriesOf file t y) (kept-listed file t y (layer-kept file p i l)) j m)
       (picked-small (y .lines) (sound .few) _ line-small (λ n. inside (rightOf file t y n) j) (λ n. inside (leftOf file t y n) j))
 
   -- the outside sum along its first j lines
