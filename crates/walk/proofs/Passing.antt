@@ -148,14 +148,14 @@ isNode (Loop last count left) = false
 -- then points are left, or nodes
 points-left : (s : State) → isPoints (dueOf s) ≡ true → 0 < s .points
 points-left s =
-    by-due (λ d. isPoints d ≡ true → 0 < s .points) s (λ l _. l) (λ _. other) (λ _. other) (λ _. other) (λ _. other) (λ _. other) (λ _. other) (λ _. other)
+    by-due (λ d. isPoints d ≡ true → 0 < s .points) s (λ l _. l) (λ _. other) (λ _. other) (λ _. other) (λ _. other) (λ _ _. other) (λ _. other) (λ _. other)
   where
     other : false ≡ true → 0 < s .points
     other e = absurd (false≢true e)
 
 nodes-left : (s : State) → isNode (dueOf s) ≡ true → s .node < s .nodes
 nodes-left s =
-    by-due (λ d. isNode d ≡ true → s .node < s .nodes) s (λ _. other) (λ _. other) (λ _. other) (λ l _. l) (λ _. other) (λ _. other) (λ _. other) (λ _. other)
+    by-due (λ d. isNode d ≡ true → s .node < s .nodes) s (λ _. other) (λ _. other) (λ _. other) (λ l _. l) (λ _. other) (λ _ _. other) (λ _. other) (λ _. other)
   where
     other : false ≡ true → s .node < s .nodes
     other e = absurd (false≢true e)
