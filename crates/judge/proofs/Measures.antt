@@ -12,6 +12,7 @@ use lib.ListN.{length, getD, List·getD-append}
 use lib.Seq.{getD-append-add}
 use Rattle.verdict.specs.declared.Verdict.the-variants.{Fine}
 use Rattle.verdict.proofs.Parts.{both-fine}
+use Rattle.records.specs.View.{recordOf}
 use Rattle.rules.specs.declared.Due.the-variants.{Area}
 use Rattle.walk.specs.States.{dueOf, stateAt, countsAt}
 use Rattle.walk.specs.Stages.{recordsOf}
@@ -21,7 +22,8 @@ use Rattle.measures.specs.Points.{firstOf}
 use Rattle.layers.specs.declared.Bases.{Bases}
 use Rattle.layers.specs.Naming.{wordsBefore, layerIn}
 use Rattle.layers.specs.Passing.{layerAt, basesIn, layerOf}
-use Rattle.layers.proofs.Laid.{area-named, area-place, area-word, areas-all}
+use Rattle.layers.proofs.Laid.{area-named, area-passed, area-place, area-word, areas-all}
+use Rattle.layers.proofs.Rows.{passes}
 use Rattle.entries.specs.Loops.{areaMeasureIn}
 use Rattle.ground.specs.Layers.{areaOfLayer, measuresTo}
 use Rattle.judge.specs.Rulebook.{rulesOf, measureRule, verdictOf}
@@ -48,18 +50,22 @@ module _ (t : List ℕ) (b : Bases) (file : List ℕ) where
   ofLayer i = firstOf (λ a. areaOfLayer file t (layerIn t b i) (suc a)) (layerIn t b i .areas)
 
   -- area m of the last layer, and of one before it
-  last-measure : (i m : ℕ) → i ≤ 6399936 → m < layerIn t b i .areas → getD (measuresTo file t b (suc i)) (wordsBefore t 3 i + m) (pos 0) ≡ areaOfLayer file t (layerIn t b i) (suc m)
+  last-measure : (i m : ℕ) → i ≤ 6399936 → m < layerIn t b i .areas
+      → getD (measuresTo file t b (suc i)) (wordsBefore t 3 i + m) (pos 0) ≡ areaOfLayer file t (layerIn t b i) (suc m)
   unfolding measuresTo
   last-measure i m f a =
       rw (← measures-many t b file i f)
       (getD-append-add (measuresTo file t b i) (ofLayer i) m (pos 0) ∙ first-at (λ a. areaOfLayer file t (layerIn t b i) (suc a)) (layerIn t b i .areas) m a)
 
-  layer-measure : (n i m : ℕ) → n ≤ 6399936 → i < n → m < layerIn t b i .areas → getD (measuresTo file t b n) (wordsBefore t 3 i + m) (pos 0) ≡ areaOfLayer file t (layerIn t b i) (suc m)
+  layer-measure : (n i m : ℕ) → n ≤ 6399936 → i < n → m < layerIn t b i .areas
+      → getD (measuresTo file t b n) (wordsBefore t 3 i + m) (pos 0) ≡ areaOfLayer file t (layerIn t b i) (suc m)
   unfolding measuresTo
   layer-measure zero i m f l a = absurd (omega arith)
   layer-measure (suc n) i m f l a =
       ⊎-elim
-      (λ e. subst (λ (j : ℕ). getD (measuresTo file t b (suc j)) (wordsBefore t 3 i + m) (pos 0) ≡ areaOfLayer file t (layerIn t b i) (suc m)) e (last-measure i m (omega arith) a))
+      (λ e.
+      subst (λ (j : ℕ). getD (measuresTo file t b (suc j)) (wordsBefore t 3 i + m) (pos 0) ≡ areaOfLayer file t (layerIn t b i) (suc m)) e
+      (last-measure i m (omega arith) a))
       (λ u.
       List·getD-append (measuresTo file t b n) (ofLayer n) (pos 0) (wordsBefore t 3 i + m)
       (rw (measures-many t b file n (omega arith)) (omega (arith, areas-more t b i n u (omega arith))))
@@ -86,3 +92,18 @@ measure-place file k l {last = m} e =
     rw (x .place)
     (layer-measure t (basesIn file) file (countsAt file (recordsOf file) .layers) i m (counts-few file refl .0) (x .layer) (x .inside)
     ∙ ap (areaMeasureIn file t (layerOf file i)) (area-named t (layerOf file i) m (x .inside) ∙ area-word file k l e ∙ sym (add-one k)))
+
+-- the measure in place n is that of the A before which n others stand: the record behind the first k
+pub record MeasureAt (file : List ℕ) (n k : ℕ) : Type 0 where
+  pub within : k < recordsOf file
+  pub due : dueOf (stateAt file k) ≡ Area (stateAt file k .layer) (stateAt file k .area)
+  pub before : countsAt file k .areas ≡ n
+  pub measure : getD (measuresOf file) n (pos 0) ≡ areaMeasureIn file (tableOf file) (layerAt file (tableOf file) (basesIn file) k) (k + 1)
+
+pub measure-nth : (file : List ℕ) (n : ℕ) → n < countsAt file (recordsOf file) .areas → (k : ℕ) × MeasureAt file n k
+unfolding countsAt
+measure-nth file n l =
+    let q = passes (λ k. countsAt file k .areas) n (recordsOf file) (omega arith) l in
+    let k = q .0 in
+    let d = area-passed (stateAt file k) (countsAt file k) (recordOf file (suc k)) n (q .1 .above) (q .1 .below) in
+    (k, record { within = q .1 .before; due = d .0; before = d .1; measure = rw (d .1) at (measure-place file k (q .1 .before) (d .0)) })

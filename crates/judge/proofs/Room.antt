@@ -84,7 +84,8 @@ module _ (file : List ℕ) (room places : ℕ) (p : walkedOf file .verdict ≡ F
 -- with room enough the answer does not hang on how much it is
 pub same-verdict : (file : List ℕ) {room places r p : ℕ} → Enough file room places → Enough file r p → verdictOf file room places ≡ verdictOf file r p
 same-verdict file {room} {places} {r} {p} a b =
-    verdict-placed file room places (a .areas) ∙ rules-roomy file room (a .words) ∙ sym (rules-roomy file r (b .words)) ∙ sym (verdict-placed file r p (b .areas))
+    verdict-placed file room places (a .areas) ∙ rules-roomy file room (a .words)
+    ∙ sym (rules-roomy file r (b .words)) ∙ sym (verdict-placed file r p (b .areas))
 
 pub same-outcome : (file : List ℕ) {room places r p : ℕ} → Enough file room places → Enough file r p → outcomeOf file room places ≡ outcomeOf file r p
 unfolding outcomeOf

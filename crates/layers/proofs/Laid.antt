@@ -283,7 +283,7 @@ line-passed s c r p l =
     (λ _ m. absurd (omega arith))
     (λ _ m. absurd (omega arith))
 
-area-passed : (s : State) (c : Counts) (r : List ℕ) (p : ℕ) → c .areas ≤ p → p < countedFor (dueOf s) c r .areas → (dueOf s ≡ Area (s .layer) (s .area)) × (c .areas ≡ p)
+pub area-passed : (s : State) (c : Counts) (r : List ℕ) (p : ℕ) → c .areas ≤ p → p < countedFor (dueOf s) c r .areas → (dueOf s ≡ Area (s .layer) (s .area)) × (c .areas ≡ p)
 area-passed s c r p l =
     by-due (λ d. p < countedFor d c r .areas → (d ≡ Area (s .layer) (s .area)) × (c .areas ≡ p)) s
     (λ _ m. absurd (omega arith))

@@ -27,7 +27,8 @@ unfolding measureText
 measure-long input h = rw (lt-ltb mostBytes (length input) (omega arith))
 
 -- the answer o, with room enough
-module _ (input : List ℕ) (h : length input ≤ 65490) {room places : ℕ} (a : 3540 ≤ room) (b : 442 ≤ places) {o : Outcome} (e : o ≡ outcomeOf input room places) where
+module _ (input : List ℕ) (h : length input ≤ 65490) {room places : ℕ} (a : 3540 ≤ room) (b : 442 ≤ places) {o : Outcome}
+    (e : o ≡ outcomeOf input room places) where
   told : o ≡ answerTo input
   told = e ∙ lent-answer input h a b
 
@@ -40,7 +41,8 @@ module _ (input : List ℕ) (h : length input ≤ 65490) {room places : ℕ} (a 
   check-refused z = rw (le-ltb mostBytes (length input) (omega arith), ← told, ne-eqb (o .number) 0 z)
 
   -- the measures ms that the judge leaves where zs stood
-  pub measure-ok : o .number ≡ 0 → (zs : List ℤ) {ms : List ℤ} → places ≡ length zs → ms ≡ measuresAfter input room zs → areasText input ms (recordsOf input) ≡ measureText input
+  pub measure-ok : o .number ≡ 0 → (zs : List ℤ) {ms : List ℤ} → places ≡ length zs → ms ≡ measuresAfter input room zs
+      → areasText input ms (recordsOf input) ≡ measureText input
   unfolding measureText measuresAfter
   measure-ok z zs l f =
       let v : verdictOf input room places ≡ Fine = zero-accepts input room places (ap (λ (x : Outcome). x .number) (sym e) ∙ z) in

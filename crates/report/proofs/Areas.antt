@@ -91,7 +91,8 @@ same-record (Area layer last) s t h = rw (h refl)
 same-record (Loop last count left) s t h = refl
 
 -- where there is one for each area, what stands behind them is not shown
-pub areas-told : (file : List ℕ) (ms rest : List ℤ) → length ms ≡ countsAt file (recordsOf file) .areas → (k : ℕ) → k ≤ recordsOf file → areasText file (ms ++ rest) k ≡ areasText file ms k
+pub areas-told : (file : List ℕ) (ms rest : List ℤ) → length ms ≡ countsAt file (recordsOf file) .areas → (k : ℕ) → k ≤ recordsOf file
+    → areasText file (ms ++ rest) k ≡ areasText file ms k
 unfolding areasText countsAt
 areas-told file ms rest e zero l = refl
 areas-told file ms rest e (suc k) l =

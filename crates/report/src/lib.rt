@@ -197,8 +197,8 @@ fn put_areas(out: &mut [u8; 120000], file: &[u8], measures: &[i64]) -> usize
 
 // ---- the programs' texts
 
-// What the judge is lent for up to 885 records: a record gives the table at most four words, and at least
-// as many other records as areas stand in a file.
+// What the judge is lent for up to 885 records: a record gives the table at most four words, and behind
+// each A stands a loop record at least.
 const WORDS: usize = 3540;
 
 const PLACES: usize = 443;

@@ -45,7 +45,8 @@ module _ (file : List ℕ) (kept : walkedOf file .verdict ≡ Fine) where
   need-words = ap (λ (c : Counts). c .words) (walked-fine file kept .2)
 
   -- a row for each layer, and a word for each line and each area
-  pub need-counted : needOf file ≡ rowLength * countsAt file (recordsOf file) .layers + (countsAt file (recordsOf file) .lines + countsAt file (recordsOf file) .areas)
+  pub need-counted : needOf file
+      ≡ rowLength * countsAt file (recordsOf file) .layers + (countsAt file (recordsOf file) .lines + countsAt file (recordsOf file) .areas)
   need-counted = need-words ∙ words-counted file (recordsOf file) (ended file (walked-fine file kept .1))
 
   -- THE TABLE HAS AS MANY WORDS AS THE NEED SAYS
@@ -75,8 +76,11 @@ pub need-most : (file : List ℕ) → needOf file ≤ rowLength * recordsOf file
 unfolding needOf walkedOf
 need-most file = by (firstBroken (stageOne file ++ stageTwo file)) refl
   where
-    by : (v : Verdict) → firstBroken (stageOne file ++ stageTwo file) ≡ v → walkedBy v (countsAt file (recordsOf file)) .counts .words ≤ rowLength * recordsOf file
-    by Fine e = omega (arith, rows-most file (recordsOf file), words-counted file (recordsOf file) (ended file (both-fine (stageOne file) (stageTwo file) e .1)))
+    by : (v : Verdict) → firstBroken (stageOne file ++ stageTwo file) ≡ v
+        → walkedBy v (countsAt file (recordsOf file)) .counts .words ≤ rowLength * recordsOf file
+    by Fine e =
+        let two = both-fine (stageOne file) (stageTwo file) e .1 in
+        omega (arith, rows-most file (recordsOf file), words-counted file (recordsOf file) (ended file two))
     by (Broken n r c) e = omega arith
 
 -- ---- the areas by the records
