@@ -1,6 +1,6 @@
 -- THE MEASURES OF AN ACCEPTED FILE: as many as it has areas, and the measure behind n others is that of the A behind n others. They are made
 -- layer by layer, a layer has as many as its row says, and the A records of a layer stand in its order. Assumes nothing.
-use mathlib.Core.List.{List, [], _∷_, _++_}
+use mathlib.Core.List.{List}
 use mathlib.Core.Logic.{⊎-elim}
 use mathlib.Core.Path.{_≡_, refl, sym, _∙_, ap, subst}
 use Prim.Native.Nat.{ℕ, zero, suc, _+_, _-_, _≤_, _<_}
@@ -19,6 +19,7 @@ use Rattle.walk.specs.Stages.{recordsOf}
 use Rattle.walk.specs.Table.{tableOf}
 use Rattle.walk.proofs.Judging.{ended}
 use Rattle.measures.specs.Points.{firstOf}
+use Rattle.measures.proofs.FirstLaws.{first-at}
 use Rattle.layers.specs.declared.Bases.{Bases}
 use Rattle.layers.specs.Naming.{wordsBefore, layerIn}
 use Rattle.layers.specs.Passing.{layerAt, basesIn, layerOf}
@@ -28,22 +29,11 @@ use Rattle.entries.specs.Loops.{areaMeasureIn}
 use Rattle.ground.specs.Layers.{areaOfLayer, measuresTo}
 use Rattle.judge.specs.Rulebook.{rulesOf, measureRule, verdictOf}
 use Rattle.judge.specs.Outcomes.{measuresOf}
-use Rattle.judge.proofs.Adding.{first-many, areas-more, measures-many}
+use Rattle.judge.proofs.Adding.{areas-more, measures-many}
 use Rattle.judge.proofs.Calling.{passed}
 use Rattle.judge.proofs.Loading.{counts-few}
 
 -- ---- layer by layer
-
-first-at : (g : ℕ → ℤ) (n i : ℕ) → i < n → getD (firstOf g n) i (pos 0) ≡ g i
-unfolding firstOf
-first-at g zero i l = absurd (omega arith)
-first-at g (suc n) i l =
-    ⊎-elim
-    (λ e.
-    let z : i ≡ length (firstOf g n) + 0 = omega (arith, first-many g n) in
-    ap (λ (j : ℕ). getD (firstOf g n ++ (g n ∷ [])) j (pos 0)) z ∙ getD-append-add (firstOf g n) (g n ∷ []) 0 (pos 0) ∙ ap g (sym e))
-    (λ m. List·getD-append (firstOf g n) (g n ∷ []) (pos 0) i (rw first-many m) ∙ first-at g n i m)
-    (eq-or-lt-of-le (le-of-suc-le-suc l))
 
 module _ (t : List ℕ) (b : Bases) (file : List ℕ) where
   abbrev ofLayer : ℕ → List ℤ
@@ -55,7 +45,7 @@ module _ (t : List ℕ) (b : Bases) (file : List ℕ) where
   unfolding measuresTo
   last-measure i m f a =
       rw (← measures-many t b file i f)
-      (getD-append-add (measuresTo file t b i) (ofLayer i) m (pos 0) ∙ first-at (λ a. areaOfLayer file t (layerIn t b i) (suc a)) (layerIn t b i .areas) m a)
+      (getD-append-add (measuresTo file t b i) (ofLayer i) m (pos 0) ∙ first-at (λ a. areaOfLayer file t (layerIn t b i) (suc a)) (pos 0) (layerIn t b i .areas) m a)
 
   layer-measure : (n i m : ℕ) → n ≤ 6399936 → i < n → m < layerIn t b i .areas
       → getD (measuresTo file t b n) (wordsBefore t 3 i + m) (pos 0) ≡ areaOfLayer file t (layerIn t b i) (suc m)
