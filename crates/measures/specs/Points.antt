@@ -1,7 +1,6 @@
 -- The points of a line in a file (RULES 4.4: points 50-55; RULES 4.5: X and Y of seven points in 1-70). Assumes nothing.
 --   coordinateIn s c    the coordinate that starts at column c of the record s: the number that stands there
 --   pointAt file r i    point i, counted from 0, of the line whose L is record r
---   linePoints file r   its points, as many as it counts
 --   measureIn file r    its measure
 -- `pairBy`, `pointBy`, `pointsBy` and `measureBy` are the same for any way to read a coordinate.
 use mathlib.Core.List.{List, [], _∷_, _++_}
@@ -40,9 +39,11 @@ pairBy read s i = record { x = read s (1 + 10 * i); y = read s (6 + 10 * i) }
 unfoldable pub pointBy : (List ℕ → ℕ → ℤ) → List ℕ → ℕ → ℕ → Point
 pointBy read file r i = pairBy read (recordOf file (r + 1 + i / 7)) (i % 7)
 
+-- its points, as many as it counts
 unfoldable pub pointsBy : (List ℕ → ℕ → ℤ) → List ℕ → ℕ → List Point
 pointsBy read file r = firstOf (pointBy read file r) (pointCount file r)
 
+-- RULES 7.1: its measure
 unfoldable pub measureBy : (List ℕ → ℕ → ℤ) → List ℕ → ℕ → ℤ
 measureBy read file r = lineMeasure (pointsBy read file r)
 
@@ -50,9 +51,6 @@ measureBy read file r = lineMeasure (pointsBy read file r)
 
 abbrev pub pointAt : List ℕ → ℕ → ℕ → Point
 pointAt = pointBy coordinateIn
-
-abbrev pub linePoints : List ℕ → ℕ → List Point
-linePoints = pointsBy coordinateIn
 
 abbrev pub measureIn : List ℕ → ℕ → ℤ
 measureIn = measureBy coordinateIn
