@@ -197,6 +197,9 @@ fn put_areas(out: &mut [u8; 120000], file: &[u8], measures: &[i64]) -> usize
 
 // ---- the programs' texts
 
+// The bytes that are taken at most: 885 records.
+const MOST: usize = 65490;
+
 // What the judge is lent for up to 885 records: a record gives the table at most four words, and behind
 // each A stands a loop record at least.
 const WORDS: usize = 3540;
@@ -207,7 +210,7 @@ const PLACES: usize = 443;
 pub fn check_text(input: &[u8], out: &mut [u8; 120000]) -> usize
     ensures { λ r. ⌜ Put (now (out .entry)) 0 (now (out .exit)) r (checkText (now (input .entry))) × (r ≤ 120000) ⌝ }
 {
-    if 65490 < input.len() {
+    if MOST < input.len() {
         return put(out, 0, b"status=toolong\n");
     }
     let mut table = [0u32; WORDS];
@@ -223,7 +226,7 @@ pub fn check_text(input: &[u8], out: &mut [u8; 120000]) -> usize
 pub fn measure_text(input: &[u8], out: &mut [u8; 120000]) -> usize
     ensures { λ r. ⌜ Put (now (out .entry)) 0 (now (out .exit)) r (measureText (now (input .entry))) × (r ≤ 120000) ⌝ }
 {
-    if 65490 < input.len() {
+    if MOST < input.len() {
         return put(out, 0, b"status=toolong\n");
     }
     let mut table = [0u32; WORDS];
