@@ -67,5 +67,9 @@ target/host/sanitized: $(SOURCES) $(HEADERS) $(LIBRARY)
 target/host/bare: $(SOURCES) $(HEADERS) $(LIBRARY) host/bare.sh
 	host/bare.sh $@ $(LIBRARY) $(SOURCES)
 
+# The program that answers for the library over pipes, for second/run.sh on such a machine.
+target/host/answer: second/answer.c host/system.h include/stragumella.h $(LIBRARY) host/bare.sh
+	host/bare.sh $@ $(LIBRARY) second/answer.c
+
 clean:
 	rm -rf target/host

@@ -1,5 +1,5 @@
 #!/usr/bin/env bash
-# Builds the tool for x86-64 with clang and the kit's linker alone: host/bare.sh TOOL LIBRARY SOURCE..
+# Builds the tool, or second/answer.c, for x86-64 with clang and the kit's linker alone: host/bare.sh TOOL LIBRARY SOURCE..
 #
 # For machines that are not x86-64: they have no x86-64 C library, headers or linker, but the kit has the library
 # and the linker, and system.h has the declarations (-DBARE). TOOL.x86-64 is the program and TOOL a script that runs
@@ -12,9 +12,14 @@ shift 2
 
 kit=$(dirname "$(dirname "$(readlink -f "$(command -v rt)")")")/on/$(uname -m)
 chain=$kit/toolchain
+# A plain processor: for a later one the C library fills memory by an instruction that the emulator makes byte by byte,
+# and then judging a short sheet takes ten times as long.
 emulator=
 if [ -x "$chain/bin/qemu-x86_64" ]; then
-    emulator="\"$chain/bin/qemu-x86_64\" "
+    emulator="\"$chain/bin/qemu-x86_64\" -cpu qemu64 "
+elif [ "$(uname -m)" != x86_64 ]; then
+    echo "host/bare.sh: the kit has no emulator for this machine, so nothing for x86-64 can run here" >&2
+    exit 1
 fi
 
 mkdir -p "$(dirname "$tool")"

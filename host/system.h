@@ -1,4 +1,4 @@
-/* What the tool uses of the C library and the system: memory, files, printing.
+/* What the tool and second/answer.c use of the C library and the system: memory, files, printing.
  *
  * Where the C library has no headers for the target (-DBARE), the declarations stand here by hand. They are
  * those of x86-64 Linux with glibc, the one target that the proved library is built for.
@@ -33,8 +33,10 @@ int ferror(FILE *stream);
 void *calloc(size_t count, size_t size);
 void *realloc(void *block, size_t size);
 void free(void *block);
+void exit(int status);
 
 int strcmp(const char *a, const char *b);
+void *memcpy(void *to, const void *from, size_t length);
 char *strerror(int number);
 int *__errno_location(void);
 #define errno (*__errno_location())
@@ -43,10 +45,12 @@ int *__errno_location(void);
 int open(const char *name, int flags, ...);
 int close(int file);
 long read(int file, void *buffer, size_t length);
+long write(int file, const void *buffer, size_t length);
 long lseek(int file, long offset, int from);
 void *mmap(void *place, size_t length, int protection, int flags, int file, long offset);
 int munmap(void *place, size_t length);
 #define STDIN_FILENO 0
+#define STDOUT_FILENO 1
 #define O_RDONLY 0
 #define SEEK_SET 0
 #define SEEK_END 2

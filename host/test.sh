@@ -292,7 +292,7 @@ by_warnings() {
         if ! command -v $compiler >/dev/null; then
             skip "$compiler" "not here"
         elif $compiler -std=c11 -D_POSIX_C_SOURCE=200809L -Wall -Wextra -Wpedantic -Wshadow -Wconversion -Werror \
-            -Iinclude -fsyntax-only host/main.c host/input.c host/sheet.c host/record.c 2>"$work/err"; then
+            -Iinclude -fsyntax-only host/main.c host/input.c host/sheet.c host/record.c second/answer.c 2>"$work/err"; then
             pass "$compiler has nothing to say"
         else
             fail "$compiler has nothing to say" "$(head -n 5 "$work/err")"

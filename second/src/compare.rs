@@ -4,8 +4,8 @@ use crate::damage::{damaged, interesting, set};
 use crate::generate::{assert_accepted, from_seed, long_loops, sheet, sheet_of};
 use crate::judge::{verdict, Verdict};
 use crate::layout::{layout, Kind, KINDS, RECORD};
-use crate::positions::position;
-use crate::product::{Product, RawValue, Second};
+use crate::piped::Pipe;
+use crate::product::{Answer, Buffers, Call, Product, RawValue, Second, Told};
 use crate::random::Random;
 use crate::records::{read, Refusal};
 use crate::sheet::{joined, sheet_s, Records, Sheet};
@@ -26,52 +26,116 @@ pub struct Disagreement {
 
 /// Everything compared so far.
 pub struct Compare<'a> {
-    product: &'a dyn Product,
+    other: Other<'a>,
     /// Where each file is written before it is compared, in case the other program does not return.
     pub before: Option<PathBuf>,
     pub files: u64,
     /// How often each number was the answer: of the judge, layer sums, reader, writer, position.
     pub reached: [[u64; 23]; 5],
+    /// Of so many comparisons side by side this is the one of that number, from 0.
+    share: (u64, u64),
+    /// How many files, values and positions there were, for all shares.
+    turns: u64,
+    /// Draws the further calls about a file that are made, if not all of them are.
+    pub sparing: Option<Random>,
 }
 
-const JUDGE: usize = 0;
-const SUMS: usize = 1;
-const READER: usize = 2;
-const WRITER: usize = 3;
-const POSITION: usize = 4;
+/// The other program.
+enum Other<'a> {
+    /// It is called, and each answer is compared at once.
+    Called(&'a dyn Product),
+    /// It is asked over pipes, and answers are compared as they come.
+    Piped(Pipe),
+}
 
-type Agreed = Result<(), Disagreement>;
+pub type Agreed = Result<(), Disagreement>;
 
-fn agree<T: PartialEq + Debug>(what: &str, bytes: &[u8], ours: T, theirs: T) -> Agreed {
-    if ours == theirs {
-        return Ok(());
+/// Compares two answers to a call: what is told, then each buffer.
+pub fn agree(file: &[u8], call: &Call, ours: &Answer, theirs: &Answer) -> Agreed {
+    let (our, their) = (&ours.buffers, &theirs.buffers);
+    let differing = differs("", &ours.told, &theirs.told)
+        .or_else(|| differs(": the table", &our.table, &their.table))
+        .or_else(|| differs(": the measures", &our.measures, &their.measures))
+        .or_else(|| differs(": the buffer", &our.bytes, &their.bytes));
+    match differing {
+        None => Ok(()),
+        Some((part, our, their)) => Err(disagreement(file, call, ours, part, our, their)),
     }
-    let (ours, theirs) = (format!("{ours:?}"), format!("{theirs:?}"));
-    Err(Disagreement { what: what.into(), ours, theirs, bytes: bytes.to_vec() })
 }
 
-/// A buffer with a pattern, longer than what is lent.
-const SPARE: usize = 2;
-
-fn words(length: usize) -> Vec<u32> {
-    (0..length + SPARE).map(|index| 0xA5A5_0000 ^ index as u32).collect()
+fn differs<T: PartialEq + Debug>(part: &'static str, ours: &T, theirs: &T) -> Option<(&'static str, String, String)> {
+    (ours != theirs).then(|| (part, format!("{ours:?}"), format!("{theirs:?}")))
 }
 
-fn longs(length: usize) -> Vec<i64> {
-    (0..length + SPARE).map(|index| -0x5A5A_5A5A_0000_0000 ^ index as i64).collect()
+/// A disagreement about a part of an answer. Its bytes are the file, the record that was read, or what we wrote.
+pub fn disagreement(file: &[u8], call: &Call, ours: &Answer, part: &str, our: String, their: String) -> Disagreement {
+    let bytes = match call {
+        Call::Need | Call::Judge { .. } | Call::Sums { .. } => file,
+        Call::Read { bytes, .. } => bytes,
+        Call::Write { .. } | Call::Position { .. } => &ours.buffers.bytes,
+    };
+    Disagreement { what: format!("{call}{part}"), ours: our, theirs: their, bytes: bytes.to_vec() }
 }
 
 impl<'a> Compare<'a> {
     pub fn new(product: &'a dyn Product) -> Compare<'a> {
-        Compare { product, before: None, files: 0, reached: [[0; 23]; 5] }
+        Compare::with(Other::Called(product), (0, 1))
     }
 
-    fn reach(&mut self, call: usize, number: u32) {
-        self.reached[call][number as usize] += 1;
+    /// One of several comparisons side by side: share `number`, from 0, of `shares`.
+    pub fn through(pipe: Pipe, number: u64, shares: u64) -> Compare<'a> {
+        Compare::with(Other::Piped(pipe), (number, shares))
     }
 
-    /// Every answer about one file and about each of its records.
+    fn with(other: Other<'a>, share: (u64, u64)) -> Compare<'a> {
+        Compare { other, before: None, files: 0, reached: [[0; 23]; 5], share, turns: 0, sparing: None }
+    }
+
+    /// Whether what comes next is of this share.
+    fn turn(&mut self) -> bool {
+        self.turns += 1;
+        self.turns % self.share.1 == self.share.0
+    }
+
+    /// Whether a further call about a file is made: every one, or one of four.
+    fn further(&mut self) -> bool {
+        self.sparing.as_mut().map_or(true, |random| random.below(4) == 0)
+    }
+
+    /// Waits for answers that have not come yet. Nothing is asked afterwards.
+    pub fn end(&mut self) -> Agreed {
+        match &mut self.other {
+            Other::Called(_) => Ok(()),
+            Other::Piped(pipe) => pipe.end(),
+        }
+    }
+
+    /// Makes a call and holds the answer to our own.
+    fn ask(&mut self, file: &[u8], call: Call, ours: Answer) -> Agreed {
+        let row = match call {
+            Call::Need => None,
+            Call::Judge { .. } => Some(0),
+            Call::Sums { .. } => Some(1),
+            Call::Read { .. } => Some(2),
+            Call::Write { .. } => Some(3),
+            Call::Position { .. } => Some(4),
+        };
+        let number = ours.told.number();
+        match &mut self.other {
+            Other::Called(product) => agree(file, &call, &ours, &call.answer(*product, file))?,
+            Other::Piped(pipe) => pipe.ask(call, ours)?,
+        }
+        if let Some(row) = row {
+            self.reached[row][number as usize] += 1;
+        }
+        Ok(())
+    }
+
+    /// Every answer about one file and about each of its records, if it is this one's turn.
     pub fn file(&mut self, file: &[u8]) -> Agreed {
+        if !self.turn() {
+            return Ok(());
+        }
         let verdict = verdict(file);
         self.whole_file(file, &verdict)?;
         self.records(file, &verdict.kinds)
@@ -83,29 +147,30 @@ impl<'a> Compare<'a> {
         if let Some(path) = &self.before {
             std::fs::write(path, file).expect("the file can be written");
         }
-        agree("need", file, verdict.need(), self.product.need(file))?;
-        for (words, areas) in buffer_lengths(verdict.table.len(), verdict.measures.len()) {
-            self.judged(file, verdict, words, areas)?;
+        if let Other::Piped(pipe) = &mut self.other {
+            pipe.file(file);
+        }
+        let need = Answer { told: Told::Need(verdict.need()), buffers: Buffers::default() };
+        self.ask(file, Call::Need, need)?;
+        let lengths = buffer_lengths(verdict.table.len(), verdict.measures.len());
+        for (index, (words, areas)) in lengths.into_iter().enumerate() {
+            if index == 0 || self.further() {
+                self.judged(file, verdict, words, areas)?;
+            }
         }
         self.summed(file, verdict)
     }
 
     /// The judge's answer, and both buffers afterwards.
-    fn judged(&mut self, file: &[u8], verdict: &Verdict, length: usize, areas: usize) -> Agreed {
-        let ours = verdict.outcome(length, areas);
-        let mut table = words(length);
-        let mut measures = longs(areas);
-        let theirs = self.product.judge(file, &mut table[..length], &mut measures[..areas]);
-        let what = format!("judge, table of {length} words, {areas} measures");
-        agree(&what, file, ours, theirs)?;
-        agree(&format!("{what}: the table"), file, table_after(verdict, length), table)?;
-        let mut measured = longs(areas);
+    fn judged(&mut self, file: &[u8], verdict: &Verdict, words: usize, areas: usize) -> Agreed {
+        let call = Call::Judge { words, areas };
+        let ours = verdict.outcome(words, areas);
+        let mut buffers = call.buffers();
+        put_table(&mut buffers, verdict, words);
         if ours.refusal.number == 0 {
-            measured[..verdict.measures.len()].copy_from_slice(&verdict.measures);
+            buffers.measures[..verdict.measures.len()].copy_from_slice(&verdict.measures);
         }
-        agree(&format!("{what}: the measures"), file, measured, measures)?;
-        self.reach(JUDGE, ours.refusal.number);
-        Ok(())
+        self.ask(file, call, Answer { told: Told::Outcome(ours), buffers })
     }
 
     /// The sums of each layer, of layer 0 and of one layer too many.
@@ -124,18 +189,21 @@ impl<'a> Compare<'a> {
             self.summed_layer(file, verdict, need + 3, 1)?;
             self.summed_layer(file, verdict, need, u32::MAX)?;
         }
-        self.summed_layer(file, verdict, need.saturating_sub(1), layers + 1)
+        if need > 0 {
+            self.summed_layer(file, verdict, need - 1, layers + 1)?;
+        }
+        Ok(())
     }
 
-    fn summed_layer(&mut self, file: &[u8], verdict: &Verdict, length: usize, layer: u32) -> Agreed {
-        let ours = answer(verdict, length, layer);
-        let mut table = words(length);
-        let theirs = self.product.layer_sums(file, &mut table[..length], layer);
-        let what = format!("sums of layer {layer}, table of {length} words");
-        agree(&what, file, ours, theirs)?;
-        agree(&format!("{what}: the table"), file, table_after(verdict, length), table)?;
-        self.reach(SUMS, ours.0.number);
-        Ok(())
+    fn summed_layer(&mut self, file: &[u8], verdict: &Verdict, words: usize, layer: u32) -> Agreed {
+        if !self.further() {
+            return Ok(());
+        }
+        let call = Call::Sums { words, layer };
+        let (refusal, sums) = answer(verdict, words, layer);
+        let mut buffers = call.buffers();
+        put_table(&mut buffers, verdict, words);
+        self.ask(file, call, Answer { told: Told::Sums(refusal, sums), buffers })
     }
 
     /// Every record, read by its kind and by another, and written back.
@@ -154,64 +222,56 @@ impl<'a> Compare<'a> {
 
     /// One record, read and written back.
     pub fn record(&mut self, kind: Kind, bytes: &[u8]) -> Agreed {
-        let what = format!("record of kind {kind:?}");
-        let ours = Second.read_record(kind as u32, bytes);
-        agree(&format!("{what}, read"), bytes, ours, self.product.read_record(kind as u32, bytes))?;
-        self.reach(READER, ours.0.number);
-        if ours.0 == Refusal::default() {
-            self.value(ours.1, RECORD)?;
+        let call = Call::Read { kind: kind as u32, bytes: bytes.to_vec() };
+        let ours = call.answer(&Second, &[]);
+        let told = ours.told;
+        self.ask(&[], call, ours)?;
+        match told {
+            Told::Reading(refusal, value) if refusal == Refusal::default() => self.value(value, RECORD),
+            _ => Ok(()),
         }
-        Ok(())
     }
 
     /// One value, written to a buffer of this length.
     pub fn value(&mut self, value: RawValue, length: usize) -> Agreed {
-        let pattern: Vec<u8> = (0..length + SPARE).map(|index| 0xC3 ^ index as u8).collect();
-        let (mut ours, mut theirs) = (pattern.clone(), pattern);
-        let our_number = Second.write_record(value, &mut ours[..length]);
-        let their_number = self.product.write_record(value, &mut theirs[..length]);
-        let what = format!("{value:?}, written to {length} bytes");
-        agree(&what, &ours, our_number, their_number)?;
-        agree(&format!("{what}: the buffer"), &ours, &ours, &theirs)?;
-        self.reach(WRITER, our_number);
-        Ok(())
+        let call = Call::Write { value, length };
+        let ours = call.answer(&Second, &[]);
+        self.ask(&[], call, ours)
     }
 
+    /// One position, if it is this one's turn.
     pub fn position(&mut self, mesh: i32, x: i32, y: i32) -> Agreed {
-        let (number, latitude, longitude) = match position(mesh, x, y) {
-            Ok((latitude, longitude)) => (0, latitude, longitude),
-            Err(number) => (number, 0.0, 0.0),
-        };
-        let theirs = self.product.position(mesh, x, y);
-        let ours = (number, latitude.to_bits(), longitude.to_bits());
-        let theirs = (theirs.0, theirs.1.to_bits(), theirs.2.to_bits());
-        agree(&format!("position {mesh} {x} {y}, degrees as bits"), &[], ours, theirs)?;
-        self.reach(POSITION, number);
-        Ok(())
+        if !self.turn() {
+            return Ok(());
+        }
+        let call = Call::Position { mesh, x, y };
+        let ours = call.answer(&Second, &[]);
+        self.ask(&[], call, ours)
     }
 }
 
-/// Tables of 0, need - 1, need and need + 3 words; measures for one area too few, for all, for two more, and none.
+/// The table, where it stands after a call.
+fn put_table(buffers: &mut Buffers, verdict: &Verdict, words: usize) {
+    if verdict.table_stands(words) {
+        buffers.table[..verdict.table.len()].copy_from_slice(&verdict.table);
+    }
+}
+
+/// Tables of need, 0, need - 1 and need + 3 words; measures for all areas, for two more, for one too few, and none.
+/// What the file needs comes first.
 fn buffer_lengths(need: usize, areas: usize) -> Vec<(usize, usize)> {
     let fewer = areas.saturating_sub(1);
     if need == 0 {
         return vec![(0, 2), (3, 0)];
     }
-    let mut lengths = vec![(0, areas + 2), (need - 1, fewer), (need, areas), (need + 3, areas + 2)];
-    lengths.push((need, 0));
+    let mut lengths = vec![(need, areas), (0, areas + 2), (need - 1, fewer), (need + 3, areas + 2)];
+    if areas > 0 {
+        lengths.push((need, 0));
+    }
     if fewer > 0 {
         lengths.push((need + 3, fewer));
     }
     lengths
-}
-
-/// The table buffer after a call.
-fn table_after(verdict: &Verdict, length: usize) -> Vec<u32> {
-    let mut table = words(length);
-    if verdict.table_stands(length) {
-        table[..verdict.table.len()].copy_from_slice(&verdict.table);
-    }
-    table
 }
 
 // The parts of the comparison.
@@ -261,6 +321,9 @@ fn every_field_of(compare: &mut Compare, sheet: &Sheet, random: &mut Random) -> 
         let kind = records[index].0;
         for field in &layout(kind).fields {
             for text in interesting(field, field.of(&records[index].1)) {
+                if !compare.turn() {
+                    continue;
+                }
                 let mut changed = records.clone();
                 set(&mut changed[index].1, field, &text);
                 compare.record(kind, &changed[index].1)?;
@@ -326,10 +389,12 @@ pub fn odd_values(compare: &mut Compare, seed: u64, count: usize) -> Agreed {
             value.kind = 1 + random.below(7) as u32;
         }
         let length = *random.pick(&[74, 74, 74, 75, 80, 148, 73, 1, 0]);
-        compare.value(value, length)?;
         let cut = *random.pick(&[0, 1, 73, 74, 75]);
         let longer: Vec<u8> = bytes.iter().chain(b"  ").copied().collect();
-        compare.record(*kind, &longer[..cut])?;
+        if compare.turn() {
+            compare.value(value, length)?;
+            compare.record(*kind, &longer[..cut])?;
+        }
     }
     Ok(())
 }

@@ -6,6 +6,7 @@ pub mod fields;
 pub mod generate;
 pub mod judge;
 pub mod layout;
+pub mod piped;
 pub mod positions;
 pub mod product;
 #[cfg(product)]

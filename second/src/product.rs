@@ -3,8 +3,9 @@
 use crate::judge::{judge, verdict, Outcome};
 use crate::layout::{Kind, KINDS};
 use crate::positions::position;
-use crate::records::{read, write, Refusal, Value};
+use crate::records::{self, read, Refusal, Value};
 use crate::sums::{sums_of_layer, Sums};
+use std::fmt::{Display, Formatter};
 
 /// A record value as it goes over the border between programs: the kind is a number, 1 to 7.
 #[derive(Clone, Copy, Debug, PartialEq, Eq)]
@@ -20,13 +21,122 @@ impl From<Value> for RawValue {
     }
 }
 
-pub trait Product {
+pub trait Product: Sync {
     fn need(&self, file: &[u8]) -> u64;
     fn judge(&self, file: &[u8], table: &mut [u32], measures: &mut [i64]) -> Outcome;
     fn layer_sums(&self, file: &[u8], table: &mut [u32], layer: u32) -> (Refusal, Sums);
     fn position(&self, mesh: i32, x: i32, y: i32) -> (u32, f64, f64);
     fn read_record(&self, kind: u32, bytes: &[u8]) -> (Refusal, RawValue);
     fn write_record(&self, value: RawValue, buffer: &mut [u8]) -> u32;
+}
+
+/// A call with what it is given. Need, judge and sums are about a file that was named before.
+#[derive(Clone, Debug)]
+pub enum Call {
+    Need,
+    Judge { words: usize, areas: usize },
+    Sums { words: usize, layer: u32 },
+    Position { mesh: i32, x: i32, y: i32 },
+    Read { kind: u32, bytes: Vec<u8> },
+    Write { value: RawValue, length: usize },
+}
+
+impl Display for Call {
+    fn fmt(&self, to: &mut Formatter) -> std::fmt::Result {
+        match self {
+            Call::Need => write!(to, "need"),
+            Call::Judge { words, areas } => write!(to, "judge, table of {words} words, {areas} measures"),
+            Call::Sums { words, layer } => write!(to, "sums of layer {layer}, table of {words} words"),
+            Call::Position { mesh, x, y } => write!(to, "position {mesh} {x} {y}, degrees as bits"),
+            Call::Read { kind: number, .. } => write!(to, "record of kind {:?}, read", kind(*number)),
+            Call::Write { value, length } => write!(to, "{value:?}, written to {length} bytes"),
+        }
+    }
+}
+
+/// What a call tells.
+#[derive(Clone, Copy, Debug, PartialEq, Eq)]
+pub enum Told {
+    Need(u64),
+    Outcome(Outcome),
+    Sums(Refusal, Sums),
+    /// The degrees as bits.
+    Place(u32, u64, u64),
+    Reading(Refusal, RawValue),
+    Number(u32),
+}
+
+/// The lent buffers of a call, each longer than what is lent. A call has no more than it takes.
+#[derive(Clone, Debug, Default, PartialEq, Eq)]
+pub struct Buffers {
+    pub table: Vec<u32>,
+    pub measures: Vec<i64>,
+    pub bytes: Vec<u8>,
+}
+
+/// What a call tells, and the buffers afterwards.
+#[derive(Clone, Debug, PartialEq, Eq)]
+pub struct Answer {
+    pub told: Told,
+    pub buffers: Buffers,
+}
+
+/// How much longer a buffer is than what is lent.
+const SPARE: usize = 2;
+
+impl Call {
+    /// The buffers before the call: they hold a pattern.
+    pub fn buffers(&self) -> Buffers {
+        let table = |words| (0..words + SPARE).map(|index| 0xA5A5_0000 ^ index as u32).collect();
+        let longs = |areas| (0..areas + SPARE).map(|index| -0x5A5A_5A5A_0000_0000 ^ index as i64).collect();
+        let bytes = |length| (0..length + SPARE).map(|index| 0xC3 ^ index as u8).collect();
+        match *self {
+            Call::Judge { words, areas } => {
+                Buffers { table: table(words), measures: longs(areas), ..Buffers::default() }
+            }
+            Call::Sums { words, .. } => Buffers { table: table(words), ..Buffers::default() },
+            Call::Write { length, .. } => Buffers { bytes: bytes(length), ..Buffers::default() },
+            Call::Need | Call::Position { .. } | Call::Read { .. } => Buffers::default(),
+        }
+    }
+
+    /// The answer of a program that can be called.
+    pub fn answer(&self, product: &dyn Product, file: &[u8]) -> Answer {
+        let mut buffers = self.buffers();
+        let Buffers { table, measures, bytes: buffer } = &mut buffers;
+        let told = match *self {
+            Call::Need => Told::Need(product.need(file)),
+            Call::Judge { words, areas } => {
+                Told::Outcome(product.judge(file, &mut table[..words], &mut measures[..areas]))
+            }
+            Call::Sums { words, layer } => {
+                let (refusal, sums) = product.layer_sums(file, &mut table[..words], layer);
+                Told::Sums(refusal, sums)
+            }
+            Call::Position { mesh, x, y } => {
+                let (number, latitude, longitude) = product.position(mesh, x, y);
+                Told::Place(number, latitude.to_bits(), longitude.to_bits())
+            }
+            Call::Read { kind, ref bytes } => {
+                let (refusal, value) = product.read_record(kind, bytes);
+                Told::Reading(refusal, value)
+            }
+            Call::Write { value, length } => Told::Number(product.write_record(value, &mut buffer[..length])),
+        };
+        Answer { told, buffers }
+    }
+}
+
+impl Told {
+    /// The refusal's number, or 0.
+    pub fn number(&self) -> u32 {
+        match *self {
+            Told::Need(_) => 0,
+            Told::Outcome(outcome) => outcome.refusal.number,
+            Told::Sums(refusal, _) | Told::Reading(refusal, _) => refusal.number,
+            Told::Place(number, ..) | Told::Number(number) => number,
+        }
+    }
 }
 
 /// This program.
@@ -64,6 +174,6 @@ impl Product for Second {
     }
 
     fn write_record(&self, value: RawValue, buffer: &mut [u8]) -> u32 {
-        write(&Value { kind: kind(value.kind), numbers: value.numbers, name: value.name }, buffer)
+        records::write(&Value { kind: kind(value.kind), numbers: value.numbers, name: value.name }, buffer)
     }
 }

@@ -1,29 +1,37 @@
 //! compare: the proved program against this one. Exit status 1 at the first disagreement.
 
 use second::compare::{damages, every_field, large, odd_values, one_byte_changes, outside_sheet, positions};
-use second::compare::{Compare, Disagreement};
+use second::compare::{Agreed, Compare, Disagreement};
+use second::piped::Pipe;
 use second::product::{Product, Second};
-use std::path::PathBuf;
-use std::process::ExitCode;
+use second::random::Random;
+use std::io;
+use std::path::{Path, PathBuf};
+use std::process::{Command, ExitCode};
+use std::thread::{available_parallelism, scope};
 use std::time::Instant;
 
-const HELP: &str = "compare [--quick] [--alone] [--parts DIGITS] [--damages N] [--seed N] [--sheets FOLDER] [--large]
-        [--write PATH] [--before PATH]
+const HELP: &str = "compare [--quick] [--alone] [--through PROGRAM] [--sparing] [--parts DIGITS] [--damages N] [--seed N]
+        [--sheets FOLDER] [--large] [--write PATH] [--before PATH]
 --quick    about a minute
+--sparing  about each file the need, the judge with just the room it needs, and of the further calls one of four
 --parts    which parts to run (12345)
 --alone    this program against itself, to try the parts
+--through  the program that answers for the library over pipes, built from answer.c
 --damages  how many damaged files (20000)
 --seed     the first seed of the generated files (1)
 --sheets   a folder of sheets from outside
 --large    files of 6,399,936 records as well (474 megabytes each)
 --write    where a file with a disagreement goes (disagreement.dat)
---before   where each file goes before it is compared, in case the other program does not return";
+--before   where each file goes before it is compared, in case the linked program does not return";
 
 const ALL: &str = "12345";
 
 struct Options {
     quick: bool,
     alone: bool,
+    through: Option<PathBuf>,
+    sparing: bool,
     parts: String,
     damages: usize,
     seed: u64,
@@ -37,6 +45,8 @@ fn options() -> Option<Options> {
     let mut options = Options {
         quick: false,
         alone: false,
+        through: None,
+        sparing: false,
         parts: ALL.into(),
         damages: 20_000,
         seed: 1,
@@ -50,6 +60,8 @@ fn options() -> Option<Options> {
         match argument.as_str() {
             "--quick" => (options.quick, options.damages) = (true, 8000),
             "--alone" => options.alone = true,
+            "--through" => options.through = Some(arguments.next()?.into()),
+            "--sparing" => options.sparing = true,
             "--large" => options.large = true,
             "--parts" => options.parts = arguments.next()?,
             "--damages" => options.damages = arguments.next()?.parse().ok()?,
@@ -60,7 +72,8 @@ fn options() -> Option<Options> {
             _ => return None,
         }
     }
-    Some(options)
+    let both = options.through.is_some() && (options.alone || options.before.is_some());
+    (!both).then_some(options)
 }
 
 fn main() -> ExitCode {
@@ -68,16 +81,33 @@ fn main() -> ExitCode {
         eprintln!("{HELP}");
         return ExitCode::from(2);
     };
-    let Some(product) = product(&options) else {
-        eprintln!("No other program is linked. Build with STRAGUMELLA_LIB, or try --alone.");
-        return ExitCode::from(2);
+    let linked = product(&options);
+    let mut compares = match (&options.through, &linked) {
+        (Some(program), _) => match side_by_side(program) {
+            Ok(compares) => compares,
+            Err(error) => {
+                eprintln!("Nothing is compared: {} does not answer: {error}", program.display());
+                return ExitCode::from(2);
+            }
+        },
+        (None, Some(product)) => vec![Compare::new(product.as_ref())],
+        (None, None) => {
+            eprintln!("No other program is linked. Build with STRAGUMELLA_LIB, or try --through or --alone.");
+            return ExitCode::from(2);
+        }
     };
-    let mut compare = Compare::new(product.as_ref());
-    compare.before = options.before.clone();
-    let result = parts(&mut compare, &options);
-    print_reached(&compare);
+    compares[0].before = options.before.clone();
+    if options.sparing {
+        println!("Left out: three of four further calls about each file (other buffers, sums).");
+        for (number, compare) in compares.iter_mut().enumerate() {
+            compare.sparing = Some(Random::new(number as u64));
+        }
+    }
+    let result = parts(&mut compares, &options).and_then(|()| each(&mut compares, |compare| compare.end()));
+    let reached = reached(&compares);
+    print_reached(&reached);
     match result {
-        Ok(()) if options.parts == ALL && !every_number(&compare) => {
+        Ok(()) if options.parts == ALL && !every_number(&reached) => {
             println!("A number was not reached.");
             ExitCode::from(1)
         }
@@ -92,38 +122,54 @@ fn main() -> ExitCode {
     }
 }
 
-fn parts(compare: &mut Compare, options: &Options) -> Result<(), Disagreement> {
+/// One answering program for each processor.
+fn side_by_side(program: &Path) -> io::Result<Vec<Compare<'static>>> {
+    let shares = available_parallelism()?.get() as u64;
+    (0..shares).map(|number| Ok(Compare::through(Pipe::start(&mut Command::new(program))?, number, shares))).collect()
+}
+
+/// Runs a part in all comparisons at the same time.
+fn each(compares: &mut [Compare], part: impl Fn(&mut Compare) -> Agreed + Sync) -> Agreed {
+    scope(|scope| {
+        let part = &part;
+        let threads: Vec<_> = compares.iter_mut().map(|compare| scope.spawn(move || part(compare))).collect();
+        threads.into_iter().try_for_each(|thread| thread.join().expect("a comparison returns"))
+    })
+}
+
+fn parts(compares: &mut [Compare], options: &Options) -> Agreed {
     let start = Instant::now();
-    let told = |compare: &Compare, part: &str| {
-        println!("{part}: {} files so far, {} seconds", compare.files, start.elapsed().as_secs());
+    let told = |compares: &[Compare], part: &str| {
+        let files: u64 = compares.iter().map(|compare| compare.files).sum();
+        println!("{part}: {files} files so far, {} seconds", start.elapsed().as_secs());
     };
     let runs = |part| options.parts.contains(part);
     let few = |quick, slow| if options.quick { quick } else { slow };
     if runs('5') {
-        positions(compare)?;
-        told(compare, "positions");
+        each(compares, positions)?;
+        told(compares, "positions");
     }
     if runs('1') {
-        one_byte_changes(compare)?;
-        told(compare, "every one-byte change of sheet S");
+        each(compares, one_byte_changes)?;
+        told(compares, "every one-byte change of sheet S");
     }
     if runs('2') {
-        every_field(compare, options.seed..options.seed + few(2, 40))?;
-        told(compare, "every field, each interesting value");
+        each(compares, |compare| every_field(compare, options.seed..options.seed + few(2, 40)))?;
+        told(compares, "every field, each interesting value");
     }
     for path in sheet_paths(options).into_iter().filter(|_| runs('4')) {
         let sheet = std::fs::read(&path).expect("a sheet can be read");
-        outside_sheet(compare, &sheet, few(50, 1000) as usize)?;
-        told(compare, &path.display().to_string());
+        each(compares, |compare| outside_sheet(compare, &sheet, few(50, 1000) as usize))?;
+        told(compares, &path.display().to_string());
     }
     if runs('3') {
-        odd_values(compare, options.seed, few(20_000, 200_000) as usize)?;
-        damages(compare, options.seed, options.damages)?;
-        told(compare, "damages of generated sheets");
+        each(compares, |compare| odd_values(compare, options.seed, few(20_000, 200_000) as usize))?;
+        each(compares, |compare| damages(compare, options.seed, options.damages))?;
+        told(compares, "damages of generated sheets");
     }
     if options.large {
-        large(compare)?;
-        told(compare, "large files");
+        each(compares, large)?;
+        told(compares, "large files");
     }
     Ok(())
 }
@@ -140,11 +186,18 @@ fn sheet_paths(options: &Options) -> Vec<PathBuf> {
     paths
 }
 
-fn print_reached(compare: &Compare) {
+/// How often each number was the answer of each call, in all comparisons.
+fn reached(compares: &[Compare]) -> [[u64; 23]; 5] {
+    std::array::from_fn(|call| {
+        std::array::from_fn(|number| compares.iter().map(|compare| compare.reached[call][number]).sum())
+    })
+}
+
+fn print_reached(reached: &[[u64; 23]; 5]) {
     println!("number      judge       sums     reader     writer   position");
     for number in 0..=22 {
         print!("{number:6}");
-        for call in compare.reached {
+        for call in reached {
             print!(" {:10}", call[number]);
         }
         println!();
@@ -152,8 +205,8 @@ fn print_reached(compare: &Compare) {
 }
 
 /// Acceptance and every refusal was the answer of some call.
-fn every_number(compare: &Compare) -> bool {
-    (0..=22).all(|number| compare.reached.iter().any(|call| call[number] > 0))
+fn every_number(reached: &[[u64; 23]; 5]) -> bool {
+    (0..=22).all(|number| reached.iter().any(|call| call[number] > 0))
 }
 
 fn tell(disagreement: &Disagreement, options: &Options) {
