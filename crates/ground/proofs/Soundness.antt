@@ -68,7 +68,7 @@ an-h (Coordinates left) h = absurd (false≢true h)
 an-h (due.Area layer last) h = absurd (false≢true h)
 an-h (due.Loop last count left) h = absurd (false≢true h)
 
--- "H lines at most 9999"
+-- RULES 4.2: the lines of an H are at most 9999
 lines-limit : (file : List ℕ) → firstBroken (stageTwo file) ≡ Fine → (i : ℕ) → i < countsAt file (recordsOf file) .layers → layerOf file i .lines ≤ 9999
 lines-limit file f i l =
     let q = row-laid file i l in
