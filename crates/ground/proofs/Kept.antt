@@ -19,7 +19,7 @@ use Rattle.rules.specs.Permitted.{size, within}
 use Rattle.walk.specs.States.{dueOf, stateAt}
 use Rattle.walk.specs.Stages.{recordsOf, stageTwo}
 use Rattle.walk.specs.Table.{tableOf}
-use Rattle.walk.proofs.Judging.{two-holds, ended}
+use Rattle.walk.proofs.Judging.{ended}
 use Rattle.layers.specs.declared.Layer as layers
 use Rattle.layers.specs.Naming.{layerIn, names, namesLine, lineOf, areaOf}
 use Rattle.layers.specs.Passing.{layerAt, basesIn, layerOf}

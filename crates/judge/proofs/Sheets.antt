@@ -13,7 +13,6 @@ use Rattle.records.specs.Reading.{faultOf}
 use Rattle.records.specs.Writing.{fieldText, textOf, lineOf}
 use Rattle.records.specs.View.{recordOf, numberIn}
 use Rattle.verdict.specs.declared.Verdict.{Verdict}
-use Rattle.verdict.specs.declared.Verdict.the-variants.{Fine, Broken}
 use Rattle.verdict.specs.Rules.{firstBroken, block, rows, spread}
 use Rattle.rules.specs.Permitted.{within, isMeshCode, followsMesh, isLayerCode, followsLayer, isDate, isNodeItem, isFrame, isLineItem, isLineKind, isLink, isCode, isSide, isAreaCode, isSlot, isPoint, isNext, isLoopSerial}
 use Rattle.rules.specs.Asks.{from, meshAsks, layerAsks, nodeAsks, lineAsks, coordinateAsks, areaAsks, loopAsks, asksOf, askedOf}
