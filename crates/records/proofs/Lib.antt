@@ -6,3 +6,4 @@ pub mod Along
 pub mod Numbers
 pub mod Unused
 pub mod Lines
+pub mod Named

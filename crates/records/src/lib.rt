@@ -15,6 +15,7 @@ ghost use Rattle.records.specs.Layout.{meshLayout, layerLayout, nodeLayo
 ghost use Rattle.records.specs.Reading.{lettersFault, accepted, refusedAt, fieldsOf, readingOf};
 ghost use Rattle.records.specs.Writing.{noNumbers, noBytes, SpelledAs, Written};
 ghost use Rattle.records.specs.View.{recordOf, numberIn};
+ghost use Rattle.records.specs.Columns.{slotIn};
 
 // The seven kinds: M, H, N, L, coordinates, A and loop.
 pub enum Kind {
@@ -36,6 +37,87 @@ pub enum Field {
     Name(usize, usize),
     Blank(usize, usize),
 }
+
+// The columns of a field: the first one, and how many.
+pub struct Columns(pub usize, pub usize);
+
+// A row of slots of width 5: the first one's column, how many columns one starts behind the other, and how
+// many there are.
+pub struct Slots(pub u8, pub u8, pub u8);
+
+// ---- the number fields that are read alone, by name (RULES 4.1 to 4.7)
+
+pub const MESH_CODE: Columns = Columns(3, 6);
+
+pub const MESH_LAYERS: Columns = Columns(29, 3);
+
+pub const MESH_NODES: Columns = Columns(32, 5);
+
+pub const MESH_LINES: Columns = Columns(37, 5);
+
+pub const MESH_AREAS: Columns = Columns(42, 5);
+
+pub const MESH_RECORDS: Columns = Columns(52, 5);
+
+pub const LAYER_CODE: Columns = Columns(3, 2);
+
+pub const LAYER_NODES: Columns = Columns(5, 5);
+
+pub const LAYER_LINES: Columns = Columns(10, 5);
+
+pub const LAYER_AREAS: Columns = Columns(15, 5);
+
+pub const LAYER_RECORDS: Columns = Columns(25, 5);
+
+pub const NODE_SERIAL: Columns = Columns(7, 5);
+
+pub const NODE_X: Columns = Columns(12, 5);
+
+pub const NODE_Y: Columns = Columns(17, 5);
+
+pub const NODE_FRAME: Columns = Columns(22, 2);
+
+pub const LINE_SERIAL: Columns = Columns(7, 5);
+
+pub const START_NODE: Columns = Columns(18, 5);
+
+pub const START_LINK: Columns = Columns(23, 1);
+
+pub const END_NODE: Columns = Columns(24, 5);
+
+pub const END_LINK: Columns = Columns(29, 1);
+
+pub const LEFT_CODE: Columns = Columns(30, 5);
+
+pub const LEFT_AREA: Columns = Columns(35, 5);
+
+pub const RIGHT_CODE: Columns = Columns(40, 5);
+
+pub const RIGHT_AREA: Columns = Columns(45, 5);
+
+pub const LINE_POINTS: Columns = Columns(50, 6);
+
+pub const AREA_CODE: Columns = Columns(5, 5);
+
+pub const AREA_SERIAL: Columns = Columns(10, 5);
+
+pub const AREA_LOOPS: Columns = Columns(25, 4);
+
+pub const AREA_LINES: Columns = Columns(29, 4);
+
+pub const LOOP_SERIAL: Columns = Columns(1, 5);
+
+pub const LOOP_COUNT: Columns = Columns(6, 4);
+
+pub const NODE_ENTRIES: Slots = Slots(26, 5, 9);
+
+pub const POINTS_X: Slots = Slots(1, 10, 7);
+
+pub const POINTS_Y: Slots = Slots(6, 10, 7);
+
+pub const LOOP_ENTRIES: Slots = Slots(10, 5, 12);
+
+pub const SLOT_WIDTH: usize = 5;
 
 // A record's value (RULES 4.8): its kind, its numbers in column order and its name bytes. What the
 // kind lacks is 0.
@@ -457,7 +539,7 @@ pub fn record_view(file: &[u8], k: usize) -> &[u8]
 
 // The number in the `width` columns from `column` on of record `k` of a file, and 0 where there is
 // none. Its bytes are taken from the file and not from the record's view, for speed alone.
-pub fn number_at(file: &[u8], k: usize, column: usize, width: usize) -> i32
+fn number_at(file: &[u8], k: usize, column: usize, width: usize) -> i32
     ensures { λ r. ⌜ r ≡ numberIn (now (file .entry)) k column width ⌝ }
 {
     if k == 0 {
@@ -477,4 +559,24 @@ pub fn number_at(file: &[u8], k: usize, column: usize, width: usize) -> i32
     }
     let at = k * 74 - 74 + (column - 1);
     fields::value_of(&file[at..at + width])
+}
+
+// The number in these columns of record `k` of a file, and 0 where there is none.
+pub fn value_at(file: &[u8], k: usize, c: Columns) -> i32
+    ensures { λ r. ⌜ r ≡ numberIn (now (file .entry)) k (c .0) (c .1) ⌝ }
+{
+    number_at(file, k, c.0, c.1)
+}
+
+// The number in slot `i` of a row of record `k` of a file, counted from 0, and 0 where there is none.
+pub fn slot_at(file: &[u8], k: usize, row: Slots, i: usize) -> i32
+    ensures { λ r. ⌜ r ≡ slotIn (now (file .entry)) k (row .0) (row .1) (row .2) i ⌝ }
+{
+    let start = row.0 as usize;
+    let step = row.1 as usize;
+    let count = row.2 as usize;
+    if count <= i {
+        return 0;
+    }
+    number_at(file, k, start + step * i, SLOT_WIDTH)
 }
