@@ -13,7 +13,7 @@ use Rattle.verdict.specs.declared.Verdict.{Verdict}
 use Rattle.verdict.specs.declared.Verdict.the-variants.{Fine, Broken}
 use Rattle.verdict.specs.Rules.{Rule, check, toldOf}
 use Rattle.verdict.specs.Order.{In, Answer, Sorted}
-use Rattle.verdict.proofs.Orders.{answers, only, block-sorted, block-in, UpTo, Of, stage-sorted, stage-up}
+use Rattle.verdict.proofs.Orders.{answers, only, block-sorted, block-in, UpTo, Of, turn-sorted, turn-up}
 use Rattle.verdict.proofs.Numbers.{unlike, between-unlike, Numbered, block-numbered, append-numbered, not-told}
 use Rattle.walk.specs.declared.Counts.{Counts}
 use Rattle.walk.specs.States.{countsAt}
@@ -43,7 +43,7 @@ record Turns (s : ℕ) (rs : List Rule) : Type 0 where
 
 -- one turn more
 turn : (s u : ℕ) (xs ys : List Rule) → s < u → Turns s xs → Of u ys → Sorted ys → Turns u (xs ++ ys)
-turn s u xs ys l t g q = record { up = stage-up s u xs ys (omega (arith, l)) (t .up) g; sorted = stage-sorted s u xs ys l (t .up) g (t .sorted) q }
+turn s u xs ys l t g q = record { up = turn-up s u xs ys (omega (arith, l)) (t .up) g; sorted = turn-sorted s u xs ys l (t .up) g (t .sorted) q }
 
 five-parts : {A : Type 0} (e a b c d : List A) → (((e ++ a) ++ b) ++ c) ++ d ≡ e ++ (a ++ (b ++ (c ++ d)))
 five-parts e a b c d = append-assoc ((e ++ a) ++ b) c d ∙ append-assoc (e ++ a) b (c ++ d) ∙ append-assoc e a (b ++ (c ++ d))

@@ -101,19 +101,19 @@ sorted-append (a ∷ xs) ys p q h = (
   sorted-append xs ys (p .1) q (λ x b i j. h x b (inr i) j),
 )
 
-earlier-stage : (a b : Rule) → a .stage < b .stage → before (placeOf a) (placeOf b) ≡ true
-earlier-stage a b l = rw (lt-ltb (a .stage) (b .stage) l)
+earlier-turn : (a b : Rule) → a .turn < b .turn → before (placeOf a) (placeOf b) ≡ true
+earlier-turn a b l = rw (lt-ltb (a .turn) (b .turn) l)
 
-pub earlier-row : (a b : Rule) → a .stage ≡ b .stage → a .row < b .row → before (placeOf a) (placeOf b) ≡ true
-earlier-row a b e l = rw (le-ltb (a .stage) (b .stage) (omega arith), eq-eqb (a .stage) (b .stage) e, lt-ltb (a .row) (b .row) l)
+pub earlier-row : (a b : Rule) → a .turn ≡ b .turn → a .row < b .row → before (placeOf a) (placeOf b) ≡ true
+earlier-row a b e l = rw (le-ltb (a .turn) (b .turn) (omega arith), eq-eqb (a .turn) (b .turn) e, lt-ltb (a .row) (b .row) l)
 
 self : (x : ℕ) (t : Bool) → (ltb x x || (eqb x x && t)) ≡ t
 self x t = rw (le-ltb x x (omega arith), eq-eqb x x refl)
 
-pub block-in : (s r : ℕ) (cs : List Check) (x : Rule) → In x (block s r cs) → (x .stage ≡ s) × (x .row ≡ r)
+pub block-in : (s r : ℕ) (cs : List Check) (x : Rule) → In x (block s r cs) → (x .turn ≡ s) × (x .row ≡ r)
 unfolding block
 block-in s r [] x i = absurd i
-block-in s r (c ∷ cs) x i = ⊎-elim (λ e. (ap (λ (y : Rule). y .stage) e, ap (λ (y : Rule). y .row) e)) (λ j. block-in s r cs x j) i
+block-in s r (c ∷ cs) x i = ⊎-elim (λ e. (ap (λ (y : Rule). y .turn) e, ap (λ (y : Rule). y .row) e)) (λ j. block-in s r cs x j) i
 
 block-ahead : (s r : ℕ) (a : Check) (cs : List Check) → aheadOf a cs ≡ true → Ahead (ruleOf s r a) (block s r cs)
 unfolding block
@@ -130,7 +130,7 @@ block-sorted s r (a ∷ cs) h = (block-ahead s r a cs (and-both (aheadOf a cs) (
 
 -- the checks g k of each record, counted from 0, in a row
 module _ (s : ℕ) (g : ℕ → List Check) where
-  pub rows-in : (n : ℕ) (x : Rule) → In x (rows n (λ k. block s (k + 1) (g k))) → (x .stage ≡ s) × (x .row ≤ n)
+  pub rows-in : (n : ℕ) (x : Rule) → In x (rows n (λ k. block s (k + 1) (g k))) → (x .turn ≡ s) × (x .row ≤ n)
   unfolding rows
   rows-in zero x i = absurd i
   rows-in (suc n) x i =
@@ -146,18 +146,18 @@ module _ (s : ℕ) (g : ℕ → List Check) where
       sorted-append (rows n (λ k. block s (k + 1) (g k))) (block s (n + 1) (g n)) (rows-sorted n h) (block-sorted s (n + 1) (g n) (h n))
       (λ a b i j. let p = rows-in n a i in let q = block-in s (n + 1) (g n) b j in earlier-row a b (p .0 ∙ sym (q .0)) (omega (arith, p .1, q .1)))
 
--- ---- stages in a row
+-- ---- turns in a row
 
--- every rule of the list is of stage s, or of a stage before it
+-- every rule of the list is of turn s, or of a turn before it
 abbrev pub UpTo : ℕ → List Rule → Type 0
-UpTo s rs = (a : Rule) → In a rs → a .stage ≤ s
+UpTo s rs = (a : Rule) → In a rs → a .turn ≤ s
 
 abbrev pub Of : ℕ → List Rule → Type 0
-Of s rs = (a : Rule) → In a rs → a .stage ≡ s
+Of s rs = (a : Rule) → In a rs → a .turn ≡ s
 
--- one stage more
-pub stage-sorted : (s t : ℕ) (xs ys : List Rule) → s < t → UpTo s xs → Of t ys → Sorted xs → Sorted ys → Sorted (xs ++ ys)
-stage-sorted s t xs ys l f g p q = sorted-append xs ys p q (λ a b i j. earlier-stage a b (omega (arith, f a i, g b j)))
+-- one turn more
+pub turn-sorted : (s t : ℕ) (xs ys : List Rule) → s < t → UpTo s xs → Of t ys → Sorted xs → Sorted ys → Sorted (xs ++ ys)
+turn-sorted s t xs ys l f g p q = sorted-append xs ys p q (λ a b i j. earlier-turn a b (omega (arith, f a i, g b j)))
 
-pub stage-up : (s t : ℕ) (xs ys : List Rule) → s ≤ t → UpTo s xs → Of t ys → UpTo t (xs ++ ys)
-stage-up s t xs ys l f g a i = ⊎-elim (λ j. omega (arith, f a j)) (λ j. omega (arith, g a j)) (in-append a xs ys i)
+pub turn-up : (s t : ℕ) (xs ys : List Rule) → s ≤ t → UpTo s xs → Of t ys → UpTo t (xs ++ ys)
+turn-up s t xs ys l f g a i = ⊎-elim (λ j. omega (arith, f a j)) (λ j. omega (arith, g a j)) (in-append a xs ys i)

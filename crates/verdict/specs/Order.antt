@@ -14,9 +14,9 @@ use Rattle.verdict.specs.declared.Verdict.{Verdict}
 use Rattle.verdict.specs.declared.Verdict.the-variants.{Fine, Broken}
 use Rattle.verdict.specs.Rules.{Rule, Check, brokenAt}
 
--- RULES 6.1: by stage, then record, then column, then number
+-- RULES 6.1: by turn, then record, then column, then number
 abbrev pub placeOf : Rule → List ℕ
-placeOf r = r .stage ∷ r .row ∷ r .column ∷ r .number ∷ []
+placeOf r = r .turn ∷ r .row ∷ r .column ∷ r .number ∷ []
 
 abbrev pub before : List ℕ → List ℕ → Bool
 before [] [] = false

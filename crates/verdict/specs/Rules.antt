@@ -1,8 +1,8 @@
 -- Rules and the first broken one (RULES 6.1). Assumes nothing.
---   Check, Rule         one rule of a record; the same with its stage and record
+--   Check, Rule         one rule of a record; the same with its turn and record
 --   firstBroken rs      the first broken rule of the list rs, or Fine
 --   isFine v            the verdict v is Fine
---   block s r cs        the checks cs as rules of stage s at record r
+--   block s r cs        the checks cs as rules of turn s at record r
 --   rows n g            the lists g 0, g 1, .., g (n - 1), one after the other
 --   spread n g          the checks g 0, g 1, .., g (n - 1), one after the other
 --   toldOf v            the verdict v by the numbers of RULES 6.2
@@ -13,9 +13,10 @@ use Rattle.verdict.specs.declared.Verdict.{Verdict}
 use Rattle.verdict.specs.declared.Verdict.the-variants.{Fine, Broken}
 use Rattle.verdict.specs.declared.Told.{Told}
 
--- a rule at one place: its stage, record, column and number, and whether the file keeps it
+-- a rule at one place: its turn, at which it is judged, its record, column and number, and whether the file keeps it. Stages 1 and 2 have
+-- turns 1 and 2, refusal 9 has turn 3, stages 3 to 6 have turns 4 to 7, and what a call asks behind them has turn 8
 pub record Rule : Type 0 where
-  pub stage : ℕ
+  pub turn : ℕ
   pub row : ℕ
   pub column : ℕ
   pub number : ℕ
@@ -44,7 +45,7 @@ abbrev pub check : ℕ → ℕ → Bool → Check
 check c n b = record { column = c; number = n; holds = b }
 
 abbrev pub ruleOf : ℕ → ℕ → Check → Rule
-ruleOf s r c = record { stage = s; row = r; column = c .column; number = c .number; holds = c .holds }
+ruleOf s r c = record { turn = s; row = r; column = c .column; number = c .number; holds = c .holds }
 
 unfoldable pub block : ℕ → ℕ → List Check → List Rule
 block s r [] = []

@@ -10,7 +10,7 @@ use lib.ListN.{length}
 use Rattle.verdict.specs.Rules.{Check, check, block, rows}
 use Rattle.verdict.specs.Order.{Sorted, rising}
 use Rattle.verdict.proofs.Numbers.{upTo8, upTo9, between-wider, numbered, Numbered, block-numbered, append-numbered, rows-numbered}
-use Rattle.verdict.proofs.Orders.{UpTo, Of, stage-sorted, stage-up, in-append, sorted-append, earlier-row, block-in, block-sorted, rows-in, rows-sorted}
+use Rattle.verdict.proofs.Orders.{UpTo, Of, turn-sorted, turn-up, in-append, sorted-append, earlier-row, block-in, block-sorted, rows-in, rows-sorted}
 use Rattle.records.specs.View.{recordOf}
 use Rattle.rules.specs.declared.Due.{Due}
 use Rattle.rules.specs.Checks.{checksOf}
@@ -119,16 +119,16 @@ early-numbered file room =
 pub early-sorted : (file : List ℕ) (room : ℕ) → Sorted (early file room)
 unfolding early roomRule
 early-sorted file room =
-    stage-sorted 2 third (stageOne file ++ stageTwo file) (roomRule file room) (lit< tt)
-    (stage-up 1 2 (stageOne file) (stageTwo file) (lit≤ tt) (λ a i. omega (arith, one-of file a i)) (two-of file))
+    turn-sorted 2 third (stageOne file ++ stageTwo file) (roomRule file room) (lit< tt)
+    (turn-up 1 2 (stageOne file) (stageTwo file) (lit≤ tt) (λ a i. omega (arith, one-of file a i)) (two-of file))
     (λ a i. block-in third 0 (check 0 9 (leb (wordsOf file) room) ∷ []) a i .0)
-    (stage-sorted 1 2 (stageOne file) (stageTwo file) (lit< tt) (λ a i. omega (arith, one-of file a i)) (two-of file) (one-sorted file) (two-sorted file))
+    (turn-sorted 1 2 (stageOne file) (stageTwo file) (lit< tt) (λ a i. omega (arith, one-of file a i)) (two-of file) (one-sorted file) (two-sorted file))
     (block-sorted third 0 (check 0 9 (leb (wordsOf file) room) ∷ []) refl)
 
 -- all are of the third turn or before
 pub early-up : (file : List ℕ) (room : ℕ) → UpTo third (early file room)
 unfolding early roomRule
 early-up file room =
-    stage-up 2 third (stageOne file ++ stageTwo file) (roomRule file room) (lit≤ tt)
-    (stage-up 1 2 (stageOne file) (stageTwo file) (lit≤ tt) (λ a i. omega (arith, one-of file a i)) (two-of file))
+    turn-up 2 third (stageOne file ++ stageTwo file) (roomRule file room) (lit≤ tt)
+    (turn-up 1 2 (stageOne file) (stageTwo file) (lit≤ tt) (λ a i. omega (arith, one-of file a i)) (two-of file))
     (λ a i. block-in third 0 (check 0 9 (leb (wordsOf file) room) ∷ []) a i .0)
