@@ -9,6 +9,7 @@ use native.Mathlib.Omega.{arith}
 use lib.Dec.{leb, eqb}
 use borrow.Author.Tests.{le-leb, lt-leb, eq-eqb, ne-eqb}
 use Rattle.records.specs.View.{recordOf}
+use Rattle.records.specs.Columns.{layerRecords, areaLines}
 use Rattle.verdict.specs.declared.Verdict.{Verdict}
 use Rattle.verdict.specs.declared.Verdict.the-variants.{Fine, Broken}
 use Rattle.verdict.specs.Rules.{Rule, Check, check, firstBroken, block, rows}
@@ -19,13 +20,13 @@ use Rattle.verdict.proofs.Orders.{Of, rows-sorted, rows-in}
 use Rattle.rules.specs.declared.Due.{Due}
 use Rattle.rules.specs.declared.Due.the-variants.{Mesh, Layer, Node, Line, Coordinates, Area, Loop}
 use Rattle.walk.specs.declared.State.{State}
-use Rattle.walk.specs.States.{sizeIn, dueOf, stateAt}
+use Rattle.walk.specs.States.{dueOf, stateAt}
 use Rattle.walk.specs.Stages.{recordsOf}
 use Rattle.walk.specs.Quiet.{isQuiet, Quiet}
 use Rattle.walk.proofs.Walking.{size-small}
 use Rattle.walk.proofs.Passing.{by-quiet, quiet-is, passed-due, passed-rows}
 use Rattle.totals.specs.declared.Sums.{Sums}
-use Rattle.totals.specs.Totals.{rankOf, noSums, oneMore, addedFor, sumsFrom, sumsBehind, meshTotals, layerTotals, areaTotals, totalChecks, fourth, stageThree}
+use Rattle.totals.specs.Totals.{rankOf, noSums, oneMore, addedFor, sumsFrom, sumsBehind, withBearer, totalCheck, meshTotals, layerTotals, areaTotals, totalChecks, fourth, stageThree}
 use Rattle.totals.specs.Adding.{Addable}
 
 -- ---- sums stay small
@@ -137,13 +138,13 @@ module _ (r : ℕ) (file : List ℕ) where
 
 -- ---- totals
 
--- a total x, read as m, against the count y, in front of other checks
-module _ (r c x y : ℕ) {m : ℕ} (e : m ≡ x) (cs : List Check) where
-  pub total-broken : (m ≡ y → ⊥) → Broken 10 r c ≡ firstBroken (block fourth r (check c 10 (eqb x y) ∷ cs))
-  total-broken h = sym (check-broken fourth r c 10 (eqb x y) cs (rw (← e) (ne-eqb m y h)))
+-- a total x, read as m, against the count y
+module _ (r c x y : ℕ) {m : ℕ} (e : m ≡ x) where
+  pub total-broken : (m ≡ y → ⊥) → Broken 10 r c ≡ firstBroken (block fourth r (check c 10 (eqb x y) ∷ []))
+  total-broken h = sym (check-broken fourth r c 10 (eqb x y) [] (rw (← e) (ne-eqb m y h)))
 
-  pub total-kept : {v : Verdict} → m ≡ y → v ≡ firstBroken (block fourth r cs) → v ≡ firstBroken (block fourth r (check c 10 (eqb x y) ∷ cs))
-  total-kept h q = q ∙ sym (check-kept fourth r c 10 (eqb x y) cs (rw (← e) (eq-eqb m y h)))
+  pub total-kept : m ≡ y → Fine ≡ firstBroken (block fourth r (check c 10 (eqb x y) ∷ []))
+  total-kept h = check-none fourth r ∙ sym (check-kept fourth r c 10 (eqb x y) [] (rw (← e) (eq-eqb m y h)))
 
 -- a later record of a loop adds no line count
 pub later-loop : (a b left : ℕ) (s : Sums) (t : List ℕ) → (left ≡ 0 → ⊥) → oneMore s ≡ addedFor (Loop a b left) s t
@@ -157,15 +158,15 @@ module _ (file : List ℕ) (k : ℕ) {d : Due} {t : List ℕ} {s : Sums} {v : Ve
       → v ≡ firstBroken (block fourth (k + 1) (meshTotals t s)) → v ≡ firstBroken (block fourth (k + 1) (totalChecks d file k))
   mesh-arm e f g h = rw (e, ← f, ← g) h
 
-  pub layer-arm : {last x : ℕ} → d ≡ Layer last → t ≡ recordOf file (k + 1) → s ≡ sumsBehind 1 file (k + 1) → x ≡ sizeIn t 25 5
-      → v ≡ firstBroken (block fourth (k + 1) (check 25 10 (eqb x (s .records + 1)) ∷ [])) → v ≡ firstBroken (block fourth (k + 1) (totalChecks d file k))
+  pub layer-arm : {last n : ℕ} → d ≡ Layer last → t ≡ recordOf file (k + 1) → s ≡ sumsBehind 1 file (k + 1) → n ≡ withBearer (s .records)
+      → v ≡ firstBroken (block fourth (k + 1) (totalCheck t layerRecords n ∷ [])) → v ≡ firstBroken (block fourth (k + 1) (totalChecks d file k))
   unfolding layerTotals
   layer-arm e f g q h = rw (e, ← f, ← g, ← q) h
 
-  pub area-arm : {layer last x : ℕ} → d ≡ Area layer last → t ≡ recordOf file (k + 1) → s ≡ sumsBehind 2 file (k + 1) → x ≡ sizeIn t 29 4
-      → v ≡ firstBroken (block fourth (k + 1) (check 29 10 (eqb x (s .entries)) ∷ [])) → v ≡ firstBroken (block fourth (k + 1) (totalChecks d file k))
+  pub area-arm : {layer last : ℕ} → d ≡ Area layer last → t ≡ recordOf file (k + 1) → s ≡ sumsBehind 2 file (k + 1)
+      → v ≡ firstBroken (block fourth (k + 1) (totalCheck t areaLines (s .entries) ∷ [])) → v ≡ firstBroken (block fourth (k + 1) (totalChecks d file k))
   unfolding areaTotals
-  area-arm e f g q h = rw (e, ← f, ← g, ← q) h
+  area-arm e f g h = rw (e, ← f, ← g) h
 
 -- ---- the loop over all records
 

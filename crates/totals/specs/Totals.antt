@@ -10,10 +10,11 @@ use mathlib.Core.List.{List, [], _∷_}
 use Prim.Native.Nat.{ℕ, zero, suc, _+_, _-_}
 use lib.Dec.{leb, eqb}
 use Rattle.records.specs.View.{recordOf}
+use Rattle.records.specs.Columns.{Column, columnOf, meshNodes, meshLines, meshAreas, meshRecords, layerNodes, layerLines, layerAreas, layerRecords, areaLines, loopCount}
 use Rattle.verdict.specs.Rules.{Rule, Check, check, block, rows}
 use Rattle.rules.specs.declared.Due.{Due}
 use Rattle.rules.specs.declared.Due.the-variants.{Mesh, Layer, Node, Line, Coordinates, Area, Loop}
-use Rattle.walk.specs.States.{sizeIn, dueOf, stateAt}
+use Rattle.walk.specs.States.{sizeAt, dueOf, stateAt}
 use Rattle.walk.specs.Stages.{recordsOf}
 use Rattle.totals.specs.declared.Sums.{Sums}
 
@@ -35,19 +36,19 @@ noSums = record { records = 0; nodes = 0; lines = 0; areas = 0; entries = 0 }
 abbrev pub oneMore : Sums → Sums
 oneMore s = record { records = s .records + 1; nodes = s .nodes; lines = s .lines; areas = s .areas; entries = s .entries }
 
--- RULES 4.2: an H, with its totals: nodes 5-9, lines 10-14, areas 15-19
+-- RULES 4.2: an H, with its totals
 abbrev pub layerMore : Sums → List ℕ → Sums
 layerMore s t = record {
   records = s .records + 1;
-  nodes = s .nodes + sizeIn t 5 5;
-  lines = s .lines + sizeIn t 10 5;
-  areas = s .areas + sizeIn t 15 5;
+  nodes = s .nodes + sizeAt t layerNodes;
+  lines = s .lines + sizeAt t layerLines;
+  areas = s .areas + sizeAt t layerAreas;
   entries = s .entries;
 }
 
--- RULES 4.7: a loop's first record, with its line count, 6-9
+-- RULES 4.7: a loop's first record, with its line count
 abbrev pub loopMore : Sums → List ℕ → Sums
-loopMore s t = record { records = s .records + 1; nodes = s .nodes; lines = s .lines; areas = s .areas; entries = s .entries + sizeIn t 6 4 }
+loopMore s t = record { records = s .records + 1; nodes = s .nodes; lines = s .lines; areas = s .areas; entries = s .entries + sizeAt t loopCount }
 
 abbrev pub addedFor : Due → Sums → List ℕ → Sums
 addedFor (Mesh last) s t = oneMore s
@@ -76,22 +77,26 @@ sumsBehind r file k = sumsFrom r file k (recordsOf file - k) noSums
 abbrev pub withBearer : ℕ → ℕ
 withBearer n = n + 1
 
--- RULES 6.6: M's nodes 32-36, lines 37-41, areas 42-46, records 52-56
+-- RULES 6.6: 10 at a total that is not n, what was counted
+abbrev pub totalCheck : List ℕ → Column → ℕ → Check
+totalCheck t c n = check (columnOf c) 10 (eqb (sizeAt t c) n)
+
+-- RULES 6.6: M's nodes, lines, areas and records
 unfoldable pub meshTotals : List ℕ → Sums → List Check
 meshTotals t s =
-    check 32 10 (eqb (sizeIn t 32 5) (s .nodes))
-    ∷ check 37 10 (eqb (sizeIn t 37 5) (s .lines))
-    ∷ check 42 10 (eqb (sizeIn t 42 5) (s .areas))
-    ∷ check 52 10 (eqb (sizeIn t 52 5) (withBearer (s .records)))
+    totalCheck t meshNodes (s .nodes)
+    ∷ totalCheck t meshLines (s .lines)
+    ∷ totalCheck t meshAreas (s .areas)
+    ∷ totalCheck t meshRecords (withBearer (s .records))
     ∷ []
 
--- RULES 6.6: H's records 25-29
+-- RULES 6.6: H's records
 unfoldable pub layerTotals : List ℕ → Sums → List Check
-layerTotals t s = check 25 10 (eqb (sizeIn t 25 5) (withBearer (s .records))) ∷ []
+layerTotals t s = totalCheck t layerRecords (withBearer (s .records)) ∷ []
 
--- RULES 6.6: A's lines 29-32
+-- RULES 6.6: A's lines
 unfoldable pub areaTotals : List ℕ → Sums → List Check
-areaTotals t s = check 29 10 (eqb (sizeIn t 29 4) (s .entries)) ∷ []
+areaTotals t s = totalCheck t areaLines (s .entries) ∷ []
 
 abbrev pub totalChecks : Due → List ℕ → ℕ → List Check
 totalChecks (Mesh last) file k = meshTotals (recordOf file (k + 1)) (sumsBehind 0 file (k + 1))

@@ -2,16 +2,17 @@
 //
 // The contracts cite `specs/Totals.antt`, which says what follows a record and what its totals have to
 // be.
+use records::Columns;
 use rules::Due;
 use verdict::Verdict;
 use walk::State;
 ghost use mathlib.Core.Path.{_≡_};
 ghost use mathlib.Core.List.{[], _∷_};
-ghost use Prim.Native.Nat.{_+_, _≤_, _<_};
+ghost use Prim.Native.Nat.{_+_, _*_, _≤_, _<_};
 ghost use lib.Dec.{eqb};
 ghost use Rattle.verdict.specs.Rules.{check, firstBroken, block};
-ghost use Rattle.walk.specs.States.{stateAt};
-ghost use Rattle.totals.specs.Totals.{rankOf, noSums, oneMore, layerMore, loopMore, addedFor, sumsBehind, meshTotals, totalChecks, fourth, stageThree};
+ghost use Rattle.walk.specs.States.{sizeIn, stateAt};
+ghost use Rattle.totals.specs.Totals.{rankOf, noSums, oneMore, layerMore, loopMore, addedFor, sumsBehind, withBearer, meshTotals, totalChecks, fourth, stageThree};
 ghost use Rattle.totals.specs.Adding.{Addable};
 
 // What follows a record: how many records, the totals of the H records among them, and the line counts of
@@ -69,9 +70,9 @@ fn layer_more(s: Sums, t: &[u8]) -> Sums
 {
     let mut u = s;
     u.records = s.records + 1;
-    u.nodes = s.nodes + walk::size_in(t, 5, 5);
-    u.lines = s.lines + walk::size_in(t, 10, 5);
-    u.areas = s.areas + walk::size_in(t, 15, 5);
+    u.nodes = s.nodes + walk::size_at(t, records::LAYER_NODES);
+    u.lines = s.lines + walk::size_at(t, records::LAYER_LINES);
+    u.areas = s.areas + walk::size_at(t, records::LAYER_AREAS);
     u
 }
 
@@ -82,7 +83,7 @@ fn loop_more(s: Sums, t: &[u8]) -> Sums
 {
     let mut u = s;
     u.records = s.records + 1;
-    u.entries = s.entries + walk::size_in(t, 6, 4);
+    u.entries = s.entries + walk::size_at(t, records::LOOP_COUNT);
     u
 }
 
@@ -144,17 +145,26 @@ fn sums_behind(rank: usize, file: &[u8], k: usize, s: State) -> Sums
     sums
 }
 
-// A total against what was counted.
-fn judge_total(total: usize, counted: usize, row: u32, column: u32) -> Verdict
-    ensures { λ r. ⌜ r ≡ firstBroken (block fourth row (check column 10 (eqb total counted) ∷ [])) ⌝ }
+// A records total by what follows the record that bears it: it takes that record in.
+fn with_bearer(records: usize) -> usize
+    requires { ⌜ records ≤ 999999 * 6399936 ⌝ }
+    ensures { λ r. ⌜ r ≡ withBearer records ⌝ }
 {
-    if total == counted {
+    records + 1
+}
+
+// The total in the columns `c` of the record `t` against what was counted.
+fn judge_total(t: &[u8], c: Columns, counted: usize, row: u32) -> Verdict
+    requires { ⌜ c .0 ≤ 74 ⌝ }
+    ensures { λ r. ⌜ r ≡ firstBroken (block fourth row (check (c .0) 10 (eqb (sizeIn (now (t .entry)) (c .0) (c .1)) counted) ∷ [])) ⌝ }
+{
+    if walk::size_at(t, c) == counted {
         return Verdict::Fine;
     }
     Verdict::Broken {
         number: 10,
         record: row,
-        column,
+        column: c.0 as u32,
     }
 }
 
@@ -163,28 +173,31 @@ fn judge_mesh(t: &[u8], s: Sums, row: u32) -> Verdict
     requires { ⌜ Addable 6399936 s ⌝ }
     ensures { λ r. ⌜ r ≡ firstBroken (block fourth row (meshTotals (now (t .entry)) s)) ⌝ }
 {
-    if walk::size_in(t, 32, 5) != s.nodes {
-        return Verdict::Broken {
-            number: 10,
-            record: row,
-            column: 32,
-        };
+    let nodes = judge_total(t, records::MESH_NODES, s.nodes, row);
+    if let Verdict::Broken {
+        number: _,
+        record: _,
+        column: _,
+    } = nodes {
+        return nodes;
     }
-    if walk::size_in(t, 37, 5) != s.lines {
-        return Verdict::Broken {
-            number: 10,
-            record: row,
-            column: 37,
-        };
+    let lines = judge_total(t, records::MESH_LINES, s.lines, row);
+    if let Verdict::Broken {
+        number: _,
+        record: _,
+        column: _,
+    } = lines {
+        return lines;
     }
-    if walk::size_in(t, 42, 5) != s.areas {
-        return Verdict::Broken {
-            number: 10,
-            record: row,
-            column: 42,
-        };
+    let areas = judge_total(t, records::MESH_AREAS, s.areas, row);
+    if let Verdict::Broken {
+        number: _,
+        record: _,
+        column: _,
+    } = areas {
+        return areas;
     }
-    judge_total(walk::size_in(t, 52, 5), s.records + 1, row, 52)
+    judge_total(t, records::MESH_RECORDS, with_bearer(s.records), row)
 }
 
 // The totals of record `k + 1`, due as `d`; `next` is the state behind it.
@@ -200,16 +213,16 @@ fn judge_totals(d: Due, file: &[u8], k: usize, next: State) -> Verdict
         }
         Due::Layer(_) => {
             let s = sums_behind(1, file, k + 1, next);
-            let total = walk::size_in(records::record_view(file, k + 1), 25, 5);
-            judge_total(total, s.records + 1, row, 25)
+            let t = records::record_view(file, k + 1);
+            judge_total(t, records::LAYER_RECORDS, with_bearer(s.records), row)
         }
         Due::Node(_, _) => Verdict::Fine,
         Due::Line(_, _) => Verdict::Fine,
         Due::Coordinates(_) => Verdict::Fine,
         Due::Area(_, _) => {
             let s = sums_behind(2, file, k + 1, next);
-            let total = walk::size_in(records::record_view(file, k + 1), 29, 4);
-            judge_total(total, s.entries, row, 29)
+            let t = records::record_view(file, k + 1);
+            judge_total(t, records::AREA_LINES, s.entries, row)
         }
         Due::Loop(_, _, _) => Verdict::Fine,
     }

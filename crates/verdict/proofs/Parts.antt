@@ -3,7 +3,7 @@
 use mathlib.Core.Bool.{Bool, true, false, cond, false≢true}
 use mathlib.Core.List.{List, [], _∷_, _++_}
 use mathlib.Core.Logic.{⊎-elim}
-use mathlib.Core.Path.{_≡_, refl, sym, _∙_}
+use mathlib.Core.Path.{_≡_, refl, sym, _∙_, ap}
 use Prim.Native.Nat.{ℕ, zero, suc, _+_, _<_, _≤_}
 use native.Mathlib.Nat.{add-zero, add-suc, le-of-suc-le-suc, not-suc-le-zero, eq-or-lt-of-le}
 use native.Mathlib.Numerals.{add-one}
@@ -96,6 +96,16 @@ module _ (s r : ℕ) where
   unfolding block
   block-append [] ys = refl
   block-append (x ∷ xs) ys = rw (block-append xs ys)
+
+  module _ (xs ys : List Check) where
+    -- the first checks' verdict v is broken and is returned
+    pub part-stops : {v : Verdict} {a b c : ℕ} → v ≡ Broken a b c → v ≡ firstBroken (block s r xs) → v ≡ firstBroken (block s r (xs ++ ys))
+    part-stops h e = stands (block s r xs) (block s r ys) h e ∙ ap firstBroken (sym (block-append xs ys))
+
+    -- it is fine, and the verdict w of the others is returned
+    pub part-passes : {v w : Verdict} → v ≡ Fine → v ≡ firstBroken (block s r xs) → w ≡ firstBroken (block s r ys)
+        → w ≡ firstBroken (block s r (xs ++ ys))
+    part-passes h e q = goes-on (block s r xs) (block s r ys) h e q ∙ ap firstBroken (sym (block-append xs ys))
 
   -- the checks of slots are judged like rows
   pub spread-rows : (n : ℕ) (g : ℕ → List Check) → block s r (spread n g) ≡ rows n (λ i. block s r (g i))

@@ -13,7 +13,8 @@ use Rattle.rules.specs.declared.Due.{Due}
 use Rattle.rules.specs.declared.Due.the-variants.{Mesh, Layer, Node, Line, Coordinates, Area, Loop}
 use Rattle.walk.specs.declared.State.{State}
 use Rattle.walk.specs.declared.Counts.{Counts}
-use Rattle.walk.specs.States.{dueOf, nextFor, nextOf, stateAt, rowLength, layerWords, countedFor, countsAt}
+use Rattle.walk.specs.Row.{rowLength}
+use Rattle.walk.specs.States.{dueOf, nextFor, nextOf, stateAt, layerWords, countedFor, countsAt}
 use Rattle.walk.specs.Stages.{mayEnd}
 
 pick : {A : Type 0} (P : A → Type 0) (b : Bool) {x y : A} → (b ≡ true → P x) → (b ≡ false → P y) → P (cond b x y)
@@ -22,31 +23,31 @@ pick P false p q = q refl
 
 -- no loop of the area, no line and no area of the layer is left
 pub record Idle (s : State) : Type 0 where
-  pub loops : s .loops ≤ s .begun
-  pub lines : s .lines ≤ s .line
-  pub areas : s .areas ≤ s .area
+  pub loops : s .area .loops ≤ s .area .begun
+  pub lines : s .layer .lines ≤ s .layer .line
+  pub areas : s .layer .areas ≤ s .layer .area
 
 -- a fact of what is due, from each of its cases
 pub by-due : (P : Due → Type 0) (s : State)
-    → (0 < s .points → P (Coordinates (s .points)))
-    → (0 < s .entries → P (Loop (s .begun) (s .count) (s .entries)))
-    → (s .begun < s .loops → P (Loop (s .begun) (s .count) 0))
-    → (s .node < s .nodes → P (Node (s .layer) (s .node)))
-    → (s .line < s .lines → P (Line (s .layer) (s .line)))
-    → (s .loops ≤ s .begun → s .area < s .areas → P (Area (s .layer) (s .area)))
-    → (Idle s → P (Layer (s .layer)))
-    → (Idle s → P (Mesh (s .mesh)))
+    → (0 < s .line .points → P (Coordinates (s .line .points)))
+    → (0 < s .area .entries → P (Loop (s .area .begun) (s .area .count) (s .area .entries)))
+    → (s .area .begun < s .area .loops → P (Loop (s .area .begun) (s .area .count) 0))
+    → (s .layer .node < s .layer .nodes → P (Node (s .layer .code) (s .layer .node)))
+    → (s .layer .line < s .layer .lines → P (Line (s .layer .code) (s .layer .line)))
+    → (s .area .loops ≤ s .area .begun → s .layer .area < s .layer .areas → P (Area (s .layer .code) (s .layer .area)))
+    → (Idle s → P (Layer (s .layer .code)))
+    → (Idle s → P (Mesh (s .mesh .code)))
     → P (dueOf s)
 unfolding dueOf
 by-due P s coordinates further loops node line area layer mesh =
-    pick P (ltb 0 (s .points)) (λ t. coordinates (ltb-true _ _ t)) (λ _.
-    pick P (ltb 0 (s .entries)) (λ t. further (ltb-true _ _ t)) (λ _.
-    pick P (ltb (s .begun) (s .loops)) (λ t. loops (ltb-true _ _ t)) (λ b.
-    pick P (ltb (s .node) (s .nodes)) (λ t. node (ltb-true _ _ t)) (λ _.
-    pick P (ltb (s .line) (s .lines)) (λ t. line (ltb-true _ _ t)) (λ l.
-    pick P (ltb (s .area) (s .areas)) (λ t. area (ltb-false _ _ b) (ltb-true _ _ t)) (λ a.
+    pick P (ltb 0 (s .line .points)) (λ t. coordinates (ltb-true _ _ t)) (λ _.
+    pick P (ltb 0 (s .area .entries)) (λ t. further (ltb-true _ _ t)) (λ _.
+    pick P (ltb (s .area .begun) (s .area .loops)) (λ t. loops (ltb-true _ _ t)) (λ b.
+    pick P (ltb (s .layer .node) (s .layer .nodes)) (λ t. node (ltb-true _ _ t)) (λ _.
+    pick P (ltb (s .layer .line) (s .layer .lines)) (λ t. line (ltb-true _ _ t)) (λ l.
+    pick P (ltb (s .layer .area) (s .layer .areas)) (λ t. area (ltb-false _ _ b) (ltb-true _ _ t)) (λ a.
     let i : Idle s = record { loops = ltb-false _ _ b; lines = ltb-false _ _ l; areas = ltb-false _ _ a } in
-    pick P (ltb 0 (s .layers)) (λ _. layer i) (λ _. mesh i)))))))
+    pick P (ltb 0 (s .mesh .layers)) (λ _. layer i) (λ _. mesh i)))))))
 
 -- ---- counts grow
 
@@ -88,9 +89,9 @@ grown file (suc n) (suc k) l =
 -- ---- what was counted and what is left of the layer are what the H records said
 
 pub record Open (c : Counts) (s : State) : Type 0 where
-  pub lines : s .line ≤ s .lines
-  pub areas : s .area ≤ s .areas
-  pub words : c .words + (s .line + s .area) ≡ rowLength * c .layers + ((c .lines + s .lines) + (c .areas + s .areas))
+  pub lines : s .layer .line ≤ s .layer .lines
+  pub areas : s .layer .area ≤ s .layer .areas
+  pub words : c .words + (s .layer .line + s .layer .area) ≡ rowLength * c .layers + ((c .lines + s .layer .lines) + (c .areas + s .layer .areas))
 
 open-loop : (a b left : ℕ) (c : Counts) (s : State) (t : List ℕ) → Open c s → Open (countedFor (Loop a b left) c t) (nextFor (Loop a b left) s t)
 open-loop a b zero c s t o = record { lines = o .lines; areas = o .areas; words = o .words }
@@ -101,8 +102,8 @@ unfolding layerWords
 open-next c s t o =
     by-due (λ d. Open (countedFor d c t) (nextFor d s t)) s
     (λ _. record { lines = o .lines; areas = o .areas; words = o .words })
-    (λ _. open-loop (s .begun) (s .count) (s .entries) c s t o)
-    (λ _. open-loop (s .begun) (s .count) 0 c s t o)
+    (λ _. open-loop (s .area .begun) (s .area .count) (s .area .entries) c s t o)
+    (λ _. open-loop (s .area .begun) (s .area .count) 0 c s t o)
     (λ _. record { lines = o .lines; areas = o .areas; words = o .words })
     (λ l. record { lines = omega (arith, l); areas = o .areas; words = omega (arith, o .words) })
     (λ _ l. record { lines = o .lines; areas = omega (arith, l); words = omega (arith, o .words) })

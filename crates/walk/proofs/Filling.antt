@@ -13,12 +13,13 @@ use Rattle.rules.specs.declared.Due.{Due}
 use Rattle.rules.specs.declared.Due.the-variants.{Mesh, Layer, Node, Line, Coordinates, Area, Loop}
 use Rattle.walk.specs.declared.State.{State}
 use Rattle.walk.specs.declared.Counts.{Counts}
-use Rattle.walk.specs.States.{dueOf, stateAt, rowLength, countedFor, countsAt}
+use Rattle.walk.specs.Row.{rowLength}
+use Rattle.walk.specs.States.{dueOf, stateAt, countedFor, countsAt}
 use Rattle.walk.specs.Stages.{recordsOf}
 use Rattle.walk.proofs.Dues.{Grown, grown}
 use Rattle.walk.specs.declared.Bases.{Bases}
 use Rattle.walk.specs.Table.{rowWords, lineWords, areaWords, gather, tableOf, filled}
-use Rattle.walk.specs.Storing.{recordWords, placeOf, manyOf, Roomy, Sections}
+use Rattle.walk.specs.Storing.{recordWords, storedAt, manyOf, Roomy, Sections}
 use Rattle.walk.specs.Quiet.{isQuiet, Quiet}
 use Rattle.walk.proofs.Passing.{by-quiet, passed-words}
 use Rattle.walk.proofs.Stores.{sets-left, sets-right, more-filled, filled-length}
@@ -140,7 +141,7 @@ turn : (d : Due) (t : List ℕ) (r : ℕ) (c : Counts) (b : Bases) (xs ys zs o :
     → length xs ≡ rowLength * c .layers → length ys ≡ c .lines → length zs ≡ c .areas
     → rowLength * countedFor d c t .layers ≤ p → countedFor d c t .lines ≤ q → p + q + countedFor d c t .areas ≤ length o
     → b .lines ≡ p → b .areas ≡ p + q
-    → sets (laidOut xs ys zs p q o) (placeOf d c b) (recordWords d t r) ≡ laidOut (xs ++ rowWords d t r) (ys ++ lineWords d t r) (zs ++ areaWords d t r) p q o
+    → sets (laidOut xs ys zs p q o) (storedAt d c b) (recordWords d t r) ≡ laidOut (xs ++ rowWords d t r) (ys ++ lineWords d t r) (zs ++ areaWords d t r) p q o
 turn (Mesh last) t r c b xs ys zs o p q ex ey ez fx fy fz bl ba = rw (append-nil, append-nil, append-nil)
 turn (Layer last) t r c b xs ys zs o p q ex ey ez fx fy fz bl ba =
     put-rows xs ys zs o p q (omega arith) (omega arith) (omega arith) (rowWords (Layer last) t r) (rowLength * c .layers) (sym ex) (omega arith) ∙ rw (append-nil, append-nil)
@@ -155,7 +156,7 @@ turn (Loop last count left) t r c b xs ys zs o p q ex ey ez fx fy fz bl ba = rw 
 room-one : (d : Due) (t : List ℕ) (c : Counts) (b : Bases) (p q n : ℕ)
     → rowLength * countedFor d c t .layers ≤ p → countedFor d c t .lines ≤ q → p + q + countedFor d c t .areas ≤ n
     → b .lines ≡ p → b .areas ≡ p + q
-    → placeOf d c b + manyOf d ≤ n
+    → storedAt d c b + manyOf d ≤ n
 room-one (Mesh last) t c b p q n fx fy fz bl ba = omega arith
 room-one (Layer last) t c b p q n fx fy fz bl ba = omega arith
 room-one (Node layer last) t c b p q n fx fy fz bl ba = omega arith
@@ -225,7 +226,7 @@ module _ (file o : List ℕ) {n : ℕ} {total : Counts} (en : n ≡ recordsOf fi
         record { room = rw (ed, ec, all, m) (room-one (dueOf (stateAt file k)) (recordOf file (suc k)) (countsAt file k) (basesOf (countsAt file n)) p q (length o) (omega (arith, g .layers)) (omega (arith, g .lines)) (omega (arith, g .areas)) refl refl) }
 
     -- and with them the buffer is w
-    pub one-filled : {t w : List ℕ} → t ≡ recordOf file (k + 1) → w ≡ sets v (placeOf d c (basesOf total)) (recordWords d t (k + 1)) → w ≡ filledTo file n (k + 1) o
+    pub one-filled : {t w : List ℕ} → t ≡ recordOf file (k + 1) → w ≡ sets v (storedAt d c (basesOf total)) (recordWords d t (k + 1)) → w ≡ filledTo file n (k + 1) o
     unfolding Sections gather countsAt
     one-filled e h =
         let g = within in

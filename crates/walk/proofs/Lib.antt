@@ -6,6 +6,5 @@ pub mod Dues
 pub mod Stores
 pub mod Filling
 pub mod Tabling
-pub mod Laid
 pub mod Passing
 pub mod Room

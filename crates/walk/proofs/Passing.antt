@@ -31,26 +31,26 @@ no-nodes false = refl
 
 pub passed-none : (s : State) → passed s 0 ≡ s
 passed-none s =
-    let n : s .node + 0 ≡ s .node = omega arith in
-    let p : s .points - 7 * 0 ≡ s .points = omega arith in
+    let n : s .layer .node + 0 ≡ s .layer .node = omega arith in
+    let p : s .line .points - 7 * 0 ≡ s .line .points = omega arith in
     rw (no-nodes, n, p)
 
 -- coordinates, or a node
-one-by : (s : State) (j : ℕ) (t : List ℕ) (b : Bool) → ltb 0 (s .points) ≡ b → nextFor (quietDue s j) (passed s j) t ≡ passed s (suc j)
+one-by : (s : State) (j : ℕ) (t : List ℕ) (b : Bool) → ltb 0 (s .line .points) ≡ b → nextFor (quietDue s j) (passed s j) t ≡ passed s (suc j)
 one-by s j t true e =
-    let p : s .points - 7 * j - 7 ≡ s .points - 7 * suc j = omega arith in
+    let p : s .line .points - 7 * j - 7 ≡ s .line .points - 7 * suc j = omega arith in
     rw (e, p)
 one-by s j t false e =
-    let z = ltb-false 0 (s .points) e in
-    let p : s .points - 7 * j ≡ s .points - 7 * suc j = omega arith in
-    let n : s .node + j + 1 ≡ s .node + suc j = omega arith in
+    let z = ltb-false 0 (s .line .points) e in
+    let p : s .line .points - 7 * j ≡ s .line .points - 7 * suc j = omega arith in
+    let n : s .layer .node + j + 1 ≡ s .layer .node + suc j = omega arith in
     rw (e, p, n)
 
 passed-one : (s : State) (j : ℕ) (t : List ℕ) → dueOf (passed s j) ≡ quietDue s j → nextOf (passed s j) t ≡ passed s (suc j)
 unfolding nextOf
-passed-one s j t e = rw e (one-by s j t (ltb 0 (s .points)) refl)
+passed-one s j t e = rw e (one-by s j t (ltb 0 (s .line .points)) refl)
 
-counted-by : (c : Counts) (s : State) (j : ℕ) (t : List ℕ) (b : Bool) → ltb 0 (s .points) ≡ b → countedFor (quietDue s j) (countedPast c s j) t ≡ countedPast c s (suc j)
+counted-by : (c : Counts) (s : State) (j : ℕ) (t : List ℕ) (b : Bool) → ltb 0 (s .line .points) ≡ b → countedFor (quietDue s j) (countedPast c s j) t ≡ countedPast c s (suc j)
 counted-by c s j t true e = rw e
 counted-by c s j t false e =
     let n : c .nodes + j + 1 ≡ c .nodes + suc j = omega arith in
@@ -62,11 +62,11 @@ counted-none c s =
     rw (no-nodes, n)
 
 -- the counts with h coordinate records
-pub past-same : (c : Counts) (s : State) (h : ℕ) → 0 < s .points → c ≡ countedPast c s h
-past-same c s h l = simp (lt-ltb 0 (s .points) l, add-zero)
+pub past-same : (c : Counts) (s : State) (h : ℕ) → 0 < s .line .points → c ≡ countedPast c s h
+past-same c s h l = simp (lt-ltb 0 (s .line .points) l, add-zero)
 
 -- the same, where there are coordinates or no record at all
-pub past-counts : (c : Counts) (s : State) (h : ℕ) → (0 < h → 0 < s .points) → c ≡ countedPast c s h
+pub past-counts : (c : Counts) (s : State) (h : ℕ) → (0 < h → 0 < s .line .points) → c ≡ countedPast c s h
 past-counts c s zero l = sym (counted-none c s)
 past-counts c s (suc h) l = past-same c s (suc h) (l (omega arith))
 
@@ -85,38 +85,38 @@ by-quiet P node coordinates = by
 
 -- they are quiet
 pub quiet-is : (s : State) (j : ℕ) → isQuiet (quietDue s j) ≡ true
-quiet-is s j = by (ltb 0 (s .points))
+quiet-is s j = by (ltb 0 (s .line .points))
   where
-    by : (b : Bool) → isQuiet (cond b (Coordinates (s .points - 7 * j)) (Node (s .layer) (s .node + j))) ≡ true
+    by : (b : Bool) → isQuiet (cond b (Coordinates (s .line .points - 7 * j)) (Node (s .layer .code) (s .layer .node + j))) ≡ true
     by true = refl
     by false = refl
 
 -- the state behind h coordinate records, with the points p left; behind h nodes
-pub past-points : (s : State) (h : ℕ) {p : ℕ} → 0 < s .points → p ≡ s .points - 7 * h → (record { mesh = s .mesh; layers = s .layers; layer = s .layer; nodes = s .nodes; node = s .node; lines = s .lines; line = s .line; areas = s .areas; area = s .area; points = p; loops = s .loops; begun = s .begun; count = s .count; entries = s .entries }) ≡ passed s h
-past-points s h l e = simp (lt-ltb 0 (s .points) l, e, add-zero)
+pub past-points : (s : State) (h : ℕ) {p : ℕ} → 0 < s .line .points → p ≡ s .line .points - 7 * h → (record { mesh = s .mesh; layer = s .layer; line = record { points = p }; area = s .area }) ≡ passed s h
+past-points s h l e = simp (lt-ltb 0 (s .line .points) l, e, add-zero)
 
-pub past-nodes : (s : State) (h : ℕ) {n : ℕ} → s .points ≤ 0 → n ≡ s .node + h → (record { mesh = s .mesh; layers = s .layers; layer = s .layer; nodes = s .nodes; node = n; lines = s .lines; line = s .line; areas = s .areas; area = s .area; points = s .points; loops = s .loops; begun = s .begun; count = s .count; entries = s .entries }) ≡ passed s h
+pub past-nodes : (s : State) (h : ℕ) {n : ℕ} → s .line .points ≤ 0 → n ≡ s .layer .node + h → (record { mesh = s .mesh; layer = record { code = s .layer .code; nodes = s .layer .nodes; node = n; lines = s .layer .lines; line = s .layer .line; areas = s .layer .areas; area = s .layer .area }; line = s .line; area = s .area }) ≡ passed s h
 past-nodes s h l e =
-    let z : s .points - 7 * h ≡ s .points = omega arith in
-    simp (le-ltb 0 (s .points) l, e, z)
+    let z : s .line .points - 7 * h ≡ s .line .points = omega arith in
+    simp (le-ltb 0 (s .line .points) l, e, z)
 
 -- ---- which are quiet
 
 -- the coordinate records of the points that are left
-pub quiet-points : (s : State) (h : ℕ) → 0 < s .points → h ≤ (s .points - 1) / 7 + 1 → Quiet s h
+pub quiet-points : (s : State) (h : ℕ) → 0 < s .line .points → h ≤ (s .line .points - 1) / 7 + 1 → Quiet s h
 unfolding dueOf
-quiet-points s h p l = record { quiet = λ j m. simp (lt-ltb 0 (s .points) p, lt-ltb 0 (s .points - 7 * j) (omega arith)) }
+quiet-points s h p l = record { quiet = λ j m. simp (lt-ltb 0 (s .line .points) p, lt-ltb 0 (s .line .points - 7 * j) (omega arith)) }
 
 -- the nodes that are left, where nothing comes before them
-pub quiet-nodes : (s : State) (h : ℕ) → s .points ≤ 0 → s .entries ≤ 0 → s .loops ≤ s .begun → h ≤ s .nodes - s .node → Quiet s h
+pub quiet-nodes : (s : State) (h : ℕ) → s .line .points ≤ 0 → s .area .entries ≤ 0 → s .area .loops ≤ s .area .begun → h ≤ s .layer .nodes - s .layer .node → Quiet s h
 unfolding dueOf
 quiet-nodes s h p e b l = record {
-  quiet = λ j m. simp (le-ltb 0 (s .points) p, le-ltb 0 (s .points - 7 * j) (omega arith), le-ltb 0 (s .entries) e, le-ltb (s .begun) (s .loops) b, lt-ltb (s .node + j) (s .nodes) (omega arith));
+  quiet = λ j m. simp (le-ltb 0 (s .line .points) p, le-ltb 0 (s .line .points - 7 * j) (omega arith), le-ltb 0 (s .area .entries) e, le-ltb (s .area .begun) (s .area .loops) b, lt-ltb (s .layer .node + j) (s .layer .nodes) (omega arith));
 }
 
 -- all that the state tells of, and no more
-ahead-by : (s : State) (h : ℕ) (p e b : Bool) → ltb 0 (s .points) ≡ p → ltb 0 (s .entries) ≡ e → ltb (s .begun) (s .loops) ≡ b
-    → h ≤ cond p ((s .points - 1) / 7 + 1) (cond (e || b) 0 (s .nodes - s .node)) → Quiet s h
+ahead-by : (s : State) (h : ℕ) (p e b : Bool) → ltb 0 (s .line .points) ≡ p → ltb 0 (s .area .entries) ≡ e → ltb (s .area .begun) (s .area .loops) ≡ b
+    → h ≤ cond p ((s .line .points - 1) / 7 + 1) (cond (e || b) 0 (s .layer .nodes - s .layer .node)) → Quiet s h
 ahead-by s h true e b x y z l = quiet-points s h (ltb-true _ _ x) l
 ahead-by s h false true b x y z l = record { quiet = λ j m. absurd (omega arith) }
 ahead-by s h false false true x y z l = record { quiet = λ j m. absurd (omega arith) }
@@ -124,7 +124,7 @@ ahead-by s h false false false x y z l = quiet-nodes s h (ltb-false _ _ x) (ltb-
 
 pub ahead-quiet : (s : State) (h : ℕ) → h ≤ quietAhead s → Quiet s h
 unfolding quietAhead
-ahead-quiet s h l = ahead-by s h (ltb 0 (s .points)) (ltb 0 (s .entries)) (ltb (s .begun) (s .loops)) refl refl refl l
+ahead-quiet s h l = ahead-by s h (ltb 0 (s .line .points)) (ltb 0 (s .area .entries)) (ltb (s .area .begun) (s .area .loops)) refl refl refl l
 
 -- what is due is coordinates, or a node
 abbrev isPoints : Due → Bool
@@ -146,38 +146,38 @@ isNode (Area layer last) = false
 isNode (Loop last count left) = false
 
 -- then points are left, or nodes
-points-left : (s : State) → isPoints (dueOf s) ≡ true → 0 < s .points
+points-left : (s : State) → isPoints (dueOf s) ≡ true → 0 < s .line .points
 points-left s =
-    by-due (λ d. isPoints d ≡ true → 0 < s .points) s (λ l _. l) (λ _. other) (λ _. other) (λ _. other) (λ _. other) (λ _ _. other) (λ _. other) (λ _. other)
+    by-due (λ d. isPoints d ≡ true → 0 < s .line .points) s (λ l _. l) (λ _. other) (λ _. other) (λ _. other) (λ _. other) (λ _ _. other) (λ _. other) (λ _. other)
   where
-    other : false ≡ true → 0 < s .points
+    other : false ≡ true → 0 < s .line .points
     other e = absurd (false≢true e)
 
-nodes-left : (s : State) → isNode (dueOf s) ≡ true → s .node < s .nodes
+nodes-left : (s : State) → isNode (dueOf s) ≡ true → s .layer .node < s .layer .nodes
 nodes-left s =
-    by-due (λ d. isNode d ≡ true → s .node < s .nodes) s (λ _. other) (λ _. other) (λ _. other) (λ l _. l) (λ _. other) (λ _ _. other) (λ _. other) (λ _. other)
+    by-due (λ d. isNode d ≡ true → s .layer .node < s .layer .nodes) s (λ _. other) (λ _. other) (λ _. other) (λ l _. l) (λ _. other) (λ _ _. other) (λ _. other) (λ _. other)
   where
-    other : false ≡ true → s .node < s .nodes
+    other : false ≡ true → s .layer .node < s .layer .nodes
     other e = absurd (false≢true e)
 
 -- and no entry or loop before the nodes
-no-loop : (s : State) (e b : Bool) → ltb 0 (s .entries) ≡ e → ltb (s .begun) (s .loops) ≡ b → e || b ≡ true → s .points ≤ 0 → isNode (dueOf s) ≡ false
+no-loop : (s : State) (e b : Bool) → ltb 0 (s .area .entries) ≡ e → ltb (s .area .begun) (s .area .loops) ≡ b → e || b ≡ true → s .line .points ≤ 0 → isNode (dueOf s) ≡ false
 unfolding dueOf
-no-loop s true b x y o p = simp (le-ltb 0 (s .points) p, x)
-no-loop s false true x y o p = simp (le-ltb 0 (s .points) p, x, y)
+no-loop s true b x y o p = simp (le-ltb 0 (s .line .points) p, x)
+no-loop s false true x y o p = simp (le-ltb 0 (s .line .points) p, x, y)
 no-loop s false false x y o p = absurd (false≢true o)
 
 -- so behind them something else is due
-whole-by : (s : State) (h : ℕ) (p o : Bool) → ltb 0 (s .points) ≡ p → ltb 0 (s .entries) || ltb (s .begun) (s .loops) ≡ o
-    → h ≡ cond p ((s .points - 1) / 7 + 1) (cond o 0 (s .nodes - s .node)) → dueOf (passed s h) ≡ quietDue s h → ⊥
+whole-by : (s : State) (h : ℕ) (p o : Bool) → ltb 0 (s .line .points) ≡ p → ltb 0 (s .area .entries) || ltb (s .area .begun) (s .area .loops) ≡ o
+    → h ≡ cond p ((s .line .points - 1) / 7 + 1) (cond o 0 (s .layer .nodes - s .layer .node)) → dueOf (passed s h) ≡ quietDue s h → ⊥
 whole-by s h true o p q e d =
     let l = points-left (passed s h) (ap isPoints d ∙ rw p) in
-    omega (arith, ltb-true 0 (s .points) p)
+    omega (arith, ltb-true 0 (s .line .points) p)
 whole-by s h false true p q e d =
-    let l = ltb-false 0 (s .points) p in
-    false≢true (sym (no-loop (passed s h) (ltb 0 (s .entries)) (ltb (s .begun) (s .loops)) refl refl q (omega arith)) ∙ ap isNode d ∙ rw p)
+    let l = ltb-false 0 (s .line .points) p in
+    false≢true (sym (no-loop (passed s h) (ltb 0 (s .area .entries)) (ltb (s .area .begun) (s .area .loops)) refl refl q (omega arith)) ∙ ap isNode d ∙ rw p)
 whole-by s h false false p q e d =
-    let l : s .node + h < s .nodes = rw p at (nodes-left (passed s h) (ap isNode d ∙ rw p)) in
+    let l : s .layer .node + h < s .layer .nodes = rw p at (nodes-left (passed s h) (ap isNode d ∙ rw p)) in
     omega arith
 
 pub quiet-ahead : (s : State) (h : ℕ) → Quiet s h → h ≤ quietAhead s
@@ -186,24 +186,24 @@ quiet-ahead s h q = by (leb h (quietAhead s)) refl
   where
     by : (b : Bool) → leb h (quietAhead s) ≡ b → h ≤ quietAhead s
     by true l = leb-true _ _ l
-    by false l = absurd (whole-by s (quietAhead s) (ltb 0 (s .points)) (ltb 0 (s .entries) || ltb (s .begun) (s .loops)) refl refl refl (q .quiet (quietAhead s) (leb-false _ _ l)))
+    by false l = absurd (whole-by s (quietAhead s) (ltb 0 (s .line .points)) (ltb 0 (s .area .entries) || ltb (s .area .begun) (s .area .loops)) refl refl refl (q .quiet (quietAhead s) (leb-false _ _ l)))
 
 module _ (s : State) where
-  pub points-ahead : 0 < s .points → (s .points - 1) / 7 + 1 ≡ quietAhead s
+  pub points-ahead : 0 < s .line .points → (s .line .points - 1) / 7 + 1 ≡ quietAhead s
   unfolding quietAhead
   points-ahead p = rw (lt-ltb _ _ p)
 
-  pub entries-ahead : s .points ≤ 0 → 0 < s .entries → (most : ℕ) → 0 ≡ min most (quietAhead s)
+  pub entries-ahead : s .line .points ≤ 0 → 0 < s .area .entries → (most : ℕ) → 0 ≡ min most (quietAhead s)
   unfolding quietAhead
-  entries-ahead p e most = rw (le-ltb 0 (s .points) p, lt-ltb 0 (s .entries) e) (sym (min-zero most))
+  entries-ahead p e most = rw (le-ltb 0 (s .line .points) p, lt-ltb 0 (s .area .entries) e) (sym (min-zero most))
 
-  pub loops-ahead : s .points ≤ 0 → s .entries ≤ 0 → s .begun < s .loops → (most : ℕ) → 0 ≡ min most (quietAhead s)
+  pub loops-ahead : s .line .points ≤ 0 → s .area .entries ≤ 0 → s .area .begun < s .area .loops → (most : ℕ) → 0 ≡ min most (quietAhead s)
   unfolding quietAhead
-  loops-ahead p e b most = rw (le-ltb 0 (s .points) p, le-ltb 0 (s .entries) e, lt-ltb (s .begun) (s .loops) b) (sym (min-zero most))
+  loops-ahead p e b most = rw (le-ltb 0 (s .line .points) p, le-ltb 0 (s .area .entries) e, lt-ltb (s .area .begun) (s .area .loops) b) (sym (min-zero most))
 
-  pub nodes-ahead : s .points ≤ 0 → s .entries ≤ 0 → s .loops ≤ s .begun → s .nodes - s .node ≡ quietAhead s
+  pub nodes-ahead : s .line .points ≤ 0 → s .area .entries ≤ 0 → s .area .loops ≤ s .area .begun → s .layer .nodes - s .layer .node ≡ quietAhead s
   unfolding quietAhead
-  nodes-ahead p e b = rw (le-ltb 0 (s .points) p, le-ltb 0 (s .entries) e, le-ltb (s .begun) (s .loops) b)
+  nodes-ahead p e b = rw (le-ltb 0 (s .line .points) p, le-ltb 0 (s .area .entries) e, le-ltb (s .area .begun) (s .area .loops) b)
 
 -- as code has it: the number r of those that were passed
 module _ (s : State) (most : ℕ) {r : ℕ} (e : r ≡ min most (quietAhead s)) where
@@ -232,7 +232,7 @@ module _ (file : List ℕ) (k : ℕ) {h : ℕ} {s : State} (e : s ≡ stateAt fi
   unfolding countsAt
   passed-counts zero {c} l f = counted-none c s ∙ (rw add-zero f)
   passed-counts (suc j) {c} l f = rw add-suc (
-      sym (counted-by c s j (recordOf file (suc (k + j))) (ltb 0 (s .points)) refl)
+      sym (counted-by c s j (recordOf file (suc (k + j))) (ltb 0 (s .line .points)) refl)
       ∙ ap (λ (d : Due). countedFor d (countedPast c s j) (recordOf file (suc (k + j)))) (sym (passed-due j (omega arith)))
       ∙ ap (λ (x : Counts). countedFor (dueOf (stateAt file (k + j))) x (recordOf file (suc (k + j)))) (passed-counts j (omega arith) f))
 
@@ -327,6 +327,6 @@ module _ (file : List ℕ) (points k n : ℕ) where
   ahead-ends q = ends-by (n - k) refl (ltb k n) refl q
 
 -- the rules of stage 2, over records that were found fine
-pub fine-rows : (file : List ℕ) (k : ℕ) {h m : ℕ} {s : State} → s ≡ stateAt file k → Quiet s h → Fit file (s .points) k m → h ≤ m
+pub fine-rows : (file : List ℕ) (k : ℕ) {h m : ℕ} {s : State} → s ≡ stateAt file k → Quiet s h → Fit file (s .line .points) k m → h ≤ m
     → firstBroken (rows k (rulesOf file)) ≡ Fine → firstBroken (rows (k + h) (rulesOf file)) ≡ Fine
-fine-rows file k {h} {m} {s} e q f l r = rows-past (rulesOf file) k h r (λ j i. rw (passed-due file k e q j i, lt-ltb 0 (s .points) (f .left (omega arith))) (f .fine j (omega arith)))
+fine-rows file k {h} {m} {s} e q f l r = rows-past (rulesOf file) k h r (λ j i. rw (passed-due file k e q j i, lt-ltb 0 (s .line .points) (f .left (omega arith))) (f .fine j (omega arith)))

@@ -28,7 +28,8 @@ use Rattle.rules.specs.Asks.{areaAsks, asksOf, askedOf}
 use Rattle.rules.specs.Checks.{formChecks, valueChecks, along, checksOf}
 use Rattle.walk.specs.declared.Counts.{Counts}
 use Rattle.walk.specs.declared.State.{State}
-use Rattle.walk.specs.States.{sizeIn, dueOf, nextFor, nextOf, stateAt, rowLength, countedFor, countsAt}
+use Rattle.walk.specs.Row.{rowLength}
+use Rattle.walk.specs.States.{sizeIn, dueOf, nextFor, nextOf, stateAt, countedFor, countsAt}
 use Rattle.walk.specs.Stages.{recordsOf, stageOne, stageTwo, walkedBy, walkedOf, needOf}
 use Rattle.walk.specs.Table.{tableOf}
 use Rattle.walk.proofs.Dues.{by-due, idle-end, words-counted}
@@ -94,21 +95,21 @@ unfolding layoutOf areaAsks asksOf askedOf formChecks valueChecks along checksOf
 area-loops layer last t h = at-least 1 (valueOf (numberAt t 25 4)) (h .1 .1 .1 .1 .1 .1 .1 .1 .1 .1 .1 .1 .1 .1 .0)
 
 -- two records for each area; but the loops of the last one may not have begun
-module _ (c : Counts) (s : State) (t : List ℕ) (k : ℕ) (o : 2 * c .areas ≤ k + (s .loops - s .begun)) where
-  loops-next : Holding (checksOf (dueOf s) t) → 2 * countedFor (dueOf s) c t .areas ≤ suc k + (nextFor (dueOf s) s t .loops - nextFor (dueOf s) s t .begun)
+module _ (c : Counts) (s : State) (t : List ℕ) (k : ℕ) (o : 2 * c .areas ≤ k + (s .area .loops - s .area .begun)) where
+  loops-next : Holding (checksOf (dueOf s) t) → 2 * countedFor (dueOf s) c t .areas ≤ suc k + (nextFor (dueOf s) s t .area .loops - nextFor (dueOf s) s t .area .begun)
   loops-next =
-      by-due (λ d. Holding (checksOf d t) → 2 * countedFor d c t .areas ≤ suc k + (nextFor d s t .loops - nextFor d s t .begun)) s
+      by-due (λ d. Holding (checksOf d t) → 2 * countedFor d c t .areas ≤ suc k + (nextFor d s t .area .loops - nextFor d s t .area .begun)) s
       (λ _ h. omega arith)
       (λ l h. rw (next-entries s t l) (omega arith))
       (λ _ h. omega arith)
       (λ _ h. omega arith)
       (λ _ h. omega arith)
-      (λ b _ h. omega (arith, area-loops (s .layer) (s .area) t h))
+      (λ b _ h. omega (arith, area-loops (s .layer .code) (s .layer .area) t h))
       (λ i h. omega (arith, i .loops))
       (λ i h. omega (arith, i .loops))
 
 module _ (file : List ℕ) (two : firstBroken (stageTwo file) ≡ Fine) where
-  loops-left : (k : ℕ) → k ≤ recordsOf file → 2 * countsAt file k .areas ≤ k + (stateAt file k .loops - stateAt file k .begun)
+  loops-left : (k : ℕ) → k ≤ recordsOf file → 2 * countsAt file k .areas ≤ k + (stateAt file k .area .loops - stateAt file k .area .begun)
   unfolding countsAt stateAt nextOf
   loops-left zero l = omega arith
   loops-left (suc k) l =

@@ -11,7 +11,8 @@ use Rattle.verdict.specs.Rules.{firstBroken}
 use Rattle.verdict.proofs.Parts.{stands, goes-on, check-none, check-kept, check-broken}
 use Rattle.walk.specs.declared.Counts.{Counts}
 use Rattle.walk.specs.declared.Walked.{Walked}
-use Rattle.walk.specs.States.{rowLength, countsAt}
+use Rattle.walk.specs.Row.{rowLength}
+use Rattle.walk.specs.States.{countsAt}
 use Rattle.walk.specs.Stages.{recordsOf, stageOne, stageTwo, walkedOf, third, wordsOf, roomRule, early}
 use Rattle.walk.specs.Table.{filled, tableOf, filledBy, tabledOf}
 use Rattle.walk.proofs.Judging.{need-is, walked-verdict, walked-fine}

@@ -19,6 +19,7 @@ use Rattle.records.specs.View.{recordOf}
 use Rattle.rules.specs.Permitted.{size}
 use Rattle.rules.specs.declared.Due.{Due}
 use Rattle.rules.specs.declared.Due.the-variants.{Mesh, Layer, Node, Line, Coordinates, Area, Loop}
+use Rattle.walk.specs.Row.{mostLayerWords}
 use Rattle.walk.specs.States.{sizeIn, dueOf, start, nextFor, wentOn, nextOf, stateAt, noCounts, layerWords, Countable, countedFor, countsAt}
 use Rattle.walk.specs.declared.State.{State}
 use Rattle.walk.specs.declared.Counts.{Counts}
@@ -48,13 +49,13 @@ module _ (t : List ℕ) (c w : ℕ) {a : numbers.Number} (e : a ≡ numberAt t c
 
 -- ---- the states
 
-next-entries-by : (s : State) (t : List ℕ) (n : ℕ) → 0 < n → nextFor (Loop (s .begun) (s .count) n) s t ≡ wentOn s
+next-entries-by : (s : State) (t : List ℕ) (n : ℕ) → 0 < n → nextFor (Loop (s .area .begun) (s .area .count) n) s t ≡ wentOn s
 next-entries-by s t zero l = absurd (omega arith)
 next-entries-by s t (suc n) l = refl
 
 -- a loop goes on where entries of it are left
-pub next-entries : (s : State) (t : List ℕ) → 0 < s .entries → nextFor (Loop (s .begun) (s .count) (s .entries)) s t ≡ wentOn s
-next-entries s t l = next-entries-by s t (s .entries) l
+pub next-entries : (s : State) (t : List ℕ) → 0 < s .area .entries → nextFor (Loop (s .area .begun) (s .area .count) (s .area .entries)) s t ≡ wentOn s
+next-entries s t l = next-entries-by s t (s .area .entries) l
 
 module _ (file : List ℕ) where
   -- before the first record
@@ -80,16 +81,16 @@ module _ (file : List ℕ) where
   unfolding countsAt
   next-counts k p q h = rw (add-one, ← p, ← q) (rw add-one at h)
 
--- the counts of k records: each is at most k, and a layer's words are at most 4 and two numbers
+-- the counts of k records: each is at most k, and a layer's words are at most its row and two numbers
 pub record Upto (k : ℕ) (c : Counts) : Type 0 where
   pub meshes : c .meshes ≤ k
   pub layers : c .layers ≤ k
   pub nodes : c .nodes ≤ k
   pub lines : c .lines ≤ k
   pub areas : c .areas ≤ k
-  pub words : c .words ≤ 2000002 * k
+  pub words : c .words ≤ mostLayerWords * k
 
-words-small : (t : List ℕ) → layerWords t ≤ 2000002
+words-small : (t : List ℕ) → layerWords t ≤ mostLayerWords
 unfolding layerWords
 words-small t = omega (arith, size-small t 10 5, size-small t 15 5)
 

@@ -19,7 +19,7 @@ use Rattle.rules.specs.declared.Due.{Due}
 use Rattle.rules.specs.declared.Due.the-variants.{Mesh, Layer, Node, Line, Coordinates, Area, Loop}
 use Rattle.walk.specs.declared.State.{State}
 use Rattle.walk.specs.declared.Counts.{Counts}
-use Rattle.walk.specs.States.{dueOf}
+use Rattle.walk.specs.States.{nodesMore, pointsLess, dueOf}
 
 abbrev pub isQuiet : Due → Bool
 isQuiet (Mesh last) = false
@@ -32,29 +32,14 @@ isQuiet (Loop last count left) = false
 
 -- how many of h are nodes
 abbrev pub nodesOf : State → ℕ → ℕ
-nodesOf s h = cond (ltb 0 (s .points)) 0 h
+nodesOf s h = cond (ltb 0 (s .line .points)) 0 h
 
 abbrev pub passed : State → ℕ → State
-passed s h = record {
-  mesh = s .mesh;
-  layers = s .layers;
-  layer = s .layer;
-  nodes = s .nodes;
-  node = s .node + nodesOf s h;
-  lines = s .lines;
-  line = s .line;
-  areas = s .areas;
-  area = s .area;
-  points = s .points - 7 * h;
-  loops = s .loops;
-  begun = s .begun;
-  count = s .count;
-  entries = s .entries;
-}
+passed s h = record { mesh = s .mesh; layer = nodesMore (s .layer) (nodesOf s h); line = pointsLess (s .line) h; area = s .area }
 
 -- what is due behind j of them
 abbrev pub quietDue : State → ℕ → Due
-quietDue s j = cond (ltb 0 (s .points)) (Coordinates (s .points - 7 * j)) (Node (s .layer) (s .node + j))
+quietDue s j = cond (ltb 0 (s .line .points)) (Coordinates (s .line .points - 7 * j)) (Node (s .layer .code) (s .layer .node + j))
 
 pub record Quiet (s : State) (h : ℕ) : Type 0 where
   pub quiet : (j : ℕ) → j < h → dueOf (passed s j) ≡ quietDue s j
@@ -63,8 +48,8 @@ pub record Quiet (s : State) (h : ℕ) : Type 0 where
 -- the nodes that are left
 unfoldable pub quietAhead : State → ℕ
 quietAhead s =
-    cond (ltb 0 (s .points)) ((s .points - 1) / 7 + 1)
-    (cond (ltb 0 (s .entries) || ltb (s .begun) (s .loops)) 0 (s .nodes - s .node))
+    cond (ltb 0 (s .line .points)) ((s .line .points - 1) / 7 + 1)
+    (cond (ltb 0 (s .area .entries) || ltb (s .area .begun) (s .area .loops)) 0 (s .layer .nodes - s .layer .node))
 
 abbrev pub countedPast : Counts → State → ℕ → Counts
 countedPast c s h = record { meshes = c .meshes; layers = c .layers; nodes = c .nodes + nodesOf s h; lines = c .lines; areas = c .areas; words = c .words }

@@ -87,7 +87,7 @@ needOf file = walkedOf file .counts .words
 abbrev pub third : ℕ
 third = 3
 
--- RULES 8.2: 4 + lines + areas words for each of the layers
+-- RULES 8.2: the words of all layers
 unfoldable pub wordsOf : List ℕ → ℕ
 wordsOf file = countsAt file (recordsOf file) .words
 

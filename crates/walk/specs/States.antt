@@ -1,7 +1,7 @@
 -- The walk over the records (RULES 2.3: a mesh is one M and its layers; a layer is one H, its nodes, its lines, each an L and its
 -- coordinate records, and its areas, each an A and its loop records; RULES 2.5: the numbers that steer the walk).
 -- Assumes nothing.
---   sizeIn t c w     the number in the w columns from column c on of the record t, without its sign; 0 where there is none
+--   sizeAt t c       the number in the field c of the record t, without its sign; 0 where there is none
 --   dueOf s          what is due in the state s
 --   nextOf s t       the state behind the record t
 --   stateAt file k   the state behind the first k records
@@ -13,204 +13,167 @@ use lib.Dec.{ltb}
 use Rattle.fields.specs.Number.{numberAt}
 use Rattle.fields.specs.Answer.{valueOf}
 use Rattle.records.specs.View.{recordOf}
+use Rattle.records.specs.Columns.{Column, spanOf, meshCode, meshLayers, layerCode, layerNodes, layerLines, layerAreas, linePoints, areaLoops, loopCount}
 use Rattle.rules.specs.Permitted.{size}
 use Rattle.rules.specs.declared.Due.{Due}
 use Rattle.rules.specs.declared.Due.the-variants.{Mesh, Layer, Node, Line, Coordinates, Area, Loop}
+use Rattle.walk.specs.declared.MeshPart.{MeshPart}
+use Rattle.walk.specs.declared.LayerPart.{LayerPart}
+use Rattle.walk.specs.declared.LinePart.{LinePart}
+use Rattle.walk.specs.declared.AreaPart.{AreaPart}
 use Rattle.walk.specs.declared.State.{State}
 use Rattle.walk.specs.declared.Counts.{Counts}
+use Rattle.walk.specs.Row.{rowLength, mostLayerWords}
 
 unfoldable pub sizeIn : List ℕ → ℕ → ℕ → ℕ
 sizeIn t c w = size (valueOf (numberAt t c w))
 
+abbrev pub sizeAt : List ℕ → Column → ℕ
+sizeAt t c = sizeIn t (spanOf c .start) (spanOf c .width)
+
 -- RULES 2.3: points and entries that are left, then loops, nodes, lines, areas and layers that have not begun; else the mesh has ended
 unfoldable pub dueOf : State → Due
 dueOf s =
-    cond (ltb 0 (s .points)) (Coordinates (s .points))
-    (cond (ltb 0 (s .entries)) (Loop (s .begun) (s .count) (s .entries))
-    (cond (ltb (s .begun) (s .loops)) (Loop (s .begun) (s .count) 0)
-    (cond (ltb (s .node) (s .nodes)) (Node (s .layer) (s .node))
-    (cond (ltb (s .line) (s .lines)) (Line (s .layer) (s .line))
-    (cond (ltb (s .area) (s .areas)) (Area (s .layer) (s .area))
-    (cond (ltb 0 (s .layers)) (Layer (s .layer)) (Mesh (s .mesh))))))))
+    cond (ltb 0 (s .line .points)) (Coordinates (s .line .points))
+    (cond (ltb 0 (s .area .entries)) (Loop (s .area .begun) (s .area .count) (s .area .entries))
+    (cond (ltb (s .area .begun) (s .area .loops)) (Loop (s .area .begun) (s .area .count) 0)
+    (cond (ltb (s .layer .node) (s .layer .nodes)) (Node (s .layer .code) (s .layer .node))
+    (cond (ltb (s .layer .line) (s .layer .lines)) (Line (s .layer .code) (s .layer .line))
+    (cond (ltb (s .layer .area) (s .layer .areas)) (Area (s .layer .code) (s .layer .area))
+    (cond (ltb 0 (s .mesh .layers)) (Layer (s .layer .code)) (Mesh (s .mesh .code))))))))
+
+-- ---- the parts of a state, behind each kind of record
+
+abbrev pub noMesh : MeshPart
+noMesh = record { code = 0; layers = 0 }
+
+abbrev pub noLayer : LayerPart
+noLayer = record { code = 0; nodes = 0; node = 0; lines = 0; line = 0; areas = 0; area = 0 }
+
+abbrev pub noLine : LinePart
+noLine = record { points = 0 }
+
+abbrev pub noArea : AreaPart
+noArea = record { loops = 0; begun = 0; count = 0; entries = 0 }
+
+-- RULES 2.5: an M has the mesh code and how many layers follow
+abbrev pub meshPart : List ℕ → MeshPart
+meshPart t = record { code = sizeAt t meshCode; layers = sizeAt t meshLayers }
+
+-- one of the mesh's layers has begun
+abbrev pub layerLess : MeshPart → MeshPart
+layerLess m = record { code = m .code; layers = m .layers - 1 }
+
+-- RULES 2.5: an H has the layer code and how many nodes, lines and areas follow
+abbrev pub layerPart : List ℕ → LayerPart
+layerPart t = record {
+  code = sizeAt t layerCode;
+  nodes = sizeAt t layerNodes;
+  node = 0;
+  lines = sizeAt t layerLines;
+  line = 0;
+  areas = sizeAt t layerAreas;
+  area = 0;
+}
+
+-- n more of the layer's nodes came, a line, an area
+abbrev pub nodesMore : LayerPart → ℕ → LayerPart
+nodesMore l n = record {
+  code = l .code;
+  nodes = l .nodes;
+  node = l .node + n;
+  lines = l .lines;
+  line = l .line;
+  areas = l .areas;
+  area = l .area;
+}
+
+abbrev pub lineMore : LayerPart → LayerPart
+lineMore l = record {
+  code = l .code;
+  nodes = l .nodes;
+  node = l .node;
+  lines = l .lines;
+  line = l .line + 1;
+  areas = l .areas;
+  area = l .area;
+}
+
+abbrev pub areaMore : LayerPart → LayerPart
+areaMore l = record {
+  code = l .code;
+  nodes = l .nodes;
+  node = l .node;
+  lines = l .lines;
+  line = l .line;
+  areas = l .areas;
+  area = l .area + 1;
+}
+
+-- RULES 2.5: an L has how many points follow
+abbrev pub linePart : List ℕ → LinePart
+linePart t = record { points = sizeAt t linePoints }
+
+-- RULES 2.6: h coordinate records take seven of the points each
+abbrev pub pointsLess : LinePart → ℕ → LinePart
+pointsLess l h = record { points = l .points - 7 * h }
+
+-- RULES 2.5: an A has how many loops follow
+abbrev pub areaPart : List ℕ → AreaPart
+areaPart t = record { loops = sizeAt t areaLoops; begun = 0; count = 0; entries = 0 }
+
+-- RULES 2.5, 2.6: a loop's first record has its line count n; it and each later one take twelve of the entries
+abbrev pub loopMore : AreaPart → ℕ → AreaPart
+loopMore a n = record { loops = a .loops; begun = a .begun + 1; count = n; entries = n - 12 }
+
+abbrev pub entriesLess : AreaPart → AreaPart
+entriesLess a = record { loops = a .loops; begun = a .begun; count = a .count; entries = a .entries - 12 }
+
+-- ---- the state: each record replaces a part
 
 -- before the first record
 abbrev pub start : State
-start = record {
-  mesh = 0;
-  layers = 0;
-  layer = 0;
-  nodes = 0;
-  node = 0;
-  lines = 0;
-  line = 0;
-  areas = 0;
-  area = 0;
-  points = 0;
-  loops = 0;
-  begun = 0;
-  count = 0;
-  entries = 0;
-}
+start = record { mesh = noMesh; layer = noLayer; line = noLine; area = noArea }
 
--- RULES 2.5: behind an M: mesh code 3-8, layers 29-31
+-- behind an M
 abbrev pub meshed : List ℕ → State
-meshed t = record {
-  mesh = sizeIn t 3 6;
-  layers = sizeIn t 29 3;
-  layer = 0;
-  nodes = 0;
-  node = 0;
-  lines = 0;
-  line = 0;
-  areas = 0;
-  area = 0;
-  points = 0;
-  loops = 0;
-  begun = 0;
-  count = 0;
-  entries = 0;
-}
+meshed t = record { mesh = meshPart t; layer = noLayer; line = noLine; area = noArea }
 
--- RULES 2.5: behind an H: layer code 3-4, nodes 5-9, lines 10-14, areas 15-19
-abbrev pub layered : State → List ℕ → State
-layered s t = record {
-  mesh = s .mesh;
-  layers = s .layers - 1;
-  layer = sizeIn t 3 2;
-  nodes = sizeIn t 5 5;
-  node = 0;
-  lines = sizeIn t 10 5;
-  line = 0;
-  areas = sizeIn t 15 5;
-  area = 0;
-  points = 0;
-  loops = 0;
-  begun = 0;
-  count = 0;
-  entries = 0;
-}
+-- behind an H
+abbrev pub headed : State → List ℕ → State
+headed s t = record { mesh = layerLess (s .mesh); layer = layerPart t; line = noLine; area = noArea }
 
--- RULES 2.3: behind an N: a node is one record
+-- behind an N: a node is one record
 abbrev pub noded : State → State
-noded s = record {
-  mesh = s .mesh;
-  layers = s .layers;
-  layer = s .layer;
-  nodes = s .nodes;
-  node = s .node + 1;
-  lines = s .lines;
-  line = s .line;
-  areas = s .areas;
-  area = s .area;
-  points = s .points;
-  loops = s .loops;
-  begun = s .begun;
-  count = s .count;
-  entries = s .entries;
-}
+noded s = record { mesh = s .mesh; layer = nodesMore (s .layer) 1; line = s .line; area = s .area }
 
--- RULES 2.5: behind an L: points 50-55
+-- behind an L
 abbrev pub lined : State → List ℕ → State
-lined s t = record {
-  mesh = s .mesh;
-  layers = s .layers;
-  layer = s .layer;
-  nodes = s .nodes;
-  node = s .node;
-  lines = s .lines;
-  line = s .line + 1;
-  areas = s .areas;
-  area = s .area;
-  points = sizeIn t 50 6;
-  loops = s .loops;
-  begun = s .begun;
-  count = s .count;
-  entries = s .entries;
-}
+lined s t = record { mesh = s .mesh; layer = lineMore (s .layer); line = linePart t; area = s .area }
 
--- RULES 2.6: behind a coordinate record: it takes seven of the points that are left
+-- behind a coordinate record
 abbrev pub pointed : State → State
-pointed s = record {
-  mesh = s .mesh;
-  layers = s .layers;
-  layer = s .layer;
-  nodes = s .nodes;
-  node = s .node;
-  lines = s .lines;
-  line = s .line;
-  areas = s .areas;
-  area = s .area;
-  points = s .points - 7;
-  loops = s .loops;
-  begun = s .begun;
-  count = s .count;
-  entries = s .entries;
-}
+pointed s = record { mesh = s .mesh; layer = s .layer; line = pointsLess (s .line) 1; area = s .area }
 
--- RULES 2.5: behind an A: loops 25-28
+-- behind an A
 abbrev pub bounded : State → List ℕ → State
-bounded s t = record {
-  mesh = s .mesh;
-  layers = s .layers;
-  layer = s .layer;
-  nodes = s .nodes;
-  node = s .node;
-  lines = s .lines;
-  line = s .line;
-  areas = s .areas;
-  area = s .area + 1;
-  points = s .points;
-  loops = sizeIn t 25 4;
-  begun = 0;
-  count = 0;
-  entries = 0;
-}
+bounded s t = record { mesh = s .mesh; layer = areaMore (s .layer); line = s .line; area = areaPart t }
 
--- RULES 2.5, 2.6: behind a loop's first record: line count 6-9; behind a later one; each takes twelve of the entries that are left
+-- behind a loop's first record; behind a later one
 abbrev pub begunLoop : State → ℕ → State
-begunLoop s n = record {
-  mesh = s .mesh;
-  layers = s .layers;
-  layer = s .layer;
-  nodes = s .nodes;
-  node = s .node;
-  lines = s .lines;
-  line = s .line;
-  areas = s .areas;
-  area = s .area;
-  points = s .points;
-  loops = s .loops;
-  begun = s .begun + 1;
-  count = n;
-  entries = n - 12;
-}
+begunLoop s n = record { mesh = s .mesh; layer = s .layer; line = s .line; area = loopMore (s .area) n }
 
 abbrev pub wentOn : State → State
-wentOn s = record {
-  mesh = s .mesh;
-  layers = s .layers;
-  layer = s .layer;
-  nodes = s .nodes;
-  node = s .node;
-  lines = s .lines;
-  line = s .line;
-  areas = s .areas;
-  area = s .area;
-  points = s .points;
-  loops = s .loops;
-  begun = s .begun;
-  count = s .count;
-  entries = s .entries - 12;
-}
+wentOn s = record { mesh = s .mesh; layer = s .layer; line = s .line; area = entriesLess (s .area) }
 
 abbrev pub nextFor : Due → State → List ℕ → State
 nextFor (Mesh last) s t = meshed t
-nextFor (Layer last) s t = layered s t
+nextFor (Layer last) s t = headed s t
 nextFor (Node layer last) s t = noded s
 nextFor (Line layer last) s t = lined s t
 nextFor (Coordinates left) s t = pointed s
 nextFor (Area layer last) s t = bounded s t
-nextFor (Loop last count zero) s t = begunLoop s (sizeIn t 6 4)
+nextFor (Loop last count zero) s t = begunLoop s (sizeAt t loopCount)
 nextFor (Loop last count (suc left)) s t = wentOn s
 
 unfoldable pub nextOf : State → List ℕ → State
@@ -226,13 +189,9 @@ stateAt file (suc k) = nextOf (stateAt file k) (recordOf file (suc k))
 abbrev pub noCounts : Counts
 noCounts = record { meshes = 0; layers = 0; nodes = 0; lines = 0; areas = 0; words = 0 }
 
--- RULES 8.1: a layer's row has four words
-abbrev pub rowLength : ℕ
-rowLength = 4
-
--- RULES 8.2: a layer needs 4 + lines + areas words
+-- RULES 8.2: a layer needs its row and a word for each line and each area
 unfoldable pub layerWords : List ℕ → ℕ
-layerWords t = rowLength + (sizeIn t 10 5 + sizeIn t 15 5)
+layerWords t = rowLength + (sizeAt t layerLines + sizeAt t layerAreas)
 
 -- counts of no more records than there may be: a further one can be counted
 pub record Countable (c : Counts) : Type 0 where
@@ -241,7 +200,7 @@ pub record Countable (c : Counts) : Type 0 where
   pub nodes : c .nodes ≤ 6399936
   pub lines : c .lines ≤ 6399936
   pub areas : c .areas ≤ 6399936
-  pub words : c .words ≤ 2000002 * 6399936
+  pub words : c .words ≤ mostLayerWords * 6399936
 
 -- RULES 9.1: each record is counted as what it is; RULES 8.2: an H adds its layer's words
 abbrev pub countedFor : Due → Counts → List ℕ → Counts

@@ -5,7 +5,7 @@ use lib.ListN.{take, drop}
 use Rattle.rules.specs.declared.Due.{Due}
 use Rattle.rules.specs.declared.Due.the-variants.{Mesh, Layer, Node, Line, Coordinates, Area, Loop}
 use Rattle.walk.specs.declared.Counts.{Counts}
-use Rattle.walk.specs.States.{rowLength}
+use Rattle.walk.specs.Row.{rowLength}
 use Rattle.walk.specs.declared.Bases.{Bases}
 use Rattle.walk.specs.Table.{rowWords, lineWords, areaWords, gather, filled}
 
@@ -14,14 +14,14 @@ abbrev pub recordWords : Due → List ℕ → ℕ → List ℕ
 recordWords d t r = rowWords d t r ++ (lineWords d t r ++ areaWords d t r)
 
 -- where they go, behind the counts c
-abbrev pub placeOf : Due → Counts → Bases → ℕ
-placeOf (Mesh last) c b = 0
-placeOf (Layer last) c b = rowLength * c .layers
-placeOf (Node layer last) c b = 0
-placeOf (Line layer last) c b = b .lines + c .lines
-placeOf (Coordinates left) c b = 0
-placeOf (Area layer last) c b = b .areas + c .areas
-placeOf (Loop last count left) c b = 0
+abbrev pub storedAt : Due → Counts → Bases → ℕ
+storedAt (Mesh last) c b = 0
+storedAt (Layer last) c b = rowLength * c .layers
+storedAt (Node layer last) c b = 0
+storedAt (Line layer last) c b = b .lines + c .lines
+storedAt (Coordinates left) c b = 0
+storedAt (Area layer last) c b = b .areas + c .areas
+storedAt (Loop last count left) c b = 0
 
 -- how many they are
 abbrev pub manyOf : Due → ℕ
@@ -35,7 +35,7 @@ manyOf (Loop last count left) = 0
 
 -- they have room in a buffer of n words
 pub record Roomy (d : Due) (c : Counts) (b : Bases) (n : ℕ) : Type 0 where
-  pub room : placeOf d c b + manyOf d ≤ n
+  pub room : storedAt d c b + manyOf d ≤ n
 
 -- the three sections, where the words of the first k records stand in them and what was in the buffer d before behind each. The
 -- sections of rows and of lines have p and q words

@@ -1,4 +1,4 @@
--- The table of a file (RULES 8.1: for each layer, in file order, a row of four words; behind all rows each line's L record; then each
+-- The table of a file (RULES 8.1: for each layer, in file order, its row; behind all rows each line's L record; then each
 -- area's A record). Assumes nothing.
 --   rowWords d t r   the words of the row that the record t gives, due as d, with the number r: none but for an H
 --   gather g file k  the words that g takes from the first k records, in file order
@@ -9,19 +9,21 @@ use mathlib.Core.List.{List, [], _∷_, _++_}
 use Prim.Native.Nat.{ℕ, zero, suc}
 use lib.ListN.{length, drop}
 use Rattle.records.specs.View.{recordOf}
+use Rattle.records.specs.Columns.{layerNodes, layerLines, layerAreas}
 use Rattle.verdict.specs.declared.Verdict.{Verdict}
 use Rattle.verdict.specs.declared.Verdict.the-variants.{Fine, Broken}
 use Rattle.verdict.specs.Rules.{firstBroken}
 use Rattle.rules.specs.declared.Due.{Due}
 use Rattle.rules.specs.declared.Due.the-variants.{Mesh, Layer, Node, Line, Coordinates, Area, Loop}
-use Rattle.walk.specs.States.{sizeIn, dueOf, stateAt}
+use Rattle.walk.specs.Row.{rowOf}
+use Rattle.walk.specs.States.{sizeAt, dueOf, stateAt}
 use Rattle.walk.specs.declared.Tabled.{Tabled}
 use Rattle.walk.specs.Stages.{recordsOf, walkedOf, early}
 
--- RULES 8.1: a layer's row: its H record; its nodes, 5-9; its lines, 10-14; its areas, 15-19
+-- RULES 8.1: a layer's row
 abbrev pub rowWords : Due → List ℕ → ℕ → List ℕ
 rowWords (Mesh last) t r = []
-rowWords (Layer last) t r = r ∷ sizeIn t 5 5 ∷ sizeIn t 10 5 ∷ sizeIn t 15 5 ∷ []
+rowWords (Layer last) t r = rowOf r (sizeAt t layerNodes) (sizeAt t layerLines) (sizeAt t layerAreas)
 rowWords (Node layer last) t r = []
 rowWords (Line layer last) t r = []
 rowWords (Coordinates left) t r = []

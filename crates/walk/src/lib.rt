@@ -4,39 +4,69 @@
 // The contracts cite `specs/`: `States` says what is due at each record, `Stages` has the rules up to
 // refusal 9 in the order of judgement, `Table` what the table is.
 use fields::Number;
+use records::Columns;
 use rules::Due;
 use verdict::Verdict;
 ghost use mathlib.Core.Path.{_≡_};
-ghost use mathlib.Core.List.{[], _∷_};
 ghost use Prim.Native.Nat.{_+_, _-_, _*_, _/_, _≤_, _<_, min};
 ghost use lib.ListN.{length};
 ghost use lib.Seq.{sets};
 ghost use Rattle.verdict.specs.declared.Verdict.the-variants.{Broken};
 ghost use Rattle.verdict.specs.Rules.{firstBroken, block};
-ghost use Rattle.walk.specs.States.{sizeIn, dueOf, start, meshed, layered, nextOf, noCounts, Countable, countedFor, countsAt, rowLength};
+ghost use Rattle.walk.specs.States.{sizeIn, dueOf, start, layerPart, meshed, headed, nextOf, noCounts, Countable, countedFor, countsAt};
+ghost use Rattle.walk.specs.Row.{rowLength, rowOf};
 ghost use Rattle.walk.specs.Stages.{recordsOf, endChecks, lengthChecks, stageOne, lastChecks, stageTwo, walkedBy, walkedOf, needOf, early};
 ghost use Rattle.walk.specs.Table.{tableOf, filled, filledBy, tabledOf};
-ghost use Rattle.walk.specs.Storing.{placeOf, recordWords, Roomy};
+ghost use Rattle.walk.specs.Storing.{storedAt, recordWords, Roomy};
 ghost use Rattle.walk.specs.Quiet.{passed, quietAhead, countedPast, fineAhead};
 
-// Where the walk stands: the mesh and its layers left; the layer, its totals, and how many of each came;
-// the points left of a line; the loops of an area, how many were begun, and the last one's line count and
-// entries left.
-pub struct State {
-    pub mesh: usize,
+// A row (RULES 8.1): how many words it has, and which word is what.
+pub const ROW_LENGTH: usize = 4;
+
+pub const HEAD_WORD: usize = 0;
+
+pub const NODES_WORD: usize = 1;
+
+pub const LINES_WORD: usize = 2;
+
+pub const AREAS_WORD: usize = 3;
+
+// The mesh that the walk is in: its code, and how many of its layers have not begun.
+pub struct MeshPart {
+    pub code: usize,
     pub layers: usize,
-    pub layer: usize,
+}
+
+// The layer: its code, its totals, and how many of each came.
+pub struct LayerPart {
+    pub code: usize,
     pub nodes: usize,
     pub node: usize,
     pub lines: usize,
     pub line: usize,
     pub areas: usize,
     pub area: usize,
+}
+
+// The line: how many of its points are left.
+pub struct LinePart {
     pub points: usize,
+}
+
+// The area: its loops, how many of them were begun, and the last one's line count and entries left.
+pub struct AreaPart {
     pub loops: usize,
     pub begun: usize,
     pub count: usize,
     pub entries: usize,
+}
+
+// Where the walk stands.
+pub struct State {
+    pub mesh: MeshPart,
+    pub layer: LayerPart,
+    pub line: LinePart,
+    pub area: AreaPart,
 }
 
 // What the records were, and the words that the layers among them need.
@@ -57,11 +87,11 @@ pub struct Walked {
 
 // ---- the walk
 
-// The number in the `width` columns from `column` on, without its sign; 0 where there is none.
-pub fn size_in(t: &[u8], column: usize, width: usize) -> usize
-    ensures { λ r. ⌜ (r ≡ sizeIn (now (t .entry)) column width) × (r ≤ 999999) ⌝ }
+// The number in these columns of a record, without its sign; 0 where there is none.
+pub fn size_at(t: &[u8], c: Columns) -> usize
+    ensures { λ r. ⌜ (r ≡ sizeIn (now (t .entry)) (c .0) (c .1)) × (r ≤ 999999) ⌝ }
 {
-    let answer = fields::read_number(t, column, width);
+    let answer = fields::read_number(t, c.0, c.1);
     let Number::Value(v) = answer else {
         return 0;
     };
@@ -72,28 +102,28 @@ pub fn size_in(t: &[u8], column: usize, width: usize) -> usize
 pub fn due(s: State) -> Due
     ensures { λ r. ⌜ r ≡ dueOf s ⌝ }
 {
-    if 0 < s.points {
-        return Due::Coordinates(s.points);
+    if 0 < s.line.points {
+        return Due::Coordinates(s.line.points);
     }
-    if 0 < s.entries {
-        return Due::Loop(s.begun, s.count, s.entries);
+    if 0 < s.area.entries {
+        return Due::Loop(s.area.begun, s.area.count, s.area.entries);
     }
-    if s.begun < s.loops {
-        return Due::Loop(s.begun, s.count, 0);
+    if s.area.begun < s.area.loops {
+        return Due::Loop(s.area.begun, s.area.count, 0);
     }
-    if s.node < s.nodes {
-        return Due::Node(s.layer, s.node);
+    if s.layer.node < s.layer.nodes {
+        return Due::Node(s.layer.code, s.layer.node);
     }
-    if s.line < s.lines {
-        return Due::Line(s.layer, s.line);
+    if s.layer.line < s.layer.lines {
+        return Due::Line(s.layer.code, s.layer.line);
     }
-    if s.area < s.areas {
-        return Due::Area(s.layer, s.area);
+    if s.layer.area < s.layer.areas {
+        return Due::Area(s.layer.code, s.layer.area);
     }
-    if 0 < s.layers {
-        return Due::Layer(s.layer);
+    if 0 < s.mesh.layers {
+        return Due::Layer(s.layer.code);
     }
-    Due::Mesh(s.mesh)
+    Due::Mesh(s.mesh.code)
 }
 
 // Before the first record.
@@ -101,20 +131,23 @@ pub fn at_start() -> State
     ensures { λ r. ⌜ r ≡ start ⌝ }
 {
     State {
-        mesh: 0,
-        layers: 0,
-        layer: 0,
-        nodes: 0,
-        node: 0,
-        lines: 0,
-        line: 0,
-        areas: 0,
-        area: 0,
-        points: 0,
-        loops: 0,
-        begun: 0,
-        count: 0,
-        entries: 0,
+        mesh: MeshPart { code: 0, layers: 0 },
+        layer: LayerPart {
+            code: 0,
+            nodes: 0,
+            node: 0,
+            lines: 0,
+            line: 0,
+            areas: 0,
+            area: 0,
+        },
+        line: LinePart { points: 0 },
+        area: AreaPart {
+            loops: 0,
+            begun: 0,
+            count: 0,
+            entries: 0,
+        },
     }
 }
 
@@ -133,64 +166,99 @@ fn behind_mesh(t: &[u8]) -> State
     ensures { λ r. ⌜ r ≡ meshed (now (t .entry)) ⌝ }
 {
     let mut s = at_start();
-    s.mesh = size_in(t, 3, 6);
-    s.layers = size_in(t, 29, 3);
+    let mesh = MeshPart {
+        code: size_at(t, records::MESH_CODE),
+        layers: size_at(t, records::MESH_LAYERS),
+    };
+    s.mesh = mesh;
     s
+}
+
+// The layer behind its H.
+fn layer_part(t: &[u8]) -> LayerPart
+    ensures { λ r. ⌜ r ≡ layerPart (now (t .entry)) ⌝ }
+{
+    LayerPart {
+        code: size_at(t, records::LAYER_CODE),
+        nodes: size_at(t, records::LAYER_NODES),
+        node: 0,
+        lines: size_at(t, records::LAYER_LINES),
+        line: 0,
+        areas: size_at(t, records::LAYER_AREAS),
+        area: 0,
+    }
 }
 
 // The state behind an H.
 fn behind_layer(s: State, t: &[u8]) -> State
-    ensures { λ r. ⌜ r ≡ layered s (now (t .entry)) ⌝ }
+    ensures { λ r. ⌜ r ≡ headed s (now (t .entry)) ⌝ }
 {
     let mut u = at_start();
-    u.mesh = s.mesh;
-    u.layers = less(s.layers, 1);
-    u.layer = size_in(t, 3, 2);
-    u.nodes = size_in(t, 5, 5);
-    u.lines = size_in(t, 10, 5);
-    u.areas = size_in(t, 15, 5);
+    let mesh = MeshPart {
+        code: s.mesh.code,
+        layers: less(s.mesh.layers, 1),
+    };
+    let layer = layer_part(t);
+    u.mesh = mesh;
+    u.layer = layer;
     u
 }
 
-// The state behind the record `t`.
+// The state behind the record `t`: each replaces a part.
 pub fn next(s: State, t: &[u8]) -> State
     ensures { λ r. ⌜ r ≡ nextOf s (now (t .entry)) ⌝ }
 {
     let mut u = s;
-    if 0 < s.points {
-        u.points = less(s.points, 7);
+    let mut layer = s.layer;
+    let mut area = s.area;
+    if 0 < s.line.points {
+        let line = LinePart {
+            points: less(s.line.points, 7),
+        };
+        u.line = line;
         return u;
     }
-    if 0 < s.entries {
-        u.entries = less(s.entries, 12);
+    if 0 < area.entries {
+        area.entries = less(area.entries, 12);
+        u.area = area;
         return u;
     }
-    if s.begun < s.loops {
-        let n = size_in(t, 6, 4);
-        u.begun = s.begun + 1;
-        u.count = n;
-        u.entries = less(n, 12);
+    if area.begun < area.loops {
+        let n = size_at(t, records::LOOP_COUNT);
+        area.begun = area.begun + 1;
+        area.count = n;
+        area.entries = less(n, 12);
+        u.area = area;
         return u;
     }
-    if s.node < s.nodes {
-        u.node = s.node + 1;
+    if layer.node < layer.nodes {
+        layer.node = layer.node + 1;
+        u.layer = layer;
         return u;
     }
-    if s.line < s.lines {
-        u.line = s.line + 1;
-        u.points = size_in(t, 50, 6);
+    if layer.line < layer.lines {
+        layer.line = layer.line + 1;
+        let line = LinePart {
+            points: size_at(t, records::LINE_POINTS),
+        };
+        u.layer = layer;
+        u.line = line;
         return u;
     }
-    if s.area < s.areas {
-        u.area = s.area + 1;
-        u.loops = size_in(t, 25, 4);
-        u.begun = 0;
-        u.count = 0;
-        u.entries = 0;
+    if layer.area < layer.areas {
+        layer.area = layer.area + 1;
+        let begun = AreaPart {
+            loops: size_at(t, records::AREA_LOOPS),
+            begun: 0,
+            count: 0,
+            entries: 0,
+        };
+        u.layer = layer;
+        u.area = begun;
         return u;
     }
     // each of these has a local of its own, which keeps `u` out of memory
-    if 0 < s.layers {
+    if 0 < s.mesh.layers {
         let head = behind_layer(s, t);
         return head;
     }
@@ -208,19 +276,23 @@ pub struct Pass {
 
 // Passes the coordinate records of the points that are left: no more than `most`.
 fn pass_points(s: State, most: usize) -> Pass
-    requires { ⌜ 0 < s .points ⌝ }
-    ensures { λ r. ⌜ (r .records ≡ min most ((s .points - 1) / 7 + 1)) × (r .state ≡ passed s (r .records)) ⌝ }
+    requires { ⌜ 0 < s .line .points ⌝ }
+    ensures { λ r. ⌜ (r .records ≡ min most ((s .line .points - 1) / 7 + 1)) × (r .state ≡ passed s (r .records)) ⌝ }
 {
-    let all = (s.points - 1) / 7 + 1;
+    let all = (s.line.points - 1) / 7 + 1;
     let mut u = s;
     if most < all {
-        u.points = s.points - 7 * most;
+        let line = LinePart {
+            points: s.line.points - 7 * most,
+        };
+        u.line = line;
         return Pass {
             state: u,
             records: most,
         };
     }
-    u.points = 0;
+    let line = LinePart { points: 0 };
+    u.line = line;
     Pass {
         state: u,
         records: all,
@@ -229,19 +301,22 @@ fn pass_points(s: State, most: usize) -> Pass
 
 // Passes the nodes that are left: no more than `most`.
 fn pass_nodes(s: State, most: usize) -> Pass
-    requires { ⌜ s .points ≤ 0 ⌝ }
-    ensures { λ r. ⌜ (r .records ≡ min most (s .nodes - s .node)) × (r .state ≡ passed s (r .records)) ⌝ }
+    requires { ⌜ s .line .points ≤ 0 ⌝ }
+    ensures { λ r. ⌜ (r .records ≡ min most (s .layer .nodes - s .layer .node)) × (r .state ≡ passed s (r .records)) ⌝ }
 {
-    let all = less(s.nodes, s.node);
+    let all = less(s.layer.nodes, s.layer.node);
     let mut u = s;
+    let mut layer = s.layer;
     if most < all {
-        u.node = s.node + most;
+        layer.node = layer.node + most;
+        u.layer = layer;
         return Pass {
             state: u,
             records: most,
         };
     }
-    u.node = s.node + all;
+    layer.node = layer.node + all;
+    u.layer = layer;
     Pass {
         state: u,
         records: all,
@@ -263,13 +338,13 @@ fn pass_none(s: State) -> Pass
 pub fn pass_quiet(s: State, most: usize) -> Pass
     ensures { λ r. ⌜ (r .records ≡ min most (quietAhead s)) × (r .state ≡ passed s (r .records)) ⌝ }
 {
-    if 0 < s.points {
+    if 0 < s.line.points {
         return pass_points(s, most);
     }
-    if 0 < s.entries {
+    if 0 < s.area.entries {
         return pass_none(s);
     }
-    if s.begun < s.loops {
+    if s.area.begun < s.area.loops {
         return pass_none(s);
     }
     pass_nodes(s, most)
@@ -373,7 +448,9 @@ fn counted(c: Counts, d: Due, t: &[u8]) -> Counts
         }
         Due::Layer(_) => {
             e.layers = c.layers + 1;
-            e.words = c.words + (4 + (size_in(t, 10, 5) + size_in(t, 15, 5)));
+            e.words = c.words
+                + (ROW_LENGTH
+                    + (size_at(t, records::LAYER_LINES) + size_at(t, records::LAYER_AREAS)));
             e
         }
         Due::Node(_, _) => {
@@ -398,7 +475,7 @@ fn counted_past(c: Counts, s: State, h: usize) -> Counts
     requires { ⌜ (c .nodes ≤ 6399936) × (h ≤ 6399936) ⌝ }
     ensures { λ r. ⌜ r ≡ countedPast c s h ⌝ }
 {
-    if 0 < s.points {
+    if 0 < s.line.points {
         return c;
     }
     let mut e = c;
@@ -480,7 +557,7 @@ fn stage_two(file: &[u8]) -> Walked
         c = counted(c, d, t);
         s = next(s, t);
         k += 1;
-        let h = fine_ahead(file, s.points, k, n);
+        let h = fine_ahead(file, s.line.points, k, n);
         let p = pass_quiet(s, h);
         s = p.state;
         k += p.records;
@@ -516,16 +593,16 @@ pub fn walk_file(file: &[u8]) -> Walked
 
 // ---- the table
 
-// The four words of a row, from `at` on.
+// The words of a row, from `at` on.
 fn put_row(table: &mut [u32], at: usize, h: u32, nodes: usize, lines: usize, areas: usize)
-    requires { ⌜ at + 4 ≤ length (now table) ⌝ }
+    requires { ⌜ at + rowLength ≤ length (now table) ⌝ }
     requires { ⌜ (nodes ≤ 999999) × (lines ≤ 999999) × (areas ≤ 999999) ⌝ }
-    ensures { λ _. ⌜ now (table .exit) ≡ sets (now (table .entry)) at (h ∷ nodes ∷ lines ∷ areas ∷ []) ⌝ }
+    ensures { λ _. ⌜ now (table .exit) ≡ sets (now (table .entry)) at (rowOf h nodes lines areas) ⌝ }
 {
-    table[at] = h;
-    table[at + 1] = nodes as u32;
-    table[at + 2] = lines as u32;
-    table[at + 3] = areas as u32;
+    table[at + HEAD_WORD] = h;
+    table[at + NODES_WORD] = nodes as u32;
+    table[at + LINES_WORD] = lines as u32;
+    table[at + AREAS_WORD] = areas as u32;
 }
 
 // Where the sections of the table begin: the lines' and the areas'. The rows' is 0.
@@ -537,15 +614,15 @@ struct Bases {
 // The words that the record `t` gives, due as `d`, behind the counts `c`.
 fn put_record(table: &mut [u32], d: Due, t: &[u8], row: u32, c: Counts, b: Bases)
     requires { ⌜ Roomy d c b (length (now table)) ⌝ }
-    ensures { λ _. ⌜ now (table .exit) ≡ sets (now (table .entry)) (placeOf d c b) (recordWords d (now (t .entry)) row) ⌝ }
+    ensures { λ _. ⌜ now (table .exit) ≡ sets (now (table .entry)) (storedAt d c b) (recordWords d (now (t .entry)) row) ⌝ }
 {
     match d {
         Due::Mesh(_) => {}
         Due::Layer(_) => {
-            let nodes = size_in(t, 5, 5);
-            let lines = size_in(t, 10, 5);
-            let areas = size_in(t, 15, 5);
-            put_row(table, 4 * c.layers, row, nodes, lines, areas);
+            let nodes = size_at(t, records::LAYER_NODES);
+            let lines = size_at(t, records::LAYER_LINES);
+            let areas = size_at(t, records::LAYER_AREAS);
+            put_row(table, ROW_LENGTH * c.layers, row, nodes, lines, areas);
         }
         Due::Node(_, _) => {}
         Due::Line(_, _) => {
@@ -566,7 +643,7 @@ fn fill(file: &[u8], total: Counts, table: &mut [u32])
     ensures { λ _. ⌜ now (table .exit) ≡ filled (tableOf (now (file .entry))) (now (table .entry)) ⌝ }
 {
     let n = records_of(file);
-    let rows = 4 * total.layers;
+    let rows = ROW_LENGTH * total.layers;
     let b = Bases {
         lines: rows,
         areas: rows + total.lines,

@@ -1,55 +1,75 @@
 -- `totals::judge_mesh` meets its contract: four totals in a row, the first broken one returned. Assumes nothing.
-use Rattle.totals.specs.Totals.{meshTotals}
-use Rattle.totals.proofs.Summing.{total-kept, total-broken}
+use Rattle.verdict.proofs.Parts.{part-stops, part-passes}
+use Rattle.totals.specs.Totals.{meshTotals, fourth}
 use borrow.Author.Needs.{needs}
 use Rattle.totals.proofs.judge_mesh.Statement.{statement}
 use Rattle.totals.proofs.judge_mesh.Tie as tie
 
-size-in-requires : tie.Need-size-in-requires
-size-in-requires c κs = search needs
-
-returns : tie.Need-returns
-unfolding meshTotals
-returns c = total-broken _ _ _ _ (c .before .before .size-in .ensures .0) _ (c .if1 .taken)
-
-size-in-requires-2 : tie.Need-size-in-requires-2
-size-in-requires-2 c κs = search needs
-
-returns-2 : tie.Need-returns-2
-unfolding meshTotals
-returns-2 c = total-kept _ _ _ _ (c .before .before .before .before .before .size-in .ensures .0) _ (c .before .before .before .if1 .left) (total-broken _ _ _ _ (c .before .before .size-in2 .ensures .0) _ (c .if2 .taken))
-
-size-in-requires-3 : tie.Need-size-in-requires-3
-size-in-requires-3 c κs = search needs
-
-returns-3 : tie.Need-returns-3
-unfolding meshTotals
-returns-3 c = total-kept _ _ _ _ (c .before .before .before .before .before .before .before .before .size-in .ensures .0) _ (c .before .before .before .before .before .before .if1 .left) (total-kept _ _ _ _ (c .before .before .before .before .before .size-in2 .ensures .0) _ (c .before .before .before .if2 .left) (total-broken _ _ _ _ (c .before .before .size-in3 .ensures .0) _ (c .if3 .taken)))
-
-size-in-requires-4 : tie.Need-size-in-requires-4
-size-in-requires-4 c κs = search needs
-
-add-judge-total : tie.Need-add-judge-total
-add-judge-total c = search needs
-
 judge-total-requires : tie.Need-judge-total-requires
 judge-total-requires c κs = search needs
 
+enum-told : tie.Need-enum-told
+enum-told c = search needs
+
+returns : tie.Need-returns
+unfolding meshTotals
+returns c = part-stops fourth _ _ _ (c .enum-told .given .1) (c .before .before .judge-total .ensures)
+
+enum-told-2 : tie.Need-enum-told-2
+enum-told-2 c = search needs
+
+judge-total-requires-2 : tie.Need-judge-total-requires-2
+judge-total-requires-2 c κs = search needs
+
+enum-told-3 : tie.Need-enum-told-3
+enum-told-3 c = search needs
+
+returns-2 : tie.Need-returns-2
+unfolding meshTotals
+returns-2 c = part-passes fourth _ _ _ (c .before .before .before .enum-told2 .given .1) (c .before .before .before .before .before .judge-total .ensures) (part-stops fourth _ _ _ (c .enum-told3 .given .1) (c .before .before .judge-total2 .ensures))
+
+enum-told-4 : tie.Need-enum-told-4
+enum-told-4 c = search needs
+
+judge-total-requires-3 : tie.Need-judge-total-requires-3
+judge-total-requires-3 c κs = search needs
+
+enum-told-5 : tie.Need-enum-told-5
+enum-told-5 c = search needs
+
+returns-3 : tie.Need-returns-3
+unfolding meshTotals
+returns-3 c = part-passes fourth _ _ _ (c .before .before .before .before .before .before .enum-told2 .given .1) (c .before .before .before .before .before .before .before .before .judge-total .ensures) (part-passes fourth _ _ _ (c .before .before .before .enum-told4 .given .1) (c .before .before .before .before .before .judge-total2 .ensures) (part-stops fourth _ _ _ (c .enum-told5 .given .1) (c .before .before .judge-total3 .ensures)))
+
+enum-told-6 : tie.Need-enum-told-6
+enum-told-6 c = search needs
+
+with-bearer-requires : tie.Need-with-bearer-requires
+with-bearer-requires c κs = search needs
+
+judge-total-requires-4 : tie.Need-judge-total-requires-4
+judge-total-requires-4 c κs = search needs
+
 returns-4 : tie.Need-returns-4
 unfolding meshTotals
-returns-4 c = total-kept _ _ _ _ (c .before .before .before .before .before .before .before .before .before .before .before .size-in .ensures .0) _ (c .before .before .before .before .before .before .before .before .before .if1 .left) (total-kept _ _ _ _ (c .before .before .before .before .before .before .before .before .size-in2 .ensures .0) _ (c .before .before .before .before .before .before .if2 .left) (total-kept _ _ _ _ (c .before .before .before .before .before .size-in3 .ensures .0) _ (c .before .before .before .if3 .left) (rw (c .before .before .size-in4 .ensures .0) at (c .judge-total .ensures))))
+returns-4 c = part-passes fourth _ _ _ (c .before .before .before .before .before .before .before .before .enum-told2 .given .1) (c .before .before .before .before .before .before .before .before .before .before .judge-total .ensures) (part-passes fourth _ _ _ (c .before .before .before .before .before .enum-told4 .given .1) (c .before .before .before .before .before .before .before .judge-total2 .ensures) (part-passes fourth _ _ _ (c .before .before .enum-told6 .given .1) (c .before .before .before .before .judge-total3 .ensures) (rw (c .before .with-bearer .ensures) at (c .judge-total4 .ensures))))
 
 pub judge-mesh-spec : {M : Type 1} → statement M
 judge-mesh-spec =
     tie.close
     (tie.spec
-    size-in-requires
-    returns
-    size-in-requires-2
-    returns-2
-    size-in-requires-3
-    returns-3
-    size-in-requires-4
-    add-judge-total
     judge-total-requires
+    enum-told
+    returns
+    enum-told-2
+    judge-total-requires-2
+    enum-told-3
+    returns-2
+    enum-told-4
+    judge-total-requires-3
+    enum-told-5
+    returns-3
+    enum-told-6
+    with-bearer-requires
+    judge-total-requires-4
     returns-4)

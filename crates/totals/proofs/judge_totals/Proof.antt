@@ -45,11 +45,8 @@ add-record-view-2 c = search needs
 record-view-requires-2 : tie.Need-record-view-requires-2
 record-view-requires-2 c κs = search needs
 
-size-in-requires : tie.Need-size-in-requires
-size-in-requires c κs = search needs
-
-add-judge-total : tie.Need-add-judge-total
-add-judge-total c = search needs
+with-bearer-requires : tie.Need-with-bearer-requires
+with-bearer-requires c κs = search needs
 
 judge-total-requires : tie.Need-judge-total-requires
 judge-total-requires c κs = search needs
@@ -78,9 +75,6 @@ add-record-view-3 c = search needs
 record-view-requires-3 : tie.Need-record-view-requires-3
 record-view-requires-3 c κs = search needs
 
-size-in-requires-2 : tie.Need-size-in-requires-2
-size-in-requires-2 c κs = search needs
-
 judge-total-requires-2 : tie.Need-judge-total-requires-2
 judge-total-requires-2 c κs = search needs
 
@@ -91,7 +85,7 @@ returns : tie.Need-returns
 returns c = mesh-arm _ _ (c .before .before .before .enum-told .given .1) (c .before .record-view .ensures) (c .before .before .sums-behind .ensures .0) (c .judge-mesh .ensures)
 
 returns-2 : tie.Need-returns-2
-returns-2 c = layer-arm _ _ (c .before .before .before .before .before .enum-told2 .given .1) (c .before .before .before .record-view2 .ensures) (c .before .before .before .before .sums-behind2 .ensures .0) (c .before .before .size-in .ensures .0) (c .judge-total .ensures)
+returns-2 c = layer-arm _ _ (c .before .before .before .before .enum-told2 .given .1) (c .before .before .record-view2 .ensures) (c .before .before .before .sums-behind2 .ensures .0) (c .before .with-bearer .ensures) (c .judge-total .ensures)
 
 returns-3 : tie.Need-returns-3
 returns-3 c = rw (c .enum-told3 .given .1) (check-none fourth _)
@@ -103,7 +97,7 @@ returns-5 : tie.Need-returns-5
 returns-5 c = rw (c .enum-told5 .given .1) (check-none fourth _)
 
 returns-6 : tie.Need-returns-6
-returns-6 c = area-arm _ _ (c .before .before .before .before .enum-told6 .given .1) (c .before .before .record-view3 .ensures) (c .before .before .before .sums-behind3 .ensures .0) (c .before .size-in2 .ensures .0) (c .judge-total2 .ensures)
+returns-6 c = area-arm _ _ (c .before .before .before .enum-told6 .given .1) (c .before .record-view3 .ensures) (c .before .before .sums-behind3 .ensures .0) (c .judge-total2 .ensures)
 
 returns-7 : tie.Need-returns-7
 returns-7 c = rw (c .enum-told7 .given .1) (check-none fourth _)
@@ -125,8 +119,7 @@ judge-totals-spec =
     sums-behind-requires-2
     add-record-view-2
     record-view-requires-2
-    size-in-requires
-    add-judge-total
+    with-bearer-requires
     judge-total-requires
     enum-told-3
     enum-told-4
@@ -136,7 +129,6 @@ judge-totals-spec =
     sums-behind-requires-3
     add-record-view-3
     record-view-requires-3
-    size-in-requires-2
     judge-total-requires-2
     enum-told-7
     returns

@@ -6,14 +6,14 @@ use Rattle.totals.proofs.loop_more.Tie as tie
 add-u : tie.Need-add-u
 add-u c = search needs
 
-size-in-requires : tie.Need-size-in-requires
-size-in-requires c κs = search needs
+size-at-requires : tie.Need-size-at-requires
+size-at-requires c κs = search needs
 
 add-u-2 : tie.Need-add-u-2
 add-u-2 c = search needs
 
 returns : tie.Need-returns
-returns c = rw (c .before .size-in .ensures .0)
+returns c = rw (c .before .size-at .ensures .0)
 
 pub loop-more-spec : {M : Type 1} → statement M
-loop-more-spec = tie.close (tie.spec add-u size-in-requires add-u-2 returns)
+loop-more-spec = tie.close (tie.spec add-u size-at-requires add-u-2 returns)

@@ -2,13 +2,14 @@
 use mathlib.Core.Path.{_≡_, _∙_}
 use Prim.Native.Nat.{_-_, _≤_}
 use native.Mathlib.Nat.{le-refl}
+use native.Mathlib.Omega.{arith}
 use borrow.Author.Needs.{needs}
 use Rattle.verdict.specs.declared.Verdict.the-variants.{Fine}
 use Rattle.verdict.specs.Rules.{firstBroken, rows}
 use Rattle.verdict.proofs.Parts.{rows-none, rows-pass}
 use Rattle.walk.specs.States.{stateAt}
 use Rattle.walk.proofs.Walking.{at-none, next-state}
-use Rattle.walk.proofs.Passing.{pass-are-quiet, passed-state}
+use Rattle.walk.proofs.Passing.{pass-most, pass-are-quiet, passed-state}
 use Rattle.totals.proofs.Summing.{totalsOf, rule-is, three-quiet, three-stops, three-done}
 use Rattle.totals.proofs.stage_three.Statement.{statement}
 use Rattle.totals.proofs.stage_three.Tie as tie
@@ -62,7 +63,7 @@ pass-quiet-requires : tie.Need-pass-quiet-requires Inv-loop μ-loop
 pass-quiet-requires c κs = search needs
 
 add-k-2 : tie.Need-add-k-2 Inv-loop μ-loop
-add-k-2 c = search needs
+add-k-2 c = omega (arith, pass-most _ _ (c .before .before .pass-quiet .ensures .0), c .before .before .before .before .before .before .before .before .before .loop-test .taken, c .before .before .before .before .before .before .before .before .before .before .before .before .records-of .ensures .1)
 
 loop-less : tie.Need-loop-less Inv-loop μ-loop
 loop-less c = search needs

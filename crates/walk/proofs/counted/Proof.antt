@@ -16,11 +16,11 @@ enum-told-2 c = search needs
 add-e-2 : tie.Need-add-e-2
 add-e-2 c = search needs
 
-size-in-requires : tie.Need-size-in-requires
-size-in-requires c κs = search needs
+size-at-requires : tie.Need-size-at-requires
+size-at-requires c κs = search needs
 
-size-in-requires-2 : tie.Need-size-in-requires-2
-size-in-requires-2 c κs = search needs
+size-at-requires-2 : tie.Need-size-at-requires-2
+size-at-requires-2 c κs = search needs
 
 add-e-3 : tie.Need-add-e-3
 add-e-3 c = search needs
@@ -60,7 +60,7 @@ returns c = rw (c .before .enum-told .given .1)
 
 returns-2 : tie.Need-returns-2
 unfolding layerWords
-returns-2 c = simp (c .before .before .before .before .enum-told2 .given .1, c .before .before .size-in .ensures .0, c .before .size-in2 .ensures .0)
+returns-2 c = simp (c .before .before .before .before .enum-told2 .given .1, c .before .before .size-at .ensures .0, c .before .size-at2 .ensures .0)
 
 returns-3 : tie.Need-returns-3
 returns-3 c = rw (c .before .enum-told3 .given .1)
@@ -85,8 +85,8 @@ counted-spec =
     add-e
     enum-told-2
     add-e-2
-    size-in-requires
-    size-in-requires-2
+    size-at-requires
+    size-at-requires-2
     add-e-3
     add-e-4
     add-e-5

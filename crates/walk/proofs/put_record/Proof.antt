@@ -10,14 +10,14 @@ enum-told c = search needs
 enum-told-2 : tie.Need-enum-told-2
 enum-told-2 c = search needs
 
-size-in-requires : tie.Need-size-in-requires
-size-in-requires c κs = search needs
+size-at-requires : tie.Need-size-at-requires
+size-at-requires c κs = search needs
 
-size-in-requires-2 : tie.Need-size-in-requires-2
-size-in-requires-2 c κs = search needs
+size-at-requires-2 : tie.Need-size-at-requires-2
+size-at-requires-2 c κs = search needs
 
-size-in-requires-3 : tie.Need-size-in-requires-3
-size-in-requires-3 c κs = search needs
+size-at-requires-3 : tie.Need-size-at-requires-3
+size-at-requires-3 c κs = search needs
 
 mul-put-row : tie.Need-mul-put-row
 mul-put-row c =
@@ -29,7 +29,7 @@ put-row-requires : tie.Need-put-row-requires
 put-row-requires c κs =
     let a = c .before .before .before .before .before in
     let r = rw (a .enum-told2 .given .1) at (a .before .before .before .before .pre .room) in
-    (omega (arith, r), (c .before .before .before .before .size-in .ensures .1, c .before .before .before .size-in2 .ensures .1, c .before .before .size-in3 .ensures .1))
+    (omega (arith, r), (c .before .before .before .before .size-at .ensures .1, c .before .before .before .size-at2 .ensures .1, c .before .before .size-at3 .ensures .1))
 
 enum-told-3 : tie.Need-enum-told-3
 enum-told-3 c = search needs
@@ -92,7 +92,7 @@ returns-2 : tie.Need-returns-2
 returns-2 c =
     let z = c .before .before .before .before .before in
     let a = z .before .before .before in
-    rw (a .enum-told2 .given .1, ← z .before .before .size-in .ensures .0, ← z .before .size-in2 .ensures .0, ← z .size-in3 .ensures .0) (c .before .before .put-row .ensures)
+    rw (a .enum-told2 .given .1, ← z .before .before .size-at .ensures .0, ← z .before .size-at2 .ensures .0, ← z .size-at3 .ensures .0) (c .before .before .put-row .ensures)
 
 returns-3 : tie.Need-returns-3
 returns-3 c = rw (c .enum-told3 .given .1)
@@ -121,9 +121,9 @@ put-record-spec =
     (tie.spec
     enum-told
     enum-told-2
-    size-in-requires
-    size-in-requires-2
-    size-in-requires-3
+    size-at-requires
+    size-at-requires-2
+    size-at-requires-3
     mul-put-row
     put-row-requires
     enum-told-3

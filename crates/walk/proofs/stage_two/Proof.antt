@@ -79,7 +79,7 @@ next-requires : tie.Need-next-requires Inv-loop μ-loop
 next-requires c κs = search needs
 
 add-k : tie.Need-add-k Inv-loop μ-loop
-add-k c = search needs
+add-k c = omega (arith, c .before .before .before .before .before .before .before .loop-test .taken, c .before .before .before .before .before .before .before .before .before .before .before .records-of .ensures .1)
 
 fine-ahead-requires : tie.Need-fine-ahead-requires Inv-loop μ-loop
 fine-ahead-requires c κs =

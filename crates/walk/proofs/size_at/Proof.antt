@@ -1,8 +1,8 @@
--- `walk::size_in` meets its contract: the number's size, by the reader's answer; at most 6 digits. Assumes nothing.
+-- `walk::size_at` meets its contract: the number's size, by the reader's answer; at most 6 digits. Assumes nothing.
 use borrow.Author.Needs.{needs}
 use Rattle.walk.proofs.Walking.{size-small, size-none, size-value}
-use Rattle.walk.proofs.size_in.Statement.{statement}
-use Rattle.walk.proofs.size_in.Tie as tie
+use Rattle.walk.proofs.size_at.Statement.{statement}
+use Rattle.walk.proofs.size_at.Tie as tie
 
 read-number-requires : tie.Need-read-number-requires
 read-number-requires c κs = search needs
@@ -27,7 +27,7 @@ returns-2 c =
     let e = size-value _ _ _ (n .read-number .ensures) (a .answer .given .1) (record { sfits = k .known-told .given .0 .1 }) (c .size .ensures) in
     (e, rw e (size-small _ _ _))
 
-pub size-in-spec : {M : Type 1} → statement M
-size-in-spec =
+pub size-at-spec : {M : Type 1} → statement M
+size-at-spec =
     tie.close
     (tie.spec read-number-requires enum-known-answer enum-told returns size-requires returns-2)
