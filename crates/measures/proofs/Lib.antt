@@ -1,9 +1,8 @@
--- Laws of the crate's definitions. `SumLaws`, `FirstLaws`, `MeasureLaws`, `LineLaws`, `Sounding` and `Ground` have those that other crates and
+-- Laws of the crate's definitions. `SumLaws`, `FirstLaws`, `MeasureLaws`, `Sounding` and `Ground` have those that other crates and
 -- readers go by; the other files serve the proofs.
 pub mod SumLaws
 pub mod FirstLaws
 pub mod MeasureLaws
-pub mod LineLaws
 pub mod Ground
 pub mod Bounds
 pub mod Stepping

@@ -1,4 +1,4 @@
--- The points of a line in a file (RULES 4.4: points 50-55; RULES 4.5: X and Y of seven points in 1-70). Assumes nothing.
+-- The points of a line in a file (RULES 4.4: how many; RULES 4.5: X and Y of seven points a record). Assumes nothing.
 --   coordinateIn s c    the coordinate that starts at column c of the record s: the number that stands there
 --   pointAt file r i    point i, counted from 0, of the line whose L is record r
 --   measureIn file r    its measure
@@ -8,7 +8,8 @@ use Prim.Native.Nat.{ℕ, zero, suc, _+_, _*_, _/_, _%_}
 use lib.IntN.{ℤ, pos, negsuc}
 use Rattle.fields.specs.Number.{numberAt}
 use Rattle.fields.specs.Answer.{valueOf}
-use Rattle.records.specs.View.{recordOf, numberIn}
+use Rattle.records.specs.View.{recordOf}
+use Rattle.records.specs.Columns.{linePoints, valueAt, pointsX, pointsY, slotColumn}
 use Rattle.measures.specs.Measures.{Point, lineMeasure}
 
 -- RULES 7.1: the number that stands there; 0 where none does
@@ -20,9 +21,9 @@ abbrev pub countOf : ℤ → ℕ
 countOf (pos n) = n
 countOf (negsuc n) = 0
 
--- RULES 4.4: an L's points, 50-55
+-- RULES 4.4: an L's points
 unfoldable pub pointCount : List ℕ → ℕ → ℕ
-pointCount file r = countOf (numberIn file r 50 6)
+pointCount file r = countOf (valueAt file r linePoints)
 
 -- f 0, f 1, .. f (n - 1)
 unfoldable pub firstOf : {A : Type 0} → (ℕ → A) → ℕ → List A
@@ -33,7 +34,7 @@ firstOf f (suc n) = firstOf f n ++ (f n ∷ [])
 
 -- RULES 4.5: pair i of a coordinate record, counted from 0
 unfoldable pub pairBy : (List ℕ → ℕ → ℤ) → List ℕ → ℕ → Point
-pairBy read s i = record { x = read s (1 + 10 * i); y = read s (6 + 10 * i) }
+pairBy read s i = record { x = read s (slotColumn pointsX i); y = read s (slotColumn pointsY i) }
 
 -- RULES 2.6: point i of the line at record r, counted from 0; a coordinate record has seven
 unfoldable pub pointBy : (List ℕ → ℕ → ℤ) → List ℕ → ℕ → ℕ → Point

@@ -11,6 +11,7 @@ use Rattle.fields.specs.Glimpse.{remaindersAt}
 use Rattle.fields.specs.Number.{numberAt}
 use Rattle.fields.specs.declared.Number.the-variants as number
 use Rattle.records.specs.View.{recordOf}
+use Rattle.records.specs.Columns.{pointsX, pointsY, slotColumn}
 use Rattle.measures.specs.Points.{pointCount, pointAt}
 
 -- RULES 5.5: a coordinate is 0 to 10000
@@ -22,8 +23,8 @@ pub record SoundAt (s : List ℕ) (c : ℕ) (z : ℤ) : Type 0 where
 
 -- point i stands in the coordinate record i / 7 behind the L, counted from 0, as its pair i % 7
 pub record Sound (file : List ℕ) (r : ℕ) : Type 0 where
-  pub east : (i : ℕ) → i < pointCount file r → SoundAt (recordOf file (r + 1 + i / 7)) (1 + 10 * (i % 7)) (pointAt file r i .x)
-  pub north : (i : ℕ) → i < pointCount file r → SoundAt (recordOf file (r + 1 + i / 7)) (6 + 10 * (i % 7)) (pointAt file r i .y)
+  pub east : (i : ℕ) → i < pointCount file r → SoundAt (recordOf file (r + 1 + i / 7)) (slotColumn pointsX (i % 7)) (pointAt file r i .x)
+  pub north : (i : ℕ) → i < pointCount file r → SoundAt (recordOf file (r + 1 + i / 7)) (slotColumn pointsY (i % 7)) (pointAt file r i .y)
 
 -- ---- as the code reads a coordinate
 

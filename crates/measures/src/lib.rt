@@ -46,8 +46,8 @@ fn walk_record(s: &[u8], count: usize, w: Walk) -> Walk
     let mut at = w;
     let mut i = 0;
     while i < count {
-        let x = coordinate(s, 1 + 10 * i);
-        let y = coordinate(s, 6 + 10 * i);
+        let x = coordinate(s, records::slot_column(records::POINTS_X, i));
+        let y = coordinate(s, records::slot_column(records::POINTS_Y, i));
         let next = step(at, x, y);
         at = next;
         i += 1;
@@ -59,7 +59,7 @@ fn walk_record(s: &[u8], count: usize, w: Walk) -> Walk
 fn point_count(file: &[u8], line: usize) -> usize
     ensures { λ r. ⌜ (r ≡ pointCount (now (file .entry)) line) × (r ≤ 999999) ⌝ }
 {
-    let n = records::number_at(file, line, 50, 6);
+    let n = records::value_at(file, line, records::LINE_POINTS);
     if n < 0 {
         return 0;
     }

@@ -8,13 +8,12 @@ use Prim.Native.Nat.{ℕ, zero, suc, _+_, _*_, _≤_, _<_}
 use native.Mathlib.Nat.{le-of-suc-le-suc, eq-or-lt-of-le, mul-le-mul}
 use native.Mathlib.Omega.{arith}
 use lib.Dec.{eqb}
-use lib.IntN.{ℤ, pos}
 use lib.ListN.{getD}
 use borrow.Author.Tests.{eqb-true, lt-ltb, le-ltb}
 use Rattle.fields.proofs.Places.{both}
 use Rattle.records.specs.Layout.{layoutOf}
 use Rattle.records.specs.View.{numberIn}
-use Rattle.records.specs.Columns.{Column, columnKind, spanOf, Row, rowKind, rowSpanOf, slotWidth, slotColumn, slotIn}
+use Rattle.records.specs.Columns.{Column, columnKind, spanOf, Row, rowKind, rowSpanOf, slotWidth, slotColumn, slotStart, slotIn}
 use Rattle.records.specs.Columns as name
 use Rattle.records.specs.declared.Field.{Field}
 use Rattle.records.specs.declared.Field.the-variants.{End, Letters, Number, Name, Blank}
@@ -123,14 +122,17 @@ slot-laid r i l = laid _ _ (layoutOf (rowKind r)) (all-have r (layoutOf (rowKind
 
 -- ---- a slot of a record
 
-module _ (file : List ℕ) (k c step n i : ℕ) where
-  pub slot-past : n ≤ i → slotIn file k c step n i ≡ pos 0
-  unfolding slotIn
-  slot-past h = rw (le-ltb i n h)
+module _ (c step n i : ℕ) where
+  pub start-past : n ≤ i → slotStart c step n i ≡ 0
+  unfolding slotStart
+  start-past h = rw (le-ltb i n h)
 
-  pub slot-there : i < n → slotIn file k c step n i ≡ numberIn file k (c + step * i) slotWidth
-  unfolding slotIn
-  slot-there h = rw (lt-ltb i n h)
+  pub start-there : i < n → slotStart c step n i ≡ c + step * i
+  unfolding slotStart
+  start-there h = rw (lt-ltb i n h)
+
+  pub slot-there : (file : List ℕ) (k : ℕ) → i < n → slotIn file k c step n i ≡ numberIn file k (c + step * i) slotWidth
+  slot-there file k h = rw (start-there h)
 
 -- two bytes' product is small
 pub small-product : {a b : ℕ} → a ≤ 255 → b ≤ 255 → a * b ≤ 65025

@@ -11,7 +11,7 @@ use mathlib.Core.Bool.{cond}
 use mathlib.Core.List.{List}
 use Prim.Native.Nat.{ℕ, _+_, _*_}
 use lib.Dec.{ltb}
-use lib.IntN.{ℤ, pos}
+use lib.IntN.{ℤ}
 use Rattle.records.specs.declared.Kind.{Kind}
 use Rattle.records.specs.declared.Kind.the-variants.{Mesh, Layer, Node, Line, Coordinates, Area, Loop}
 use Rattle.records.specs.View.{numberIn}
@@ -170,9 +170,13 @@ slotWidth = 5
 abbrev pub slotColumn : Row → ℕ → ℕ
 slotColumn r i = rowSpanOf r .start + rowSpanOf r .step * i
 
--- the number in slot i of a row of record k: n slots, the first at column c, each `step` columns behind the one before it
-unfoldable pub slotIn : List ℕ → ℕ → ℕ → ℕ → ℕ → ℕ → ℤ
-slotIn file k c step n i = cond (ltb i n) (numberIn file k (c + step * i) slotWidth) (pos 0)
+-- n slots, the first at column c, each `step` columns behind the one before it: where slot i starts; 0, which is no column, past the last
+unfoldable pub slotStart : ℕ → ℕ → ℕ → ℕ → ℕ
+slotStart c step n i = cond (ltb i n) (c + step * i) 0
+
+-- the number in it, of record k
+abbrev pub slotIn : List ℕ → ℕ → ℕ → ℕ → ℕ → ℕ → ℤ
+slotIn file k c step n i = numberIn file k (slotStart c step n i) slotWidth
 
 abbrev pub slotAt : List ℕ → ℕ → Row → ℕ → ℤ
 slotAt file k r i = slotIn file k (rowSpanOf r .start) (rowSpanOf r .step) (rowSpanOf r .count) i

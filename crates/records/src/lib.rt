@@ -15,7 +15,7 @@ ghost use Rattle.records.specs.Layout.{meshLayout, layerLayout, nodeLayo
 ghost use Rattle.records.specs.Reading.{lettersFault, accepted, refusedAt, fieldsOf, readingOf};
 ghost use Rattle.records.specs.Writing.{noNumbers, noBytes, SpelledAs, Written};
 ghost use Rattle.records.specs.View.{recordOf, numberIn};
-ghost use Rattle.records.specs.Columns.{slotIn};
+ghost use Rattle.records.specs.Columns.{slotStart, slotIn};
 
 // The seven kinds: M, H, N, L, coordinates, A and loop.
 pub enum Kind {
@@ -568,9 +568,9 @@ pub fn value_at(file: &[u8], k: usize, c: Columns) -> i32
     number_at(file, k, c.0, c.1)
 }
 
-// The number in slot `i` of a row of record `k` of a file, counted from 0, and 0 where there is none.
-pub fn slot_at(file: &[u8], k: usize, row: Slots, i: usize) -> i32
-    ensures { λ r. ⌜ r ≡ slotIn (now (file .entry)) k (row .0) (row .1) (row .2) i ⌝ }
+// The first column of slot `i` of a row, counted from 0; 0, which is no column, where there is none.
+pub fn slot_column(row: Slots, i: usize) -> usize
+    ensures { λ r. ⌜ r ≡ slotStart (row .0) (row .1) (row .2) i ⌝ }
 {
     let start = row.0 as usize;
     let step = row.1 as usize;
@@ -578,5 +578,12 @@ pub fn slot_at(file: &[u8], k: usize, row: Slots, i: usize) -> i32
     if count <= i {
         return 0;
     }
-    number_at(file, k, start + step * i, SLOT_WIDTH)
+    start + step * i
+}
+
+// The number in slot `i` of a row of record `k` of a file, counted from 0, and 0 where there is none.
+pub fn slot_at(file: &[u8], k: usize, row: Slots, i: usize) -> i32
+    ensures { λ r. ⌜ r ≡ slotIn (now (file .entry)) k (row .0) (row .1) (row .2) i ⌝ }
+{
+    number_at(file, k, slot_column(row, i), SLOT_WIDTH)
 }

@@ -9,16 +9,16 @@ use Rattle.measures.proofs.Walking.{count-below, count-is, count-small}
 use Rattle.measures.proofs.point_count.Statement.{statement}
 use Rattle.measures.proofs.point_count.Tie as tie
 
-fits : (c : tie.After-number-at) → SFits w32 (c .number-at .result)
-fits c = record { sfits = c .number-at .ok }
+fits : (c : tie.After-value-at) → SFits w32 (c .value-at .result)
+fits c = record { sfits = c .value-at .ok }
 
-number-at-requires : tie.Need-number-at-requires
-number-at-requires c κs = search needs
+value-at-requires : tie.Need-value-at-requires
+value-at-requires c κs = search needs
 
 returns : tie.Need-returns
 returns c =
     let a = c .before in
-    (count-below _ _ _ (fits a) (a .number-at .ensures) (c .if1 .taken), lit≤ tt)
+    (count-below _ _ _ (fits a) (a .value-at .ensures) (c .if1 .taken), lit≤ tt)
 
 cast-result : tie.Need-cast-result
 cast-result c =
@@ -28,7 +28,7 @@ cast-result c =
 returns-2 : tie.Need-returns-2
 returns-2 c =
     let a = c .before in
-    (count-is _ _ _ (fits a) (a .number-at .ensures) (c .if1 .left), count-small _ _ _ (fits a) (a .number-at .ensures))
+    (count-is _ _ _ (fits a) (a .value-at .ensures) (c .if1 .left), count-small _ _ _ (fits a) (a .value-at .ensures))
 
 pub point-count-spec : {M : Type 1} → statement M
-point-count-spec = tie.close (tie.spec number-at-requires returns cast-result returns-2)
+point-count-spec = tie.close (tie.spec value-at-requires returns cast-result returns-2)

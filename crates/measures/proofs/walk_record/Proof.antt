@@ -1,11 +1,13 @@
 -- `measures::walk_record` meets its contract. The loop's invariant: the walk has gone along the first `i` points. Assumes nothing.
 use denote.Ref.{now}
-use mathlib.Core.Path.{_≡_, refl, _∙_}
-use Prim.Native.Nat.{_+_, _*_, _≤_, _-_}
+use mathlib.Core.Path.{_≡_, refl, _∙_, ap}
+use Prim.Native.Nat.{_≤_, _-_}
 use native.Mathlib.Omega.{arith}
 use mir.Facts.{toZ-ofZ}
 use mir.Syntax.{w64}
 use borrow.Author.Needs.{needs}
+use Rattle.records.specs.Columns.{pointsX, pointsY, slotColumn}
+use Rattle.records.proofs.Named.{start-there}
 use Rattle.measures.specs.Points.{pairBy}
 use Rattle.measures.specs.Sound.{addedUp}
 use Rattle.measures.specs.Walks.{Small, far, along}
@@ -21,39 +23,39 @@ abbrev μ-loop : tie.MeasureT-loop
 μ-loop s count at₀ i₀ at i = count - i
 
 -- X and Y, as the machine hands them on
-x-is : (c : tie.After-coordinate Inv-loop μ-loop) → back (c .coordinate .result) ≡ addedUp (now (c .before .before .before .before .args .s)) (1 + 10 * c .before .before .loop .i)
-x-is c = toZ-ofZ {w = w64} (record { sfits = c .coordinate .ok }) ∙ c .coordinate .ensures
+x-is : (c : tie.After-coordinate Inv-loop μ-loop)
+    → back (c .coordinate .result) ≡ addedUp (now (c .before .before .before .before .before .args .s)) (slotColumn pointsX (c .before .before .before .loop .i))
+x-is c =
+    toZ-ofZ {w = w64} (record { sfits = c .coordinate .ok }) ∙ c .coordinate .ensures
+    ∙ ap (addedUp _) (c .before .slot-column .ensures ∙ start-there 1 10 7 _ (omega arith))
 
-y-is : (c : tie.After-coordinate2 Inv-loop μ-loop) → back (c .coordinate2 .result) ≡ addedUp (now (c .before .before .before .before .before .args .s)) (6 + 10 * c .before .before .before .loop .i)
-y-is c = toZ-ofZ {w = w64} (record { sfits = c .coordinate2 .ok }) ∙ c .coordinate2 .ensures
+y-is : (c : tie.After-coordinate2 Inv-loop μ-loop)
+    → back (c .coordinate2 .result) ≡ addedUp (now (c .before .before .before .before .before .before .before .args .s)) (slotColumn pointsY (c .before .before .before .before .before .loop .i))
+y-is c =
+    toZ-ofZ {w = w64} (record { sfits = c .coordinate2 .ok }) ∙ c .coordinate2 .ensures
+    ∙ ap (addedUp _) (c .before .slot-column2 .ensures ∙ start-there 6 10 7 _ (omega arith))
 
 loop-holds : tie.Need-loop-holds Inv-loop μ-loop
 unfolding along
 loop-holds c = (search needs, refl)
 
-mul-coordinate : tie.Need-mul-coordinate Inv-loop μ-loop
-mul-coordinate c = search needs
-
-add-coordinate : tie.Need-add-coordinate Inv-loop μ-loop
-add-coordinate c = search needs
+slot-column-requires : tie.Need-slot-column-requires Inv-loop μ-loop
+slot-column-requires c κs = search needs
 
 coordinate-requires : tie.Need-coordinate-requires Inv-loop μ-loop
 coordinate-requires c κs = search needs
 
-mul-coordinate-2 : tie.Need-mul-coordinate-2 Inv-loop μ-loop
-mul-coordinate-2 c = search needs
-
-add-coordinate-2 : tie.Need-add-coordinate-2 Inv-loop μ-loop
-add-coordinate-2 c = search needs
+slot-column-requires-2 : tie.Need-slot-column-requires-2 Inv-loop μ-loop
+slot-column-requires-2 c κs = search needs
 
 coordinate-requires-2 : tie.Need-coordinate-requires-2 Inv-loop μ-loop
 coordinate-requires-2 c κs = search needs
 
 step-requires : tie.Need-step-requires Inv-loop μ-loop
 step-requires c κs =
-    let l = c .before .before .before in
+    let l = c .before .before .before .before .before in
     let s = l .before .before in
-    let x : Small far (back (c .before .coordinate .result)) = rw (x-is (c .before)) (added-small _ _) in
+    let x : Small far (back (c .before .before .coordinate .result)) = rw (x-is (c .before .before)) (added-small _ _) in
     let y : Small far (back (c .coordinate2 .result)) = rw (y-is c) (added-small _ _) in (
       rw (l .loop .inv .1) (near-le 1000000000000000000 (record-near (now (s .args .s)) (s .pre .1) (l .loop .i)) (omega arith)),
       search needs,
@@ -69,10 +71,10 @@ loop-less c = search needs
 loop-again : tie.Need-loop-again Inv-loop μ-loop
 unfolding pairBy
 loop-again c =
-    let l = c .before .before .before .before in
+    let l = c .before .before .before .before .before .before in
     let s = l .before .before in (
       omega arith,
-      c .step .ensures ∙ rw (x-is (c .before .before), y-is (c .before), l .loop .inv .1) (along-next (s .args .w) (pairBy addedUp (now (s .args .s))) (l .loop .i)),
+      c .step .ensures ∙ rw (x-is (c .before .before .before), y-is (c .before), l .loop .inv .1) (along-next (s .args .w) (pairBy addedUp (now (s .args .s))) (l .loop .i)),
     )
 
 returns : tie.Need-returns Inv-loop μ-loop
@@ -87,11 +89,9 @@ walk-record-spec =
     Inv-loop
     μ-loop
     loop-holds
-    mul-coordinate
-    add-coordinate
+    slot-column-requires
     coordinate-requires
-    mul-coordinate-2
-    add-coordinate-2
+    slot-column-requires-2
     coordinate-requires-2
     step-requires
     add-i
