@@ -286,7 +286,7 @@ fn read_fields(kind: Kind, s: &[u8]) -> Reading
                 j += 1;
             }
             Field::Number(c, w) => {
-                let answer = fields::read_number(s, c, w);
+                let answer = numerals::read_number(s, c, w);
                 let Number::Value(v) = answer else {
                     return refused(kind, 5, c);
                 };
@@ -295,7 +295,7 @@ fn read_fields(kind: Kind, s: &[u8]) -> Reading
                 j += 1;
             }
             Field::Name(c, w) => {
-                let answer = fields::read_name(s, c, w);
+                let answer = texts::read_name(s, c, w);
                 let Text::WellFormed = answer else {
                     return refused(kind, 5, c);
                 };
@@ -306,7 +306,7 @@ fn read_fields(kind: Kind, s: &[u8]) -> Reading
                 j += 1;
             }
             Field::Blank(c, w) => {
-                let answer = fields::read_blank(s, c, w);
+                let answer = texts::read_blank(s, c, w);
                 let Text::WellFormed = answer else {
                     return refused(kind, 5, c);
                 };
@@ -396,7 +396,7 @@ fn spell_record(r: Record) -> Spelled
                 j += 1;
             }
             Field::Number(c, w) => {
-                let answer = fields::write_number(&mut line, c, w, numbers[n]);
+                let answer = writers::write_number(&mut line, c, w, numbers[n]);
                 let Writing::Done = answer else {
                     return Spelled { ok: false, line };
                 };
@@ -405,7 +405,7 @@ fn spell_record(r: Record) -> Spelled
             }
             Field::Name(c, w) => {
                 let e = m + w;
-                let answer = fields::write_name(&mut line, c, w, &name[m..e]);
+                let answer = writers::write_name(&mut line, c, w, &name[m..e]);
                 let Writing::Done = answer else {
                     return Spelled { ok: false, line };
                 };
@@ -413,7 +413,7 @@ fn spell_record(r: Record) -> Spelled
                 j += 1;
             }
             Field::Blank(c, w) => {
-                fields::write_blank(&mut line, c, w);
+                writers::write_blank(&mut line, c, w);
                 j += 1;
             }
         }
@@ -476,5 +476,5 @@ pub fn number_at(file: &[u8], k: usize, column: usize, width: usize) -> i32
         return 0;
     }
     let at = k * 74 - 74 + (column - 1);
-    fields::value_of(&file[at..at + width])
+    numerals::value_of(&file[at..at + width])
 }

@@ -3,9 +3,9 @@
 //
 // The contracts cite `specs/`: `Permitted` has the permitted values, `Asks` what is asked of each number
 // of each kind, `Checks` the checks of a record in the order of judgement.
-use fields::Glance;
 use fields::Number;
 use fields::Text;
+use glances::Glance;
 use records::Field;
 use records::Kind;
 use verdict::Verdict;
@@ -610,7 +610,7 @@ pub fn judge_record(due: Due, s: &[u8], row: u32) -> Verdict
                 j += 1;
             }
             Field::Number(c, w) => {
-                let answer = fields::read_number(s, c, w);
+                let answer = numerals::read_number(s, c, w);
                 let Number::Value(v) = answer else {
                     return broken(5, row, c);
                 };
@@ -623,14 +623,14 @@ pub fn judge_record(due: Due, s: &[u8], row: u32) -> Verdict
                 j += 1;
             }
             Field::Name(c, w) => {
-                let answer = fields::read_name(s, c, w);
+                let answer = texts::read_name(s, c, w);
                 let Text::WellFormed = answer else {
                     return broken(5, row, c);
                 };
                 j += 1;
             }
             Field::Blank(c, w) => {
-                let answer = fields::read_blank(s, c, w);
+                let answer = texts::read_blank(s, c, w);
                 let Text::WellFormed = answer else {
                     return broken(5, row, c);
                 };
@@ -657,7 +657,7 @@ pub fn fine_coordinates(s: &[u8], left: usize) -> bool
 {
     let mut i: usize = 0;
     while i < 14 {
-        let g = fields::glance_number(s, 1 + 5 * i);
+        let g = glances::glance_number(s, 1 + 5 * i);
         let Glance::Sure(n) = g else {
             return false;
         };
@@ -666,7 +666,7 @@ pub fn fine_coordinates(s: &[u8], left: usize) -> bool
         }
         i += 1;
     }
-    let answer = fields::read_blank(s, 71, 2);
+    let answer = texts::read_blank(s, 71, 2);
     let Text::WellFormed = answer else {
         return false;
     };

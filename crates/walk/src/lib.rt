@@ -61,7 +61,7 @@ pub struct Walked {
 pub fn size_in(t: &[u8], column: usize, width: usize) -> usize
     ensures { λ r. ⌜ (r ≡ sizeIn (now (t .entry)) column width) × (r ≤ 999999) ⌝ }
 {
-    let answer = fields::read_number(t, column, width);
+    let answer = numerals::read_number(t, column, width);
     let Number::Value(v) = answer else {
         return 0;
     };

@@ -5,7 +5,7 @@ use Prim.Native.Nat.{_-_, _≤_}
 use native.Mathlib.Omega.{arith}
 use lib.Dec.{lit≤}
 use borrow.Author.Needs.{needs}
-use Rattle.fields.proofs.AtGlance.{sure-says, unsure-says}
+use Rattle.glances.proofs.AtGlance.{sure-says, unsure-says}
 use Rattle.rules.proofs.Glancing.{Glancing, glancing, number-glanced, number-above, number-none, all-glanced, blank-broken}
 use Rattle.rules.proofs.fine_coordinates.Statement.{statement}
 use Rattle.rules.proofs.fine_coordinates.Tie as tie
