@@ -20,7 +20,7 @@ use Rattle.records.specs.Reading.{zeros}
 use Rattle.records.proofs.Layouts.{coordinate-laid}
 use Rattle.verdict.specs.Rules.{firstBroken, isFine, block}
 use Rattle.rules.specs.declared.Due.the-variants.{Coordinates}
-use Rattle.rules.specs.Permitted.{within, isPoint}
+use Rattle.permitted.specs.Permitted.{within, isPoint}
 use Rattle.rules.specs.Asks.{permitted, at, coordinateAsks, asksOf, askedOf, firstAsked}
 use Rattle.rules.specs.Checks.{checksOf}
 use Rattle.rules.proofs.Going.{Going, start, number-ill, number-broken, number-next, blank-ill, blank-next, ends}

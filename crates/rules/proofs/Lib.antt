@@ -4,6 +4,4 @@ pub mod Places
 pub mod Rising
 pub mod Going
 pub mod Glancing
-pub mod Signs
-pub mod Matches
 pub mod Slots

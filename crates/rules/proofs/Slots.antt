@@ -9,7 +9,7 @@ use lib.Dec.{ltb}
 use lib.IntN.{ℤ}
 use lib.ListN.{length, getD, drop, List·getD-eq-default}
 use lib.Seq.{getD-drop}
-use Rattle.rules.specs.Permitted.{isSlot}
+use Rattle.permitted.specs.Permitted.{isSlot}
 use Rattle.rules.specs.Asks.{Ask, permitted, at, from, slotAsk, firstAsked}
 
 -- entry i of a row that begins with f k is f (k + i), by recursion along the row

@@ -9,7 +9,7 @@ use Prim.Native.Nat.{ℕ, zero, suc, _+_, _/_}
 use lib.Dec.{ltb, eqb}
 use lib.IntN.{ℤ, pos}
 use lib.ListN.{getD}
-use Rattle.rules.specs.Permitted.{natural, size, within, is, atLeast, isMeshCode, followsMesh, isLayerCode, followsLayer, isDate, isCoordinate, isNodeItem, isFrame, isLineItem, isLineKind, isLink, isCode, isSide, isAreaCode, isSlot, isPoint, isNext, isLoopSerial}
+use Rattle.permitted.specs.Permitted.{natural, size, within, is, atLeast, isMeshCode, followsMesh, isLayerCode, followsLayer, isDate, isCoordinate, isNodeItem, isFrame, isLineItem, isLineKind, isLink, isCode, isSide, isAreaCode, isSlot, isPoint, isNext, isLoopSerial}
 use Rattle.rules.specs.declared.Due.{Due}
 use Rattle.rules.specs.declared.Due.the-variants.{Mesh, Layer, Node, Line, Coordinates, Area, Loop}
 

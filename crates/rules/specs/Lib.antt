@@ -1,4 +1,3 @@
--- What the contracts of `rules` cite: RULES 5 (Permitted values) and 6.4 (Stage 2).
-pub mod Permitted
+-- What the contracts of `rules` cite: RULES 6.4 (Stage 2).
 pub mod Asks
 pub mod Checks

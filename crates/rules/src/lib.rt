@@ -1,23 +1,46 @@
 // Stage 2 on one record (RULES 5; RULES 6.4, refusals 3 and 5 to 8): the first broken rule
 // in column order, along the record's layout. Every public function takes every input.
 //
-// The contracts cite `specs/`: `Permitted` has the permitted values, `Asks` what is asked of each number
-// of each kind, `Checks` the checks of a record in the order of judgement.
+// The contracts cite `specs/`: `Asks` has what is asked of each number of each kind, `Checks` the checks
+// of a record in the order of judgement. What a permitted value is stands in `permitted`.
 use fields::Number;
 use fields::Text;
 use glances::Glance;
+use permitted::at_least;
+use permitted::follows_layer;
+use permitted::follows_mesh;
+use permitted::is;
+use permitted::is_area_code;
+use permitted::is_code;
+use permitted::is_date;
+use permitted::is_frame;
+use permitted::is_layer_code;
+use permitted::is_line_item;
+use permitted::is_line_kind;
+use permitted::is_link;
+use permitted::is_loop_serial;
+use permitted::is_mesh_code;
+use permitted::is_next;
+use permitted::is_node_item;
+use permitted::is_point;
+use permitted::is_side;
+use permitted::is_slot;
+use permitted::natural;
+use permitted::same;
+use permitted::size;
+use permitted::within;
 use records::Field;
 use records::Kind;
 use verdict::Verdict;
 ghost use mathlib.Core.Path.{_≡_};
 ghost use mathlib.Core.List.{[], _∷_};
 ghost use Prim.Native.Nat.{ℕ, _/_, _≤_};
-ghost use mathlib.Core.Bool.{cond, _&&_};
-ghost use lib.Dec.{leb, ltb};
+ghost use mathlib.Core.Bool.{cond};
+ghost use lib.Dec.{ltb};
 ghost use lib.ListN.{getD};
 ghost use Rattle.verdict.specs.declared.Verdict.the-variants.{Broken};
 ghost use Rattle.verdict.specs.Rules.{firstBroken, isFine, block};
-ghost use Rattle.rules.specs.Permitted.{natural, size, within, is, atLeast, isMeshCode, followsMesh, oneOrFive, isLayerCode, followsLayer, isDate, nodeItemOne, nodeItemFive, isNodeItem, onFrame, layered, isFrame, lineItemOne, lineItemFive, isLineItem, lineKindOne, lineKindFive, same, isLineKind, linkSize, isLink, isCode, isSide, isAreaCode, isSlot, isPoint, isNext, isLoopSerial};
+ghost use Rattle.permitted.specs.Permitted.{isSlot, isLoopSerial};
 ghost use Rattle.rules.specs.Asks.{permitted, inStep, at, layerAsk, meshAsks, layerAsks, nodeAsks, lineAsks, coordinateAsks, areaAsks, loopAsks, loopDue, entriesDue, askedOf, firstAsked};
 ghost use Rattle.rules.specs.Checks.{kindOf, checksOf};
 ghost use Rattle.rules.specs.declared.Due.the-variants.{Coordinates};
@@ -31,306 +54,6 @@ pub enum Due {
     Coordinates(usize), // how many points are left of the line
     Area(usize, usize), // A: its layer, and how many areas came before it
     Loop(usize, usize, usize), // how many loops were begun, the last one's line count, and its entries left
-}
-
-// ---- permitted values
-
-// 0 or more.
-pub fn natural(v: i32) -> bool
-    ensures { λ r. ⌜ r ≡ natural v ⌝ }
-{
-    0 <= v
-}
-
-// The number without its sign.
-pub fn size(v: i32) -> usize
-    ensures { λ r. ⌜ r ≡ size v ⌝ }
-{
-    let w = v as i64;
-    if w < 0 {
-        return (0 - w) as usize;
-    }
-    w as usize
-}
-
-// One of `low` to `high`.
-pub fn within(v: i32, low: usize, high: usize) -> bool
-    ensures { λ r. ⌜ r ≡ within low high v ⌝ }
-{
-    let n = size(v);
-    natural(v) & ((low <= n) & (n <= high))
-}
-
-// Just `n`.
-fn is(v: i32, n: usize) -> bool
-    ensures { λ r. ⌜ r ≡ is n v ⌝ }
-{
-    natural(v) & (size(v) == n)
-}
-
-// `n` or more.
-fn at_least(v: i32, n: usize) -> bool
-    ensures { λ r. ⌜ r ≡ atLeast n v ⌝ }
-{
-    natural(v) & (n <= size(v))
-}
-
-// 100000 to 999999, the last two digits each 0 to 7.
-fn is_mesh_code(v: i32) -> bool
-    ensures { λ r. ⌜ r ≡ isMeshCode v ⌝ }
-{
-    let n = size(v);
-    within(v, 100000, 999999) & ((n / 10 % 10 <= 7) & (n % 10 <= 7))
-}
-
-// Above the mesh code before, with the same first four digits.
-fn follows_mesh(last: usize, v: i32) -> bool
-    ensures { λ r. ⌜ r ≡ followsMesh last v ⌝ }
-{
-    let n = size(v);
-    (last == 0) | ((last < n) & (last / 100 == n / 100))
-}
-
-// 1 or 5.
-fn one_or_five(n: usize) -> bool
-    ensures { λ r. ⌜ r ≡ oneOrFive n ⌝ }
-{
-    match n {
-        1 | 5 => true,
-        _ => false,
-    }
-}
-
-fn is_layer_code(v: i32) -> bool
-    ensures { λ r. ⌜ r ≡ isLayerCode v ⌝ }
-{
-    natural(v) & one_or_five(size(v))
-}
-
-// Above the layer code before.
-fn follows_layer(last: usize, v: i32) -> bool
-    ensures { λ r. ⌜ r ≡ followsLayer last v ⌝ }
-{
-    last < size(v)
-}
-
-// Year times 100 plus month; 0 is missing.
-fn is_date(v: i32) -> bool
-    ensures { λ r. ⌜ r ≡ isDate v ⌝ }
-{
-    let n = size(v);
-    natural(v) & ((n == 0) | ((n / 100 <= 99) & ((1 <= n % 100) & (n % 100 <= 12))))
-}
-
-fn node_item_one(n: usize) -> bool
-    ensures { λ r. ⌜ r ≡ nodeItemOne n ⌝ }
-{
-    match n {
-        1..=4 => true,
-        _ => false,
-    }
-}
-
-fn node_item_five(n: usize) -> bool
-    ensures { λ r. ⌜ r ≡ nodeItemFive n ⌝ }
-{
-    match n {
-        1 | 6 | 8 => true,
-        _ => false,
-    }
-}
-
-fn is_node_item(layer: usize, v: i32) -> bool
-    ensures { λ r. ⌜ r ≡ isNodeItem layer v ⌝ }
-{
-    let n = size(v);
-    let plain = natural(v);
-    match layer {
-        1 => plain & node_item_one(n),
-        5 => plain & node_item_five(n),
-        _ => plain & false,
-    }
-}
-
-// Whether a point lies on the frame.
-fn on_frame(x: usize, y: usize) -> bool
-    ensures { λ r. ⌜ r ≡ onFrame x y ⌝ }
-{
-    ((x == 0) | (x == 10000)) | ((y == 0) | (y == 10000))
-}
-
-// 1 exactly if X or Y is 0 or 10000, else 0.
-fn is_frame(x: i32, y: i32, v: i32) -> bool
-    ensures { λ r. ⌜ r ≡ isFrame x y v ⌝ }
-{
-    let n = size(v);
-    let plain = natural(v);
-    if on_frame(size(x), size(y)) {
-        return plain & (n == 1);
-    }
-    plain & (n == 0)
-}
-
-fn line_item_one(n: usize) -> bool
-    ensures { λ r. ⌜ r ≡ lineItemOne n ⌝ }
-{
-    match n {
-        1..=5 | 9 => true,
-        _ => false,
-    }
-}
-
-fn line_item_five(n: usize) -> bool
-    ensures { λ r. ⌜ r ≡ lineItemFive n ⌝ }
-{
-    match n {
-        2 | 9 => true,
-        _ => false,
-    }
-}
-
-fn is_line_item(layer: usize, v: i32) -> bool
-    ensures { λ r. ⌜ r ≡ isLineItem layer v ⌝ }
-{
-    let n = size(v);
-    let plain = natural(v);
-    match layer {
-        1 => plain & line_item_one(n),
-        5 => plain & line_item_five(n),
-        _ => plain & false,
-    }
-}
-
-fn line_kind_one(n: usize) -> bool
-    ensures { λ r. ⌜ r ≡ lineKindOne n ⌝ }
-{
-    match n {
-        0..=2 | 9 => true,
-        _ => false,
-    }
-}
-
-fn line_kind_five(n: usize) -> bool
-    ensures { λ r. ⌜ r ≡ lineKindFive n ⌝ }
-{
-    match n {
-        1..=2 | 9 => true,
-        _ => false,
-    }
-}
-
-// What a layer permits as a line's kind.
-fn layer_kind(layer: usize, n: usize) -> bool
-    ensures { λ r. ⌜ r ≡ layered layer (lineKindOne n) (lineKindFive n) ⌝ }
-{
-    match layer {
-        1 => line_kind_one(n),
-        5 => line_kind_five(n),
-        _ => false,
-    }
-}
-
-// Both or neither.
-pub fn same(a: bool, b: bool) -> bool
-    ensures { λ r. ⌜ r ≡ same a b ⌝ }
-{
-    if a {
-        return b;
-    }
-    !b
-}
-
-// The layer's kinds; 9 exactly if the item is.
-fn is_line_kind(layer: usize, item: i32, v: i32) -> bool
-    ensures { λ r. ⌜ r ≡ isLineKind layer item v ⌝ }
-{
-    let n = size(v);
-    natural(v) & (layer_kind(layer, n) & same(n == 9, size(item) == 9))
-}
-
-fn link_size(n: usize) -> bool
-    ensures { λ r. ⌜ r ≡ linkSize n ⌝ }
-{
-    match n {
-        0..=2 => true,
-        _ => false,
-    }
-}
-
-fn is_link(v: i32) -> bool
-    ensures { λ r. ⌜ r ≡ isLink v ⌝ }
-{
-    natural(v) & link_size(size(v))
-}
-
-// 1 to 99999 in layer 1; 0 to 99999 in layer 5, where 0 is land.
-fn code_size(layer: usize, n: usize) -> bool
-    ensures { λ r. ⌜ r ≡ layered layer (leb 1 n && leb n 99999) (leb n 99999) ⌝ }
-{
-    match layer {
-        1 => (1 <= n) & (n <= 99999),
-        5 => n <= 99999,
-        _ => false,
-    }
-}
-
-fn is_code(layer: usize, v: i32) -> bool
-    ensures { λ r. ⌜ r ≡ isCode layer v ⌝ }
-{
-    natural(v) & code_size(layer, size(v))
-}
-
-// An L's area number: 0 or more, and 0 exactly if the code beside it is 88888.
-fn is_side(code: i32, v: i32) -> bool
-    ensures { λ r. ⌜ r ≡ isSide code v ⌝ }
-{
-    natural(v) & same(size(v) == 0, size(code) == 88888)
-}
-
-// An A's code: never 88888.
-fn is_area_code(layer: usize, v: i32) -> bool
-    ensures { λ r. ⌜ r ≡ isAreaCode layer v ⌝ }
-{
-    is_code(layer, v) & (size(v) != 88888)
-}
-
-// Not 0 within the count, 0 past it.
-fn is_slot(counted: bool, v: i32) -> bool
-    ensures { λ r. ⌜ r ≡ isSlot counted v ⌝ }
-{
-    let n = size(v);
-    if counted {
-        return n != 0;
-    }
-    n == 0
-}
-
-// 0 to 10000 within the count, 0 past it.
-fn is_point(counted: bool, v: i32) -> bool
-    ensures { λ r. ⌜ r ≡ isPoint counted v ⌝ }
-{
-    if counted {
-        return within(v, 0, 10000);
-    }
-    size(v) == 0
-}
-
-// The serial behind `last`.
-fn is_next(last: usize, v: i32) -> bool
-    ensures { λ r. ⌜ r ≡ isNext last v ⌝ }
-{
-    let n = size(v);
-    if n == 0 {
-        return false;
-    }
-    natural(v) & (n - 1 == last)
-}
-
-// The serial of loop `n`: 1, -2, -3 and on.
-fn is_loop_serial(n: usize, v: i32) -> bool
-    ensures { λ r. ⌜ r ≡ isLoopSerial n v ⌝ }
-{
-    (size(v) == n) & same(natural(v), n == 1)
 }
 
 // ---- what is asked of each number

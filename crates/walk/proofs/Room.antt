@@ -23,7 +23,7 @@ use Rattle.verdict.proofs.Orders.{and-both}
 use Rattle.verdict.proofs.Parts.{both-fine}
 use Rattle.rules.specs.declared.Due.{Due}
 use Rattle.rules.specs.declared.Due.the-variants.{Mesh, Layer, Node, Line, Coordinates, Area, Loop}
-use Rattle.rules.specs.Permitted.{natural, size, atLeast}
+use Rattle.permitted.specs.Permitted.{natural, size, atLeast}
 use Rattle.rules.specs.Asks.{areaAsks, asksOf, askedOf}
 use Rattle.rules.specs.Checks.{formChecks, valueChecks, along, checksOf}
 use Rattle.walk.specs.declared.Counts.{Counts}

@@ -65,7 +65,7 @@ pub fn size_in(t: &[u8], column: usize, width: usize) -> usize
     let Number::Value(v) = answer else {
         return 0;
     };
-    rules::size(v)
+    permitted::size(v)
 }
 
 // What is due.

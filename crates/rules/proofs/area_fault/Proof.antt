@@ -7,7 +7,7 @@ use mir.Val.{toZ, ofZ}
 use borrow.Author.Needs.{needs}
 use Rattle.records.proofs.Layouts.{above}
 use Rattle.rules.specs.Asks.{at, areaAsks}
-use Rattle.rules.proofs.Signs.{passed-on}
+use Rattle.permitted.proofs.Signs.{passed-on}
 use Rattle.rules.proofs.Slots.{none-asked}
 use Rattle.rules.proofs.area_fault.Statement.{statement}
 use Rattle.rules.proofs.area_fault.Tie as tie

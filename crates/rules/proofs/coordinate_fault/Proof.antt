@@ -5,7 +5,7 @@ use mathlib.Core.List.{[]}
 use mathlib.Core.Path.{sym, ap}
 use borrow.Author.Needs.{needs}
 use Rattle.rules.specs.Asks.{from, coordinateAsks, firstAsked}
-use Rattle.rules.proofs.Signs.{passed-on}
+use Rattle.permitted.proofs.Signs.{passed-on}
 use Rattle.rules.proofs.Slots.{row-at, none-asked}
 use Rattle.rules.proofs.coordinate_fault.Statement.{statement}
 use Rattle.rules.proofs.coordinate_fault.Tie as tie

@@ -4,9 +4,9 @@ use lib.Dec.{eqb}
 use mir.Facts.{toZ-ofZ}
 use borrow.Author.Needs.{needs}
 use borrow.Author.Tests.{lt-ltb, le-ltb}
-use Rattle.rules.specs.Permitted.{natural, size, same, isLoopSerial}
-use Rattle.rules.proofs.Matches.{eqb-before, eqb-zero, either-side}
-use Rattle.rules.proofs.Signs.{sized}
+use Rattle.permitted.specs.Permitted.{natural, size, same, isLoopSerial}
+use Rattle.permitted.proofs.Matches.{eqb-before, eqb-zero, either-side}
+use Rattle.permitted.proofs.Signs.{sized}
 use Rattle.rules.proofs.is_loop_due.Statement.{statement}
 use Rattle.rules.proofs.is_loop_due.Tie as tie
 

@@ -7,7 +7,7 @@ use mir.Val.{toZ, ofZ}
 use borrow.Author.Needs.{needs}
 use Rattle.records.proofs.Layouts.{above}
 use Rattle.rules.specs.Asks.{at, lineAsks, firstAsked}
-use Rattle.rules.proofs.Signs.{passed-on}
+use Rattle.permitted.proofs.Signs.{passed-on}
 use Rattle.rules.proofs.Slots.{none-asked}
 use Rattle.rules.proofs.line_fault.Statement.{statement}
 use Rattle.rules.proofs.line_fault.Tie as tie

@@ -8,8 +8,8 @@ use mir.Val.{toZ, ofZ}
 use borrow.Author.Needs.{needs}
 use Rattle.records.proofs.Layouts.{above}
 use Rattle.rules.specs.Asks.{at, from, nodeAsks}
-use Rattle.rules.specs.Permitted.{size}
-use Rattle.rules.proofs.Signs.{passed-on}
+use Rattle.permitted.specs.Permitted.{size}
+use Rattle.permitted.proofs.Signs.{passed-on}
 use Rattle.rules.proofs.Slots.{slot-asked, none-asked}
 use Rattle.rules.proofs.node_fault.Statement.{statement}
 use Rattle.rules.proofs.node_fault.Tie as tie
