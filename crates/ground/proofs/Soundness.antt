@@ -29,9 +29,9 @@ use Rattle.rules.specs.declared.Due.the-variants as due
 use Rattle.rules.specs.declared.Due.the-variants.{Line, Coordinates}
 use Rattle.permitted.specs.Permitted.{size, within, isPoint}
 use Rattle.permitted.proofs.Bounds.{within-most}
-use Rattle.rules.specs.Asks.{permitted, at, layerAsks, coordinateAsks, asksOf, askedOf}
-use Rattle.rules.specs.Checks.{free, formChecks, valueChecks, withNumber, along, checksOf}
-use Rattle.rules.proofs.Slots.{row-at}
+use Rattle.asks.specs.Asks.{permitted, at, layerAsks, coordinateAsks}
+use Rattle.rules.specs.Checks.{asksOf, askedOf, free, formChecks, valueChecks, withNumber, along, checksOf}
+use Rattle.asks.proofs.Slots.{row-at}
 use Rattle.walk.specs.States.{sizeIn, dueOf, nextOf, stateAt, countsAt}
 use Rattle.walk.specs.Stages.{recordsOf, mayEnd, stageTwo}
 use Rattle.walk.specs.Table.{tableOf}

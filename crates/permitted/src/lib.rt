@@ -1,12 +1,15 @@
-// Permitted values (RULES 5, and the tables of RULES 4): one function for each rule about one number. Every
-// function takes every number. It is a crate below `rules`, since positions and the later stages ask
-// here too, and so that a change to one rule is checked without the judge of records.
+// Permitted values (RULES 5, and the tables of RULES 4): one function for each rule about one number.
+// Every function takes every number. It is a crate below `rules`, since positions and the later stages
+// ask here too, and so that a change to one rule is checked without the judge of records.
 //
 // The contracts cite `specs/Permitted`.
 ghost use mathlib.Core.Path.{_≡_};
 ghost use mathlib.Core.Bool.{_&&_};
 ghost use lib.Dec.{leb};
-ghost use Rattle.permitted.specs.Permitted.{natural, size, within, is, atLeast, isMeshCode, followsMesh, oneOrFive, isLayerCode, followsLayer, isDate, nodeItemOne, nodeItemFive, isNodeItem, onFrame, layered, isFrame, lineItemOne, lineItemFive, isLineItem, lineKindOne, lineKindFive, same, isLineKind, linkSize, isLink, isCode, isSide, isAreaCode, isSlot, isPoint, isNext, isLoopSerial};
+ghost use Rattle.permitted.specs.Permitted.{natural, size, within, is, atLeast, isMeshCode, followsMesh, oneOrFive, isLayerCode, followsLayer};
+ghost use Rattle.permitted.specs.Permitted.{isDate, nodeItemOne, nodeItemFive, isNodeItem, onFrame, layered, isFrame, lineItemOne};
+ghost use Rattle.permitted.specs.Permitted.{lineItemFive, isLineItem, lineKindOne, lineKindFive, same, isLineKind, linkSize, isLink, isCode};
+ghost use Rattle.permitted.specs.Permitted.{isSide, isAreaCode, isSlot, isPoint, isNext, isLoopSerial};
 
 // 0 or more.
 pub fn natural(v: i32) -> bool

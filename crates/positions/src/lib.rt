@@ -1,7 +1,7 @@
 // A point's latitude and longitude in degrees (RULES 10), from the mesh
 // code of its sheet and its X and Y there. The public function takes every number.
 //
-// The contracts cite `specs/Degrees.antt`. What a permitted mesh code, X and Y are is asked of `permitted`.
+// The contracts cite `specs/Degrees.antt`. What is permitted stands in `permitted`.
 ghost use mathlib.Core.Path.{_≡_};
 ghost use Prim.Native.Nat.{_≤_};
 ghost use Rattle.positions.specs.Degrees.{positionOf, placed, notPlaced};

@@ -1,3 +1,2 @@
 -- What the contracts of `rules` cite: RULES 6.4 (Stage 2).
-pub mod Asks
 pub mod Checks

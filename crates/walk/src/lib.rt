@@ -449,7 +449,7 @@ fn fine_ahead(file: &[u8], points: usize, k: usize, n: usize) -> usize
     let mut left = points;
     let mut i = k;
     while (i < n) & (0 < left) {
-        if !rules::fine_coordinates(records::record_view(file, i + 1), left) {
+        if !quick::fine_coordinates(records::record_view(file, i + 1), left) {
             return i - k;
         }
         left = less(left, 7);
