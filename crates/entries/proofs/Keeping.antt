@@ -16,7 +16,7 @@ use mir.Syntax.{w64}
 use mir.Val.{SFits, toZ, ofZ, hbits}
 use borrow.Author.Tests.{le-leb, lt-leb, leb-true, ltb-true, ltb-false}
 use Rattle.verdict.proofs.Orders.{and-both}
-use Rattle.rules.specs.Permitted.{size}
+use Rattle.permitted.specs.Permitted.{size}
 use Rattle.layers.specs.declared.Layer.{Layer}
 use Rattle.layers.specs.Naming.{namesLine, lineOf}
 use Rattle.layers.proofs.Answers.{line-size}

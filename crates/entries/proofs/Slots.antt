@@ -19,7 +19,7 @@ use Rattle.fields.proofs.FieldLaws.{number-in-range}
 use Rattle.fields.proofs.Range.{holds-size, holds-minus}
 use Rattle.records.specs.View.{recordOf, numberIn}
 use Rattle.records.proofs.Numbers.{record-past, number-none}
-use Rattle.rules.specs.Permitted.{size}
+use Rattle.permitted.specs.Permitted.{size}
 use Rattle.links.specs.Links.{loopEntry}
 use Rattle.links.proofs.Numbers.{told}
 use Rattle.entries.specs.Entries.{slotOf, recordsFor, countAt, loopsAt, recordsTo, slotsOf}

@@ -9,8 +9,8 @@ use lib.IntN.{ℤ, pos, negsuc, negℤ, _+ℤ_, _-ℤ_, +ℤ-idr}
 use mir.Facts.{toZ-ofZ}
 use mir.Syntax.{w32, w64}
 use mir.Val.{SFits, toZ, ofZ}
-use Rattle.rules.specs.Permitted.{natural, size}
-use Rattle.rules.proofs.Signs.{own-told}
+use Rattle.permitted.specs.Permitted.{natural, size}
+use Rattle.permitted.proofs.Signs.{own-told}
 use Rattle.measures.specs.Measures.{entryMeasure, loopMeasure}
 use Rattle.measures.specs.Sum.{sum}
 use Rattle.measures.specs.Walks.{Small}

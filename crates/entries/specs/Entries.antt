@@ -12,7 +12,7 @@ use mathlib.Core.List.{List, [], _∷_, _++_}
 use Prim.Native.Nat.{ℕ, zero, suc, _+_, _*_, _-_, _/_, _%_}
 use lib.IntN.{ℤ, pos, negsuc}
 use Rattle.records.specs.View.{numberIn}
-use Rattle.rules.specs.Permitted.{size}
+use Rattle.permitted.specs.Permitted.{size}
 use Rattle.measures.specs.Measures.{Entry, plus, minus}
 use Rattle.links.specs.Links.{loopEntry}
 

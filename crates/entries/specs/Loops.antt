@@ -7,7 +7,7 @@ use mathlib.Core.Bool.{cond}
 use mathlib.Core.List.{List}
 use Prim.Native.Nat.{ℕ}
 use lib.IntN.{ℤ, pos, negℤ}
-use Rattle.rules.specs.Permitted.{natural, size}
+use Rattle.permitted.specs.Permitted.{natural, size}
 use Rattle.layers.specs.declared.Layer.{Layer}
 use Rattle.layers.specs.Naming.{lineOf}
 use Rattle.measures.specs.Measures.{loopMeasure, areaMeasure}

@@ -8,7 +8,7 @@ ghost use mathlib.Core.Path.{_≡_};
 ghost use Prim.Native.Nat.{_≤_, min};
 ghost use lib.ListN.{length};
 ghost use lib.Seq.{sets};
-ghost use Rattle.rules.specs.Permitted.{size};
+ghost use Rattle.permitted.specs.Permitted.{size};
 ghost use Rattle.entries.specs.Entries.{slotOf, recordsFor, countAt, loopsAt, slotsOf};
 ghost use Rattle.entries.specs.Loops.{slotMeasure};
 ghost use Rattle.entries.specs.Keeping.{walkedTo, possibleOf, keptMeasure, keptLoop};
@@ -39,7 +39,7 @@ fn records_for(n: usize) -> usize
 pub fn count_at(file: &[u8], f: usize) -> usize
     ensures { λ r. ⌜ (r ≡ countAt (now (file .entry)) f) × (r ≤ 9999) ⌝ }
 {
-    rules::size(records::number_at(file, f, 6, 4))
+    permitted::size(records::number_at(file, f, 6, 4))
 }
 
 // The records of the loop whose first one is `f`.
@@ -53,7 +53,7 @@ pub fn loop_records(file: &[u8], f: usize) -> usize
 pub fn loops_at(file: &[u8], a: usize) -> usize
     ensures { λ r. ⌜ (r ≡ loopsAt (now (file .entry)) a) × (r ≤ 9999) ⌝ }
 {
-    rules::size(records::number_at(file, a, 25, 4))
+    permitted::size(records::number_at(file, a, 25, 4))
 }
 
 // The slots of the area whose A is record `a`.
@@ -110,7 +110,7 @@ pub fn line_measure(l: Layer, kept: &[i64], v: i32) -> i64
     if !layers::names_line(l.lines, v) {
         return 0;
     }
-    let i = rules::size(v) - 1;
+    let i = permitted::size(v) - 1;
     if i < kept.len() {
         return possible(kept[i]);
     }
@@ -122,7 +122,7 @@ fn entry_measure(l: Layer, kept: &[i64], v: i32) -> i64
     ensures { λ r. ⌜ r ≡ slotMeasure (keptMeasure l (now (kept .entry))) v ⌝ }
 {
     let m = line_measure(l, kept, v);
-    if rules::natural(v) {
+    if permitted::natural(v) {
         return m;
     }
     -m

@@ -1,10 +1,8 @@
--- Laws of the crate's definitions. `FieldLaws` has those that other crates and readers go by, beside `sure-says` and `unsure-says` of
--- `AtGlance`; the other files serve it and the proofs.
+-- Laws of the crate's definitions. `FieldLaws` has those that other crates and readers go by; the other files serve it and the proofs of
+-- this crate and of those that read and write fields.
 pub mod FieldLaws
 pub mod Cases
 pub mod FromRight
-pub mod AtGlance
-pub mod TextSteps
 pub mod Places
 pub mod Answers
 pub mod Columns
@@ -12,4 +10,3 @@ pub mod Signs
 pub mod Range
 pub mod Spelled
 pub mod Unspelled
-pub mod Remainders

@@ -15,7 +15,8 @@ use Rattle.verdict.specs.declared.Verdict.the-variants.{Fine}
 use Rattle.verdict.specs.Rules.{firstBroken}
 use Rattle.verdict.proofs.Holding.{row-fine, Holding, all-hold, both-hold, slot-holds}
 use Rattle.rules.specs.declared.Due.{Due}
-use Rattle.rules.specs.Permitted.{size, within}
+use Rattle.permitted.specs.Permitted.{size, within}
+use Rattle.permitted.proofs.Bounds.{within-most}
 use Rattle.walk.specs.States.{dueOf, stateAt}
 use Rattle.walk.specs.Stages.{recordsOf, stageTwo}
 use Rattle.walk.specs.Table.{tableOf}
@@ -32,7 +33,6 @@ use Rattle.loops.specs.Loops.{loopSlot, windChecks, firstRecord, areaRecord, lo
 use Rattle.sides.specs.Sides.{lists, sideListed, listChecks, lineListChecks, seventh, stageSix}
 use Rattle.ground.specs.Layers.{leftOf, rightOf}
 use Rattle.ground.specs.Standing.{LineKept, SlotKept}
-use Rattle.ground.proofs.Soundness.{within-most}
 
 -- ---- the stages
 

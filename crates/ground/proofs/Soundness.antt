@@ -1,17 +1,17 @@
 -- EVERY POINT IS STATED: in a file that keeps stage 2 each point of each line is two well formed numbers from 0 to 10000 that stand in its
 -- record. Behind each L its coordinate records are due, one after the other, and the file cannot end before the last of them.
 -- Assumes nothing.
-use mathlib.Core.Bool.{Bool, true, false, not, _&&_, false≢true}
+use mathlib.Core.Bool.{Bool, true, false, not, false≢true}
 use mathlib.Core.List.{List, [], _∷_, _++_}
 use mathlib.Core.Path.{_≡_, refl, sym, _∙_, ap}
 use Prim.Native.Nat.{ℕ, zero, suc, _+_, _-_, _*_, _/_, _%_, _≤_, _<_}
 use native.Mathlib.Numerals.{add-one}
 use native.Mathlib.Omega.{arith}
-use lib.Dec.{leb, ltb, eqb, lit≤}
+use lib.Dec.{ltb, eqb, lit≤}
 use lib.IntN.{ℤ, pos, negsuc}
 use lib.ListN.{length, length-set}
 use lib.Seq.{getD-set-same}
-use borrow.Author.Tests.{leb-true, lt-ltb, ltb-true, ltb-false}
+use borrow.Author.Tests.{lt-ltb, ltb-true, ltb-false}
 use Rattle.fields.specs.Answer.{numberRefusal, valueOf}
 use Rattle.fields.specs.Number.{numberAt}
 use Rattle.fields.specs.declared.Number as numbers
@@ -24,14 +24,14 @@ use Rattle.records.specs.declared.Field.the-variants as field
 use Rattle.verdict.specs.declared.Verdict.the-variants.{Fine}
 use Rattle.verdict.specs.Rules.{firstBroken}
 use Rattle.verdict.proofs.Holding.{Holding}
-use Rattle.verdict.proofs.Orders.{and-both}
 use Rattle.rules.specs.declared.Due.{Due}
 use Rattle.rules.specs.declared.Due.the-variants as due
 use Rattle.rules.specs.declared.Due.the-variants.{Line, Coordinates}
-use Rattle.rules.specs.Permitted.{natural, size, within, isPoint}
-use Rattle.rules.specs.Asks.{permitted, at, layerAsks, coordinateAsks, asksOf, askedOf}
-use Rattle.rules.specs.Checks.{free, formChecks, valueChecks, withNumber, along, checksOf}
-use Rattle.rules.proofs.Slots.{row-at}
+use Rattle.permitted.specs.Permitted.{size, within, isPoint}
+use Rattle.permitted.proofs.Bounds.{within-most}
+use Rattle.asks.specs.Asks.{permitted, at, layerAsks, coordinateAsks}
+use Rattle.rules.specs.Checks.{asksOf, askedOf, free, formChecks, valueChecks, withNumber, along, checksOf}
+use Rattle.asks.proofs.Slots.{row-at}
 use Rattle.walk.specs.States.{sizeIn, dueOf, nextOf, stateAt, countsAt}
 use Rattle.walk.specs.Stages.{recordsOf, mayEnd, stageTwo}
 use Rattle.walk.specs.Table.{tableOf}
@@ -45,12 +45,6 @@ use Rattle.layers.proofs.Laid.{line-named, line-laid}
 use Rattle.measures.specs.Points.{coordinateIn, countOf, pointCount, pairBy, pointBy, pointAt}
 use Rattle.measures.specs.Sound.{SoundAt, Sound}
 use Rattle.loops.specs.Scanning.{SoundTable}
-
-pub within-most : (low high : ℕ) (v : ℤ) → within low high v ≡ true → size v ≤ high
-unfolding within
-within-most low high v h =
-    let b = and-both (natural v) (leb low (size v) && leb (size v) high) h in
-    leb-true _ _ (and-both (leb low (size v)) (leb (size v) high) (b .1) .1)
 
 -- ---- a layer's counts
 

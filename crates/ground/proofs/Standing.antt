@@ -8,7 +8,7 @@ use native.Mathlib.Omega.{arith}
 use lib.Dec.{eqb}
 use lib.IntN.{ℤ, pos, negsuc}
 use Rattle.verdict.proofs.Orders.{and-both}
-use Rattle.rules.specs.Permitted.{natural, size, is}
+use Rattle.permitted.specs.Permitted.{natural, size, is}
 use Rattle.layers.specs.declared.Layer.{Layer}
 use Rattle.layers.specs.Naming.{namesLine, lineOf, areaOf}
 use Rattle.links.specs.Links.{isZero}

@@ -9,7 +9,7 @@ use mathlib.Core.List.{List, [], _++_}
 use Prim.Native.Nat.{ℕ, zero, suc}
 use lib.IntN.{ℤ, pos}
 use Rattle.records.specs.View.{numberIn}
-use Rattle.rules.specs.Permitted.{size}
+use Rattle.permitted.specs.Permitted.{size}
 use Rattle.measures.specs.Sum.{sumTo}
 use Rattle.measures.specs.Measures.{outside}
 use Rattle.measures.specs.Points.{firstOf}

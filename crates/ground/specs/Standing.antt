@@ -8,7 +8,7 @@ use mathlib.Core.List.{List}
 use mathlib.Core.Path.{_≡_}
 use Prim.Native.Nat.{ℕ, _+_, _≤_, _<_}
 use lib.IntN.{pos}
-use Rattle.rules.specs.Permitted.{is}
+use Rattle.permitted.specs.Permitted.{is}
 use Rattle.layers.specs.declared.Layer.{Layer}
 use Rattle.layers.specs.Naming.{namesLine, areaOf}
 use Rattle.links.specs.Links.{isZero}

@@ -18,7 +18,7 @@ use mir.Syntax.{w32, w64}
 use mir.Val.{SFits, toZ, ofZ, hbits}
 use borrow.Author.Tests.{le-leb}
 use Rattle.records.specs.View.{numberIn}
-use Rattle.rules.specs.Permitted.{size, same}
+use Rattle.permitted.specs.Permitted.{size, same}
 use Rattle.walk.proofs.Stores.{more-filled, filled-length}
 use Rattle.links.specs.Links.{isZero}
 use Rattle.links.proofs.Numbers.{told}

@@ -14,9 +14,9 @@ use Rattle.records.specs.Writing.{fieldText, textOf, lineOf}
 use Rattle.records.specs.View.{recordOf, numberIn}
 use Rattle.verdict.specs.declared.Verdict.{Verdict}
 use Rattle.verdict.specs.Rules.{firstBroken, block, rows, spread}
-use Rattle.rules.specs.Permitted.{within, isMeshCode, followsMesh, isLayerCode, followsLayer, isDate, isNodeItem, isFrame, isLineItem, isLineKind, isLink, isCode, isSide, isAreaCode, isSlot, isPoint, isNext, isLoopSerial}
-use Rattle.rules.specs.Asks.{from, meshAsks, layerAsks, nodeAsks, lineAsks, coordinateAsks, areaAsks, loopAsks, asksOf, askedOf}
-use Rattle.rules.specs.Checks.{formChecks, valueChecks, along, checksOf}
+use Rattle.permitted.specs.Permitted.{within, isMeshCode, followsMesh, isLayerCode, followsLayer, isDate, isNodeItem, isFrame, isLineItem, isLineKind, isLink, isCode, isSide, isAreaCode, isSlot, isPoint, isNext, isLoopSerial}
+use Rattle.asks.specs.Asks.{from, meshAsks, layerAsks, nodeAsks, lineAsks, coordinateAsks, areaAsks, loopAsks}
+use Rattle.rules.specs.Checks.{asksOf, askedOf, formChecks, valueChecks, along, checksOf}
 use Rattle.walk.specs.States.{sizeIn, dueOf, nextOf, stateAt, layerWords, countsAt}
 use Rattle.walk.specs.Stages.{recordsOf, endChecks, lengthChecks, stageOne, lastChecks, stageTwo, walkedOf, needOf, wordsOf, roomRule, early}
 use Rattle.walk.specs.Table.{gather, tableOf}

@@ -196,7 +196,7 @@ fn outside_at(file: &[u8], table: &[u32], l: Layer, kept: &[i64], n: usize) -> i
     let r = layers::line_of(table, l, v);
     let left = links::is_zero(records::number_at(file, r, 35, 5));
     let right = links::is_zero(records::number_at(file, r, 45, 5));
-    if rules::same(left, right) {
+    if permitted::same(left, right) {
         return 0;
     }
     let m = entries::line_measure(l, kept, v);

@@ -1,4 +1,4 @@
--- What the answers of `names` and of `rules::size` say of the number that was asked about. Assumes nothing.
+-- What the answers of `names` and of `permitted::size` say of the number that was asked about. Assumes nothing.
 use mathlib.Core.Bool.{Bool, true, _&&_}
 use mathlib.Core.Path.{_≡_}
 use Prim.Native.Nat.{ℕ, _≤_}
@@ -8,8 +8,8 @@ use mir.Syntax.{w32}
 use mir.Val.{SFits, toZ, ofZ}
 use borrow.Author.Tests.{leb-true}
 use Rattle.verdict.proofs.Orders.{and-both}
-use Rattle.rules.specs.Permitted.{natural, size, within}
-use Rattle.rules.proofs.Signs.{own-told, own-asked}
+use Rattle.permitted.specs.Permitted.{natural, size, within}
+use Rattle.permitted.proofs.Signs.{own-told, own-asked}
 use Rattle.layers.specs.Naming.{names, namesLine}
 
 -- an entry that names a line has a size of 1 or more, and no more than there are

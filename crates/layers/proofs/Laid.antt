@@ -15,7 +15,7 @@ use lib.ListN.{length, getD, List·getD-append}
 use lib.Seq.{getD-append-add}
 use borrow.Author.Tests.{ltb-true, ltb-false, le-leb}
 use Rattle.records.specs.View.{recordOf}
-use Rattle.rules.specs.Permitted.{within}
+use Rattle.permitted.specs.Permitted.{within}
 use Rattle.rules.specs.declared.Due.the-variants.{Line, Area}
 use Rattle.walk.specs.declared.State.{State}
 use Rattle.walk.specs.declared.Counts.{Counts}

@@ -1,4 +1,4 @@
--- Laws of names and layers. `Answers` has what the answers of `names` and `rules::size` say, `Passing` how the layer goes on from record to
+-- Laws of names and layers. `Answers` has what the answers of `names` and `permitted::size` say, `Passing` how the layer goes on from record to
 -- record, `Rows` that a row of the table is what its H says, `Laid` that the words of a layer are its records.
 pub mod Answers
 pub mod Passing

@@ -11,7 +11,7 @@ use Prim.Native.Nat.{ℕ, zero, suc, _+_, _*_, _-_}
 use lib.Dec.{leb}
 use lib.IntN.{ℤ}
 use lib.ListN.{getD}
-use Rattle.rules.specs.Permitted.{size, within}
+use Rattle.permitted.specs.Permitted.{size, within}
 use Rattle.walk.specs.States.{rowLength}
 use Rattle.walk.specs.Stages.{mostRecords}
 use Rattle.layers.specs.declared.Bases.{Bases}

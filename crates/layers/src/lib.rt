@@ -81,14 +81,14 @@ pub fn layer_in(table: &[u32], b: Bases, i: usize) -> Layer
 pub fn names(n: u32, v: i32) -> bool
     ensures { λ r. ⌜ r ≡ names n v ⌝ }
 {
-    rules::within(v, 1, n as usize)
+    permitted::within(v, 1, n as usize)
 }
 
 // Whether an entry, +n or -n, names one of the lines 1 to `n`.
 pub fn names_line(n: u32, v: i32) -> bool
     ensures { λ r. ⌜ r ≡ namesLine n v ⌝ }
 {
-    let s = rules::size(v);
+    let s = permitted::size(v);
     (1 <= s) & (s <= n as usize)
 }
 
@@ -97,7 +97,7 @@ pub fn node_of(l: Layer, v: i32) -> usize
     ensures { λ r. ⌜ r ≡ nodeOf l v ⌝ }
 {
     if names(l.nodes, v) {
-        return l.head as usize + rules::size(v);
+        return l.head as usize + permitted::size(v);
     }
     0
 }
@@ -120,7 +120,7 @@ pub fn line_of(table: &[u32], l: Layer, v: i32) -> usize
     ensures { λ r. ⌜ r ≡ lineOf (now (table .entry)) l v ⌝ }
 {
     if names_line(l.lines, v) {
-        return word_in(table, l.line, rules::size(v) - 1) as usize;
+        return word_in(table, l.line, permitted::size(v) - 1) as usize;
     }
     0
 }
@@ -130,7 +130,7 @@ pub fn area_of(table: &[u32], l: Layer, v: i32) -> usize
     ensures { λ r. ⌜ r ≡ areaOf (now (table .entry)) l v ⌝ }
 {
     if names(l.areas, v) {
-        return word_in(table, l.area, rules::size(v) - 1) as usize;
+        return word_in(table, l.area, permitted::size(v) - 1) as usize;
     }
     0
 }

@@ -11,7 +11,7 @@ use Rattle.verdict.specs.Rules.{check, spread}
 use Rattle.verdict.specs.Order.{Sorted, rising}
 use Rattle.verdict.proofs.Numbers.{tenTo18, numbered, Numbered, block-numbered, rows-numbered}
 use Rattle.verdict.proofs.Orders.{Of, and-both, rows-sorted, rows-in}
-use Rattle.rules.specs.Permitted.{size}
+use Rattle.permitted.specs.Permitted.{size}
 use Rattle.rules.specs.declared.Due.{Due}
 use Rattle.rules.specs.declared.Due.the-variants as due
 use Rattle.walk.specs.States.{dueOf, stateAt}

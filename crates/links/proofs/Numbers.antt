@@ -6,7 +6,7 @@ use lib.IntN.{ℤ}
 use lib.Signed.{mag}
 use mir.Syntax.{w32}
 use mir.Val.{toZ, ofZ, hbits}
-use Rattle.rules.proofs.Signs.{passed-on}
+use Rattle.permitted.proofs.Signs.{passed-on}
 use Rattle.links.specs.Links.{equal}
 
 -- the number z, which fits, is x: the answer r about z is the definition's about x

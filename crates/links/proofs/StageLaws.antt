@@ -11,7 +11,7 @@ use Rattle.verdict.specs.declared.Verdict.{Verdict}
 use Rattle.verdict.specs.declared.Verdict.the-variants.{Fine, Broken}
 use Rattle.verdict.specs.Rules.{Rule, firstBroken, block, rows}
 use Rattle.verdict.proofs.Parts.{rows-past, rows-stop, rows-done}
-use Rattle.rules.specs.Permitted.{size}
+use Rattle.permitted.specs.Permitted.{size}
 use Rattle.rules.specs.declared.Due.{Due}
 use Rattle.rules.specs.declared.Due.the-variants as due
 use Rattle.walk.specs.declared.State.{State}

@@ -21,28 +21,29 @@ ghost use Rattle.links.specs.Scanning.{clean, FirstRepeat, Between};
 pub fn is_zero(v: i32) -> bool
     ensures { λ r. ⌜ r ≡ isZero v ⌝ }
 {
-    rules::size(v) == 0
+    permitted::size(v) == 0
 }
 
 // The same sign and size.
 pub fn equal(a: i32, b: i32) -> bool
     ensures { λ r. ⌜ r ≡ equal a b ⌝ }
 {
-    rules::same(rules::natural(a), rules::natural(b)) & (rules::size(a) == rules::size(b))
+    permitted::same(permitted::natural(a), permitted::natural(b))
+        & (permitted::size(a) == permitted::size(b))
 }
 
 // The entry +n or, backwards, -n.
 pub fn entry_is(back: bool, n: usize, v: i32) -> bool
     ensures { λ r. ⌜ r ≡ entryIs back n v ⌝ }
 {
-    (rules::size(v) == n) & rules::same(back, !rules::natural(v))
+    (permitted::size(v) == n) & permitted::same(back, !permitted::natural(v))
 }
 
 // A record's own serial.
 fn serial_in(file: &[u8], r: usize) -> usize
     ensures { λ x. ⌜ x ≡ serialIn (now (file .entry)) r ⌝ }
 {
-    rules::size(records::number_at(file, r, 7, 5))
+    permitted::size(records::number_at(file, r, 7, 5))
 }
 
 // A refusal at a column.
@@ -72,7 +73,7 @@ pub fn end_node(file: &[u8], table: &[u32], l: Layer, v: i32) -> i32
     ensures { λ x. ⌜ x ≡ endNode (now (file .entry)) (now (table .entry)) l v ⌝ }
 {
     let r = layers::line_of(table, l, v);
-    if rules::natural(v) {
+    if permitted::natural(v) {
         return records::number_at(file, r, 18, 5);
     }
     records::number_at(file, r, 24, 5)
@@ -90,7 +91,7 @@ fn meets(file: &[u8], table: &[u32], l: Layer, r: usize, v: i32) -> bool
     if !layers::names(l.nodes, e) {
         return true;
     }
-    rules::size(e) == serial_in(file, r)
+    permitted::size(e) == serial_in(file, r)
 }
 
 // How many earlier slots the entry `v` of slot `i` is compared with: none where it is no entry.
@@ -196,7 +197,7 @@ fn listed(file: &[u8], r: usize, back: bool, n: usize) -> bool
 fn link_fits(link: i32, frame: i32) -> bool
     ensures { λ x. ⌜ x ≡ linkFits link frame ⌝ }
 {
-    rules::same(is_zero(link), is_zero(frame))
+    permitted::same(is_zero(link), is_zero(frame))
 }
 
 // One end of the line at record `r`: its node number at column `c`, its link at column `k`.
@@ -305,7 +306,7 @@ fn judge_first(file: &[u8], l: Layer, q: usize, r: usize, left: usize, row: u32)
     if left <= 1 {
         return Verdict::Fine;
     }
-    if left != rules::size(records::number_at(file, q, 50, 6)) {
+    if left != permitted::size(records::number_at(file, q, 50, 6)) {
         return Verdict::Fine;
     }
     let v = records::number_at(file, q, 18, 5);
@@ -414,7 +415,7 @@ fn between(file: &[u8], table: &[u32], l: Layer, s: State) -> usize
         return 0;
     }
     let q = current_line(table, l, s.line);
-    if rules::size(records::number_at(file, q, 50, 6)) <= s.points {
+    if permitted::size(records::number_at(file, q, 50, 6)) <= s.points {
         return 0;
     }
     (s.points - 1) / 7

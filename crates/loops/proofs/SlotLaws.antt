@@ -20,7 +20,7 @@ use Rattle.verdict.specs.declared.Verdict.{Verdict}
 use Rattle.verdict.specs.declared.Verdict.the-variants.{Fine, Broken}
 use Rattle.verdict.specs.Rules.{Rule, Check, check, firstBroken, block, rows, spread}
 use Rattle.verdict.proofs.Parts.{fine-broken, stands, goes-on, block-append, check-none, check-kept, check-broken, spread-rows, rows-stop, rows-done}
-use Rattle.rules.specs.Permitted.{is}
+use Rattle.permitted.specs.Permitted.{is}
 use Rattle.layers.specs.declared.Layer.{Layer}
 use Rattle.links.specs.Links.{isZero, loopEntry}
 use Rattle.links.proofs.Numbers.{told, asked}

@@ -15,7 +15,7 @@ use lib.ListN.{getD}
 use lib.Signed.{ltZ}
 use Rattle.records.specs.View.{numberIn}
 use Rattle.verdict.specs.Rules.{Rule, Check, check, block, rows, spread}
-use Rattle.rules.specs.Permitted.{natural, is}
+use Rattle.permitted.specs.Permitted.{natural, is}
 use Rattle.rules.specs.declared.Due.{Due}
 use Rattle.rules.specs.declared.Due.the-variants.{Mesh, Layer, Node, Line, Coordinates, Area, Loop}
 use Rattle.walk.specs.States.{dueOf, stateAt}

@@ -7,7 +7,7 @@ use Prim.Native.Nat.{ℕ, _+_, _*_, _-_, _≤_, _<_}
 use lib.IntN.{ℤ}
 use lib.ListN as ListN
 use lib.ListN.{getD, take}
-use Rattle.rules.specs.Permitted.{natural, size}
+use Rattle.permitted.specs.Permitted.{natural, size}
 use Rattle.rules.specs.declared.Due.{Due}
 use Rattle.rules.specs.declared.Due.the-variants as due
 use Rattle.walk.specs.States.{countsAt}

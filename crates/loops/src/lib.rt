@@ -13,7 +13,6 @@ ghost use Prim.Native.Nat.{_+_, _*_, _-_, _≤_, _<_};
 ghost use lib.ListN.{length};
 ghost use Rattle.verdict.specs.declared.Verdict.the-variants.{Broken};
 ghost use Rattle.verdict.specs.Rules.{firstBroken, block, spread};
-ghost use Rattle.rules.specs.Permitted.{is};
 ghost use Rattle.layers.specs.Passing.{isLayer};
 ghost use Rattle.links.specs.Links.{isZero, loopEntry};
 ghost use Rattle.entries.specs.Keeping.{keptLoop, Kept};
@@ -46,10 +45,10 @@ fn loop_entry(file: &[u8], r: usize, i: usize) -> i32
 fn mark_of(v: i32) -> usize
     ensures { λ r. ⌜ r ≡ markOf v ⌝ }
 {
-    if rules::natural(v) {
-        return 2 * rules::size(v);
+    if permitted::natural(v) {
+        return 2 * permitted::size(v);
     }
-    2 * rules::size(v) + 1
+    2 * permitted::size(v) + 1
 }
 
 // Marks the entry `v` with `a`, the record of its A. False where it bears that mark already, or where no
@@ -143,7 +142,7 @@ fn last_node(file: &[u8], table: &[u32], l: Layer, v: i32) -> i32
     ensures { λ x. ⌜ x ≡ lastNode (now (file .entry)) (now (table .entry)) l v ⌝ }
 {
     let r = layers::line_of(table, l, v);
-    if rules::natural(v) {
+    if permitted::natural(v) {
         return records::number_at(file, r, 24, 5);
     }
     records::number_at(file, r, 18, 5)
@@ -173,17 +172,10 @@ fn right_area(file: &[u8], table: &[u32], l: Layer, v: i32) -> i32
     ensures { λ x. ⌜ x ≡ rightArea (now (file .entry)) (now (table .entry)) l v ⌝ }
 {
     let r = layers::line_of(table, l, v);
-    if rules::natural(v) {
+    if permitted::natural(v) {
         return records::number_at(file, r, 45, 5);
     }
     records::number_at(file, r, 35, 5)
-}
-
-// Whether a number is `n`.
-fn is(v: i32, n: usize) -> bool
-    ensures { λ r. ⌜ r ≡ is n v ⌝ }
-{
-    rules::natural(v) & (rules::size(v) == n)
 }
 
 // A refusal of slot `i`.
@@ -224,7 +216,7 @@ fn judge_slot(
     if !joins(file, table, l, f, 12 * less(r, f) + i, v) {
         return broken(15, r, i);
     }
-    if !is(right_area(file, table, l, v), area) {
+    if !permitted::is(right_area(file, table, l, v), area) {
         return broken(17, r, i);
     }
     Verdict::Fine
@@ -265,7 +257,7 @@ fn judge_slots(
 fn winds(serial: i32, m: i64) -> bool
     ensures { λ r. ⌜ r ≡ winds serial m ⌝ }
 {
-    if rules::natural(serial) {
+    if permitted::natural(serial) {
         return 0 < m;
     }
     m < 0

@@ -5,7 +5,7 @@ use mathlib.Core.Path.{_≡_, refl, ap}
 use Prim.Native.Nat.{ℕ, _<_}
 use native.Mathlib.Omega.{arith}
 use lib.IntN.{ℤ}
-use Rattle.fields.proofs.Remainders.{sum-said}
+use Rattle.glances.proofs.Remainders.{sum-said}
 use Rattle.measures.specs.Measures.{lineMeasure}
 use Rattle.measures.specs.Points.{coordinateIn, pairBy, pointBy, pointAt, pointCount, pointsBy, measureBy, measureIn}
 use Rattle.measures.specs.Sound.{SoundAt, Sound, addedUp}

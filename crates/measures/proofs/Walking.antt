@@ -27,7 +27,7 @@ use Rattle.records.specs.View.{recordOf, numberIn}
 use Rattle.records.proofs.Numbers.{number-none}
 use Rattle.fields.proofs.FieldLaws.{number-in-range}
 use Rattle.fields.proofs.Range.{holds-small}
-use Rattle.fields.proofs.Remainders.{five-small}
+use Rattle.glances.proofs.Remainders.{five-small}
 use Rattle.fields.proofs.Signs.{is-negative, is-natural}
 use Rattle.measures.proofs.Bounds.{mul-small, sub-small, add-small, small-le, read-back}
 use Rattle.measures.proofs.MeasureLaws.{cross-origin, line-none, line-one, line-more}

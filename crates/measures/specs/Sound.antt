@@ -7,7 +7,7 @@ use mathlib.Core.List.{List}
 use mathlib.Core.Path.{_≡_}
 use Prim.Native.Nat.{ℕ, _+_, _*_, _/_, _%_, _≤_, _<_}
 use lib.IntN.{ℤ, pos}
-use Rattle.fields.specs.Glimpse.{remaindersAt}
+use Rattle.glances.specs.Glimpse.{remaindersAt}
 use Rattle.fields.specs.Number.{numberAt}
 use Rattle.fields.specs.declared.Number.the-variants as number
 use Rattle.records.specs.View.{recordOf}

@@ -20,7 +20,7 @@ struct Walk {
 fn coordinate(s: &[u8], column: usize) -> i64
     ensures { λ r. ⌜ r ≡ addedUp (now (s .entry)) column ⌝ }
 {
-    fields::sum_of_five(s, column) as i64
+    glances::sum_of_five(s, column) as i64
 }
 
 // One step (RULES 7.1): x2*y1 - x1*y2 from where the walk stands.

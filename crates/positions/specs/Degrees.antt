@@ -1,19 +1,17 @@
 -- Where a point lies in degrees (RULES 10), for any whole numbers. Assumes nothing.
 --   pp m, uu m, q m, v m    the digits of a mesh code m
---   isMeshCode m            m is a permitted mesh code
---   isCoordinate n          n is a permitted X or Y
 --   hundredths m y          the latitude in hundredths of a second
 --   twoHundredths m x       the longitude in 200ths of a second
 --   degrees n d             n parts in degrees, where d parts make one
 --   degreesOf m x y         both in degrees
 --   notPlaced               the answer to what is not permitted
---   placed m x y            the answer to natural numbers
---   positionOf m x y        the answer to whole numbers
-use mathlib.Core.Bool.{Bool, false, cond, _&&_}
+--   placed m x y            the answer to what is permitted
+--   positionOf m x y        the answer to any numbers
+use mathlib.Core.Bool.{false, cond, _&&_}
 use Prim.Native.Nat.{ℕ, _+_, _*_, _/_, _%_}
-use lib.Dec.{leb}
-use lib.IntN.{ℤ, pos, negsuc}
+use lib.IntN.{ℤ, pos}
 use lib.Ieee.{Float, fin, binary64, div, ofInt}
+use Rattle.permitted.specs.Permitted.{size, isMeshCode, isCoordinate}
 use Rattle.positions.specs.declared.Position.{Position}
 use Rattle.positions.specs.declared.Placed.{Placed}
 
@@ -29,14 +27,6 @@ q m = m / 10 % 10
 
 abbrev pub v : ℕ → ℕ
 v m = m % 10
-
--- RULES 5.1: a mesh code is 100000 to 999999, the last two digits 0 to 7 each
-unfoldable pub isMeshCode : ℕ → Bool
-isMeshCode m = leb 100000 m && leb m 999999 && leb (q m) 7 && leb (v m) 7
-
--- RULES 5.5: X and Y are 0 to 10000
-unfoldable pub isCoordinate : ℕ → Bool
-isCoordinate n = leb n 10000
 
 -- RULES 10: the latitude in hundredths of a second
 unfoldable pub hundredths : ℕ → ℕ → ℕ
@@ -57,16 +47,10 @@ degreesOf m x y = record { latitude = degrees (hundredths m y) 360000; longitude
 abbrev pub notPlaced : Placed
 notPlaced = record { number = 6; position = record { latitude = fin false 0 (pos 0); longitude = fin false 0 (pos 0) } }
 
--- RULES 10: 6, or acceptance, number 0, with the degrees
-unfoldable pub placed : ℕ → ℕ → ℕ → Placed
-placed m x y =
-    cond (isMeshCode m && isCoordinate x && isCoordinate y)
-    (record { number = 0; position = degreesOf m x y })
-    notPlaced
+-- RULES 10: acceptance, number 0, with the degrees
+abbrev pub placed : ℕ → ℕ → ℕ → Placed
+placed m x y = record { number = 0; position = degreesOf m x y }
 
--- RULES 5.1, 5.5: a negative number is not permitted
+-- RULES 10: a point is placed where its mesh code (RULES 5.1) and its X and Y (RULES 5.5) are permitted
 unfoldable pub positionOf : ℤ → ℤ → ℤ → Placed
-positionOf (negsuc m) x y = notPlaced
-positionOf (pos m) (negsuc x) y = notPlaced
-positionOf (pos m) (pos x) (negsuc y) = notPlaced
-positionOf (pos m) (pos x) (pos y) = placed m x y
+positionOf m x y = cond (isMeshCode m && (isCoordinate x && isCoordinate y)) (placed (size m) (size x) (size y)) notPlaced

@@ -1,8 +1,9 @@
 // A point's latitude and longitude in degrees (RULES 10), from the mesh
 // code of its sheet and its X and Y there. The public function takes every number.
 //
-// The contracts cite `specs/Degrees.antt`.
+// The contracts cite `specs/Degrees.antt`. What is permitted stands in `permitted`.
 ghost use mathlib.Core.Path.{_≡_};
+ghost use Prim.Native.Nat.{_≤_};
 ghost use Rattle.positions.specs.Degrees.{positionOf, placed, notPlaced};
 
 #[repr(C)]
@@ -31,32 +32,15 @@ fn refused() -> Placed
     }
 }
 
-// The position of a point that is not negative.
+// The position of a point that is permitted.
 fn place(mesh: u32, x: u32, y: u32) -> Placed
+    requires { ⌜ (mesh ≤ 999999) × (x ≤ 10000) × (y ≤ 10000) ⌝ }
     ensures { λ r. ⌜ r ≡ placed mesh x y ⌝ }
 {
-    let q = mesh / 10 % 10;
-    let v = mesh % 10;
-    if mesh < 100000 {
-        return refused();
-    }
-    if 999999 < mesh {
-        return refused();
-    }
-    if 7 < q {
-        return refused();
-    }
-    if 7 < v {
-        return refused();
-    }
-    if 10000 < x {
-        return refused();
-    }
-    if 10000 < y {
-        return refused();
-    }
     let pp = mesh / 10000;
     let uu = mesh / 100 % 100;
+    let q = mesh / 10 % 10;
+    let v = mesh % 10;
     let latitude = pp * 240000 + q * 30000 + 3 * y;
     let longitude = (100 + uu) * 720000 + v * 90000 + 9 * x;
     Placed {
@@ -72,14 +56,18 @@ fn place(mesh: u32, x: u32, y: u32) -> Placed
 pub fn position_of(mesh: i32, x: i32, y: i32) -> Placed
     ensures { λ r. ⌜ r ≡ positionOf mesh x y ⌝ }
 {
-    if mesh < 0 {
+    if !permitted::is_mesh_code(mesh) {
         return refused();
     }
-    if x < 0 {
+    if !permitted::within(x, 0, 10000) {
         return refused();
     }
-    if y < 0 {
+    if !permitted::within(y, 0, 10000) {
         return refused();
     }
-    place(mesh as u32, x as u32, y as u32)
+    place(
+        permitted::size(mesh) as u32,
+        permitted::size(x) as u32,
+        permitted::size(y) as u32,
+    )
 }

@@ -368,7 +368,7 @@ fn read_fields(kind: Kind, s: &[u8]) -> Reading
                 j += 1;
             }
             Field::Number(c, w) => {
-                let answer = fields::read_number(s, c, w);
+                let answer = numerals::read_number(s, c, w);
                 let Number::Value(v) = answer else {
                     return refused(kind, 5, c);
                 };
@@ -377,7 +377,7 @@ fn read_fields(kind: Kind, s: &[u8]) -> Reading
                 j += 1;
             }
             Field::Name(c, w) => {
-                let answer = fields::read_name(s, c, w);
+                let answer = texts::read_name(s, c, w);
                 let Text::WellFormed = answer else {
                     return refused(kind, 5, c);
                 };
@@ -388,7 +388,7 @@ fn read_fields(kind: Kind, s: &[u8]) -> Reading
                 j += 1;
             }
             Field::Blank(c, w) => {
-                let answer = fields::read_blank(s, c, w);
+                let answer = texts::read_blank(s, c, w);
                 let Text::WellFormed = answer else {
                     return refused(kind, 5, c);
                 };
@@ -478,7 +478,7 @@ fn spell_record(r: Record) -> Spelled
                 j += 1;
             }
             Field::Number(c, w) => {
-                let answer = fields::write_number(&mut line, c, w, numbers[n]);
+                let answer = writers::write_number(&mut line, c, w, numbers[n]);
                 let Writing::Done = answer else {
                     return Spelled { ok: false, line };
                 };
@@ -487,7 +487,7 @@ fn spell_record(r: Record) -> Spelled
             }
             Field::Name(c, w) => {
                 let e = m + w;
-                let answer = fields::write_name(&mut line, c, w, &name[m..e]);
+                let answer = writers::write_name(&mut line, c, w, &name[m..e]);
                 let Writing::Done = answer else {
                     return Spelled { ok: false, line };
                 };
@@ -495,7 +495,7 @@ fn spell_record(r: Record) -> Spelled
                 j += 1;
             }
             Field::Blank(c, w) => {
-                fields::write_blank(&mut line, c, w);
+                writers::write_blank(&mut line, c, w);
                 j += 1;
             }
         }
@@ -558,7 +558,7 @@ fn number_at(file: &[u8], k: usize, column: usize, width: usize) -> i32
         return 0;
     }
     let at = k * 74 - 74 + (column - 1);
-    fields::value_of(&file[at..at + width])
+    numerals::value_of(&file[at..at + width])
 }
 
 // The number in these columns of record `k` of a file, and 0 where there is none.

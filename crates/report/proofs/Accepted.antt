@@ -6,7 +6,7 @@ use Prim.Native.Nat.{ℕ, suc, _+_, _<_}
 use lib.IntN.{pos}
 use lib.ListN.{getD}
 use Rattle.records.specs.View.{recordOf, numberIn}
-use Rattle.rules.specs.Permitted.{size}
+use Rattle.permitted.specs.Permitted.{size}
 use Rattle.rules.specs.declared.Due.the-variants.{Area}
 use Rattle.walk.specs.declared.State.{State}
 use Rattle.walk.specs.States.{sizeIn, dueOf, stateAt, countsAt}

@@ -23,8 +23,8 @@ use Rattle.verdict.specs.declared.Verdict.the-variants.{Fine, Broken}
 use Rattle.verdict.specs.Rules.{Check, check, firstBroken, block}
 use Rattle.verdict.proofs.Parts.{check-none, check-kept, check-broken}
 use Rattle.rules.specs.declared.Due.{Due}
-use Rattle.rules.specs.Asks.{Ask, permitted, inStep, askedOf, firstAsked}
-use Rattle.rules.specs.Checks.{kindOf, formChecks, valueChecks, along, checksOf}
+use Rattle.asks.specs.Asks.{Ask, permitted, inStep, firstAsked}
+use Rattle.rules.specs.Checks.{askedOf, kindOf, formChecks, valueChecks, along, checksOf}
 
 -- ---- one field's checks, in front of others
 

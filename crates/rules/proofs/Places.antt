@@ -6,8 +6,8 @@ use Prim.Native.Nat.{ℕ}
 use Rattle.records.specs.Layout.{layoutOf}
 use Rattle.verdict.specs.Order.{spotOf}
 use Rattle.rules.specs.declared.Due.the-variants.{Mesh, Layer, Node, Line, Coordinates, Area, Loop}
-use Rattle.rules.specs.Asks.{from, meshAsks, layerAsks, nodeAsks, lineAsks, coordinateAsks, areaAsks, loopAsks, asksOf, askedOf}
-use Rattle.rules.specs.Checks.{formChecks, valueChecks, along, checksOf}
+use Rattle.asks.specs.Asks.{from, meshAsks, layerAsks, nodeAsks, lineAsks, coordinateAsks, areaAsks, loopAsks}
+use Rattle.rules.specs.Checks.{asksOf, askedOf, formChecks, valueChecks, along, checksOf}
 
 -- the refusals ns at column c
 abbrev pub at : ℕ → List ℕ → List (List ℕ)

@@ -9,8 +9,8 @@ use Rattle.verdict.specs.Order.{rising}
 use Rattle.verdict.proofs.Numbers.{upTo8, numbered}
 use Rattle.rules.specs.declared.Due.{Due}
 use Rattle.rules.specs.declared.Due.the-variants.{Mesh, Layer, Node, Line, Coordinates, Area, Loop}
-use Rattle.rules.specs.Asks.{from, meshAsks, layerAsks, nodeAsks, lineAsks, coordinateAsks, areaAsks, loopAsks, asksOf, askedOf}
-use Rattle.rules.specs.Checks.{formChecks, valueChecks, along, checksOf}
+use Rattle.asks.specs.Asks.{from, meshAsks, layerAsks, nodeAsks, lineAsks, coordinateAsks, areaAsks, loopAsks}
+use Rattle.rules.specs.Checks.{asksOf, askedOf, formChecks, valueChecks, along, checksOf}
 
 pub checks-rising : (d : Due) (t : List ℕ) → rising (checksOf d t) ≡ true
 unfolding layoutOf from meshAsks layerAsks nodeAsks lineAsks coordinateAsks areaAsks loopAsks asksOf askedOf formChecks valueChecks along checksOf

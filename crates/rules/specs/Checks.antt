@@ -1,6 +1,7 @@
 -- The checks of stage 2 on one record, in the order of columns (RULES 6.4: 3, 5, 6, 7 and 8): along its layout, each field's
 -- form and then what is asked of its value. Assumes nothing.
 --   kindOf d         the kind of record that is due
+--   askedOf d i ns   what is asked of number i of a record that is due as d; ns are the numbers read so far
 --   formChecks f t   the checks of field f's form in the record t
 --   along a L i ns t the checks along the layout L, behind i numbers, which are ns; a says what is asked of a number
 --   checksOf d t     the checks of the record t, due as d
@@ -9,7 +10,7 @@ use mathlib.Core.List.{List, [], _∷_, _++_}
 use Prim.Native.Nat.{ℕ, suc}
 use lib.Dec.{eqb}
 use lib.IntN.{ℤ}
-use lib.ListN.{set}
+use lib.ListN.{set, getD}
 use Rattle.fields.specs.Number.{numberAt}
 use Rattle.fields.specs.Answer.{valueOf}
 use Rattle.records.specs.declared.Kind.{Kind}
@@ -19,9 +20,9 @@ use Rattle.records.specs.declared.Field.the-variants.{End, Letters, Number, Nam
 use Rattle.records.specs.Layout.{layoutOf}
 use Rattle.records.specs.Reading.{faultOf, zeros}
 use Rattle.verdict.specs.Rules.{Check, check}
+use Rattle.asks.specs.Asks.{Ask, permitted, inStep, meshAsks, layerAsks, nodeAsks, lineAsks, coordinateAsks, areaAsks, loopAsks}
 use Rattle.rules.specs.declared.Due.{Due}
 use Rattle.rules.specs.declared.Due.the-variants.{Mesh, Layer, Node, Line, Coordinates, Area, Loop}
-use Rattle.rules.specs.Asks.{Ask, permitted, inStep, askedOf}
 
 abbrev pub kindOf : Due → Kind
 kindOf (Mesh last) = kind.Mesh
@@ -31,6 +32,20 @@ kindOf (Line layer last) = kind.Line
 kindOf (Coordinates left) = kind.Coordinates
 kindOf (Area layer last) = kind.Area
 kindOf (Loop last count left) = kind.Loop
+
+-- for each number of a record what is asked of it
+unfoldable pub asksOf : Due → List ℤ → List (List Ask)
+asksOf (Mesh last) ns = meshAsks last ns
+asksOf (Layer last) ns = layerAsks last ns
+asksOf (Node layer last) ns = nodeAsks layer last ns
+asksOf (Line layer last) ns = lineAsks layer last ns
+asksOf (Coordinates left) ns = coordinateAsks left ns
+asksOf (Area layer last) ns = areaAsks layer last ns
+asksOf (Loop last count left) ns = loopAsks last count left ns
+
+-- what is asked of number i
+unfoldable pub askedOf : Due → ℕ → List ℤ → List Ask
+askedOf d i ns = getD (asksOf d ns) i []
 
 -- the field gives no refusal n
 abbrev pub free : ℕ → Field → List ℕ → Bool

@@ -1,4 +1,2 @@
--- What the contracts of `rules` cite: RULES 5 (Permitted values) and 6.4 (Stage 2).
-pub mod Permitted
-pub mod Asks
+-- What the contracts of `rules` cite: RULES 6.4 (Stage 2).
 pub mod Checks

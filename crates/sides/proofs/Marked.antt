@@ -14,8 +14,8 @@ use mir.Val.{toZ, ofZ, hbits}
 use borrow.Author.Tests.{ltb-true, leb-false, leb-true, eqb-true, eqb-false, eq-eqb}
 use Rattle.records.specs.View.{recordOf, numberIn}
 use Rattle.verdict.proofs.Orders.{and-both}
-use Rattle.rules.specs.Permitted.{natural, size, same}
-use Rattle.rules.proofs.Signs.{passed-on}
+use Rattle.permitted.specs.Permitted.{natural, size, same}
+use Rattle.permitted.proofs.Signs.{passed-on}
 use Rattle.walk.specs.States.{sizeIn}
 use Rattle.walk.proofs.Walking.{size-small}
 use Rattle.links.specs.Links.{entryIs, some, loopEntry}

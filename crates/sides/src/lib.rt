@@ -34,7 +34,11 @@ fn mark_area(file: &[u8], a: usize, marks: &mut [usize])
     let mut e: usize = 0;
     while e < n {
         let v = entries::slot_of(file, a + 1, e);
-        put_mark(marks, mark_at(!rules::natural(v), rules::size(v)), a);
+        put_mark(
+            marks,
+            mark_at(!permitted::natural(v), permitted::size(v)),
+            a,
+        );
         e += 1;
     }
 }

@@ -23,9 +23,9 @@ use Rattle.verdict.proofs.Orders.{and-both}
 use Rattle.verdict.proofs.Parts.{both-fine}
 use Rattle.rules.specs.declared.Due.{Due}
 use Rattle.rules.specs.declared.Due.the-variants.{Mesh, Layer, Node, Line, Coordinates, Area, Loop}
-use Rattle.rules.specs.Permitted.{natural, size, atLeast}
-use Rattle.rules.specs.Asks.{areaAsks, asksOf, askedOf}
-use Rattle.rules.specs.Checks.{formChecks, valueChecks, along, checksOf}
+use Rattle.permitted.specs.Permitted.{natural, size, atLeast}
+use Rattle.asks.specs.Asks.{areaAsks}
+use Rattle.rules.specs.Checks.{asksOf, askedOf, formChecks, valueChecks, along, checksOf}
 use Rattle.walk.specs.declared.Counts.{Counts}
 use Rattle.walk.specs.declared.State.{State}
 use Rattle.walk.specs.Row.{rowLength}

@@ -16,7 +16,7 @@ use Rattle.fields.specs.declared.Number.the-variants as number
 use Rattle.fields.proofs.FieldLaws.{number-in-range}
 use Rattle.fields.proofs.Range.{holds-small}
 use Rattle.records.specs.View.{recordOf}
-use Rattle.rules.specs.Permitted.{size}
+use Rattle.permitted.specs.Permitted.{size}
 use Rattle.rules.specs.declared.Due.{Due}
 use Rattle.rules.specs.declared.Due.the-variants.{Mesh, Layer, Node, Line, Coordinates, Area, Loop}
 use Rattle.walk.specs.Row.{mostLayerWords}

@@ -14,7 +14,7 @@ use Rattle.fields.specs.Number.{numberAt}
 use Rattle.fields.specs.Answer.{valueOf}
 use Rattle.records.specs.View.{recordOf}
 use Rattle.records.specs.Columns.{Column, spanOf, meshCode, meshLayers, layerCode, layerNodes, layerLines, layerAreas, linePoints, areaLoops, loopCount}
-use Rattle.rules.specs.Permitted.{size}
+use Rattle.permitted.specs.Permitted.{size}
 use Rattle.rules.specs.declared.Due.{Due}
 use Rattle.rules.specs.declared.Due.the-variants.{Mesh, Layer, Node, Line, Coordinates, Area, Loop}
 use Rattle.walk.specs.declared.MeshPart.{MeshPart}

@@ -91,11 +91,11 @@ pub struct Walked {
 pub fn size_at(t: &[u8], c: Columns) -> usize
     ensures { λ r. ⌜ (r ≡ sizeIn (now (t .entry)) (c .0) (c .1)) × (r ≤ 999999) ⌝ }
 {
-    let answer = fields::read_number(t, c.0, c.1);
+    let answer = numerals::read_number(t, c.0, c.1);
     let Number::Value(v) = answer else {
         return 0;
     };
-    rules::size(v)
+    permitted::size(v)
 }
 
 // What is due.
@@ -526,7 +526,7 @@ fn fine_ahead(file: &[u8], points: usize, k: usize, n: usize) -> usize
     let mut left = points;
     let mut i = k;
     while (i < n) & (0 < left) {
-        if !rules::fine_coordinates(records::record_view(file, i + 1), left) {
+        if !quick::fine_coordinates(records::record_view(file, i + 1), left) {
             return i - k;
         }
         left = less(left, 7);

@@ -1,7 +1,7 @@
 -- `entries::entry_measure` meets its contract: the measure is small, so its sign can be turned. Assumes nothing.
 use borrow.Author.Needs.{needs}
-use Rattle.rules.specs.Permitted.{natural}
-use Rattle.rules.proofs.Signs.{own-asked}
+use Rattle.permitted.specs.Permitted.{natural}
+use Rattle.permitted.proofs.Signs.{own-asked}
 use Rattle.entries.proofs.Keeping.{kept-small}
 use Rattle.entries.proofs.Summing.{turned-fits, line-small, entry-forwards, entry-backwards}
 use Rattle.entries.proofs.entry_measure.Statement.{statement}

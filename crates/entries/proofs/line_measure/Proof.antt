@@ -4,8 +4,8 @@ use mathlib.Core.Path.{ap}
 use Prim.Native.Nat.{_-_}
 use borrow.Author.Tests.{not-true, not-false}
 use borrow.Author.Needs.{needs}
-use Rattle.rules.specs.Permitted.{size}
-use Rattle.rules.proofs.Signs.{own-told, own-asked}
+use Rattle.permitted.specs.Permitted.{size}
+use Rattle.permitted.proofs.Signs.{own-told, own-asked}
 use Rattle.layers.specs.Naming.{namesLine}
 use Rattle.layers.proofs.Answers.{line-counted}
 use Rattle.entries.proofs.Keeping.{unnamed-told, kept-told, past-told}

@@ -3,7 +3,7 @@
 use denote.Ref.{now}
 use mathlib.Core.Path.{sym}
 use borrow.Author.Needs.{needs}
-use Rattle.rules.proofs.Signs.{passed-on}
+use Rattle.permitted.proofs.Signs.{passed-on}
 use Rattle.links.specs.Links.{loopEntry}
 use Rattle.entries.specs.Entries.{slotOf}
 use Rattle.entries.proofs.Slots.{slot-none}

@@ -2,8 +2,8 @@
 use native.Mathlib.Omega.{arith}
 use borrow.Author.Needs.{needs}
 use Rattle.layers.specs.Naming.{namesLine, lineOf}
-use Rattle.rules.specs.Permitted.{size}
-use Rattle.rules.proofs.Signs.{own-told, own-asked}
+use Rattle.permitted.specs.Permitted.{size}
+use Rattle.permitted.proofs.Signs.{own-told, own-asked}
 use Rattle.layers.proofs.Answers.{line-counted}
 use Rattle.layers.proofs.line_of.Statement.{statement}
 use Rattle.layers.proofs.line_of.Tie as tie

@@ -1,7 +1,7 @@
 -- `links::earlier` meets its contract: 0 where the number is 0, else i. Assumes nothing.
 use borrow.Author.Needs.{needs}
 use Rattle.links.specs.Links.{isZero}
-use Rattle.rules.proofs.Signs.{own-asked}
+use Rattle.permitted.proofs.Signs.{own-asked}
 use Rattle.links.proofs.earlier.Statement.{statement}
 use Rattle.links.proofs.earlier.Tie as tie
 

@@ -1,10 +1,10 @@
 -- `links::end_node` meets its contract: the sign says which of the line's two columns it reads. Assumes nothing.
 use borrow.Author.Needs.{needs}
-use Rattle.rules.specs.Permitted.{natural}
-use Rattle.rules.proofs.Signs.{passed-on}
+use Rattle.permitted.specs.Permitted.{natural}
+use Rattle.permitted.proofs.Signs.{passed-on}
 use Rattle.layers.specs.Naming.{lineOf}
 use Rattle.links.specs.Links.{endNode}
-use Rattle.rules.proofs.Signs.{own-told, own-asked}
+use Rattle.permitted.proofs.Signs.{own-told, own-asked}
 use Rattle.links.proofs.end_node.Statement.{statement}
 use Rattle.links.proofs.end_node.Tie as tie
 

@@ -1,10 +1,10 @@
 -- `links::meets` meets its contract: its tests are the definition's, in the same order. Assumes nothing.
 use borrow.Author.Tests.{not-true, not-false}
 use borrow.Author.Needs.{needs}
-use Rattle.rules.specs.Permitted.{size}
+use Rattle.permitted.specs.Permitted.{size}
 use Rattle.layers.specs.Naming.{names, namesLine}
 use Rattle.links.specs.Links.{endNode, meets}
-use Rattle.rules.proofs.Signs.{own-told, own-asked}
+use Rattle.permitted.proofs.Signs.{own-told, own-asked}
 use Rattle.links.proofs.Numbers.{told, asked}
 use Rattle.links.proofs.meets.Statement.{statement}
 use Rattle.links.proofs.meets.Tie as tie

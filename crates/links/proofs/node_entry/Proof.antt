@@ -1,6 +1,6 @@
 -- `links::node_entry` meets its contract: it reads the slot's own columns. Assumes nothing.
 use borrow.Author.Needs.{needs}
-use Rattle.rules.proofs.Signs.{passed-on}
+use Rattle.permitted.proofs.Signs.{passed-on}
 use Rattle.links.specs.Links.{nodeEntry}
 use Rattle.links.proofs.node_entry.Statement.{statement}
 use Rattle.links.proofs.node_entry.Tie as tie

@@ -1,6 +1,6 @@
 -- `links::serial_in` meets its contract: the number it reads fits, and so its size is that of the file's number. Assumes nothing.
 use borrow.Author.Needs.{needs}
-use Rattle.rules.specs.Permitted.{size}
+use Rattle.permitted.specs.Permitted.{size}
 use Rattle.links.proofs.Numbers.{told}
 use Rattle.links.proofs.serial_in.Statement.{statement}
 use Rattle.links.proofs.serial_in.Tie as tie

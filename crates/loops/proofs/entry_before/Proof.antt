@@ -1,6 +1,6 @@
 -- `loops::entry_before` meets its contract: the slot before the first one is the loop's last. Assumes nothing.
 use borrow.Author.Tests.{eq-eqb, ne-eqb}
-use Rattle.rules.proofs.Signs.{passed-on}
+use Rattle.permitted.proofs.Signs.{passed-on}
 use Rattle.loops.specs.Loops.{entryBefore}
 use borrow.Author.Needs.{needs}
 use Rattle.loops.proofs.entry_before.Statement.{statement}

@@ -1,6 +1,6 @@
 -- `loops::joins` meets its contract: it compares the two nodes of the definition. Assumes nothing.
 use mathlib.Core.Path.{sym}
-use Rattle.rules.proofs.Signs.{own-told}
+use Rattle.permitted.proofs.Signs.{own-told}
 use Rattle.links.specs.Links.{equal, endNode}
 use Rattle.links.proofs.Numbers.{told, told-both}
 use Rattle.loops.specs.Loops.{lastNode, joins}

@@ -1,6 +1,6 @@
 -- `loops::last_node` meets its contract: the sign says which of the line's two columns it reads. Assumes nothing.
-use Rattle.rules.specs.Permitted.{natural}
-use Rattle.rules.proofs.Signs.{own-told, own-asked, passed-on}
+use Rattle.permitted.specs.Permitted.{natural}
+use Rattle.permitted.proofs.Signs.{own-told, own-asked, passed-on}
 use Rattle.layers.specs.Naming.{lineOf}
 use Rattle.loops.specs.Loops.{lastNode}
 use borrow.Author.Needs.{needs}

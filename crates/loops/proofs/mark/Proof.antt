@@ -2,7 +2,7 @@
 use native.Mathlib.Omega.{arith}
 use borrow.Author.Needs.{needs}
 use Rattle.links.specs.Links.{isZero}
-use Rattle.rules.proofs.Signs.{own-told, own-asked}
+use Rattle.permitted.proofs.Signs.{own-told, own-asked}
 use Rattle.loops.specs.Scanning.{markOf}
 use Rattle.loops.proofs.Repeats.{marking-none, marking-not, marking-left}
 use Rattle.loops.proofs.mark.Statement.{statement}

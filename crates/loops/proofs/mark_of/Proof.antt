@@ -7,8 +7,8 @@ use mir.Facts.{fits-natAbs}
 use mir.Syntax.{w32}
 use mir.Val.{SFits, toZ, ofZ}
 use borrow.Author.Needs.{needs}
-use Rattle.rules.specs.Permitted.{natural, size}
-use Rattle.rules.proofs.Signs.{own-told, own-asked}
+use Rattle.permitted.specs.Permitted.{natural, size}
+use Rattle.permitted.proofs.Signs.{own-told, own-asked}
 use Rattle.loops.proofs.mark_of.Statement.{statement}
 use Rattle.loops.proofs.mark_of.Tie as tie
 

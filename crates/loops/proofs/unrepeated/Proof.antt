@@ -6,7 +6,7 @@ use native.Mathlib.Omega.{arith}
 use lib.ListN.{length}
 use borrow.Author.Needs.{needs}
 use borrow.Author.Tests.{not-false}
-use Rattle.rules.proofs.Signs.{passed-on}
+use Rattle.permitted.proofs.Signs.{passed-on}
 use Rattle.loops.specs.Scanning.{Unrepeated}
 use Rattle.loops.proofs.Repeats.{Marked, marked-none, unrepeated-none, marked-more, unrepeated-more}
 use Rattle.loops.proofs.unrepeated.Statement.{statement}

@@ -1,7 +1,7 @@
 -- `loops::winds` meets its contract: the serial's sign says which side of 0 is asked for. Assumes nothing.
 use mir.Facts.{toZ-ofZ}
-use Rattle.rules.specs.Permitted.{natural}
-use Rattle.rules.proofs.Signs.{own-asked}
+use Rattle.permitted.specs.Permitted.{natural}
+use Rattle.permitted.proofs.Signs.{own-asked}
 use Rattle.loops.specs.Loops.{winds}
 use borrow.Author.Needs.{needs}
 use Rattle.loops.proofs.winds.Statement.{statement}

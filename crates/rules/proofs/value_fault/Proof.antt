@@ -1,6 +1,6 @@
 -- `rules::value_fault` meets its contract: each kind's function answers for its list. Assumes nothing.
 use borrow.Author.Needs.{needs}
-use Rattle.rules.specs.Asks.{asksOf, askedOf}
+use Rattle.rules.specs.Checks.{asksOf, askedOf}
 use Rattle.rules.proofs.value_fault.Statement.{statement}
 use Rattle.rules.proofs.value_fault.Tie as tie
 

@@ -1,0 +1,2 @@
+-- Where the asks of a record stand in their list.
+pub mod Slots

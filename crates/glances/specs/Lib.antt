@@ -1,0 +1,2 @@
+-- What the contracts of `glances` cite.
+pub mod Glimpse

@@ -1,0 +1,2 @@
+-- What the proofs of `numerals` go by.
+mod Signs

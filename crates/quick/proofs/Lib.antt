@@ -1,0 +1,2 @@
+-- What the loop of `fine_coordinates` keeps.
+mod Glancing

@@ -1,0 +1,3 @@
+-- What the proofs of `texts` go by.
+mod TextSteps
+mod Answers

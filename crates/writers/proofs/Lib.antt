@@ -1,0 +1,4 @@
+-- What the proofs of `writers` go by.
+mod Answers
+mod Filling
+mod Signs
