@@ -23,7 +23,8 @@ use Rattle.walk.proofs.Judging.{ended}
 use Rattle.layers.specs.declared.Layer as layers
 use Rattle.layers.specs.Naming.{layerIn, names, namesLine, lineOf, areaOf}
 use Rattle.layers.specs.Passing.{layerAt, basesIn, layerOf}
-use Rattle.layers.proofs.Laid.{area-due, area-word, LineAt, AreaAt}
+use Rattle.layers.proofs.Sections.{lines, areas}
+use Rattle.layers.proofs.Laid.{number-of, word-of, RecordAt}
 use Rattle.links.specs.Links.{isZero, lineEndChecks, sideChecks, lineChecks, loopEntry, entryChecks, linkChecks, fifth, stageFour}
 use Rattle.entries.specs.Entries.{slotOf, loopsAt, recordsTo, slotsOf}
 use Rattle.entries.specs.Loops.{loopMeasureIn}
@@ -112,7 +113,7 @@ kept-by file t l r n e four six =
       rightLists = rw e (side-lists file t l r 45 false n (s .1) (six .1 .0));
     }
 
-pub line-kept : (file : List ℕ) → Passed file → (i m k : ℕ) → LineAt file i m k → LineKept file (tableOf file) (layerOf file i) (suc m)
+pub line-kept : (file : List ℕ) → Passed file → (i m k : ℕ) → RecordAt lines file i m k → LineKept file (tableOf file) (layerOf file i) (suc m)
 line-kept file p i m k x =
     let t = tableOf file in
     let four : Holding (lineChecks file t (layerOf file i) (k + 1)) = rw (x .layer) at (four-holds file p k (x .within) (x .due)) in
@@ -133,7 +134,7 @@ slot-by file t l a x f r i e p q z four five =
       own = rw (← p, ← q) (five .1 .1 .0);
     }
 
-pub slot-kept : (file : List ℕ) → Passed file → (i a k : ℕ) → AreaAt file i a k → (e : ℕ) → e < slotsOf file (suc k) → SlotKept file (tableOf file) (layerOf file i) (suc a) (suc k) e
+pub slot-kept : (file : List ℕ) → Passed file → (i a k : ℕ) → RecordAt areas file i a k → (e : ℕ) → e < slotsOf file (suc k) → SlotKept file (tableOf file) (layerOf file i) (suc a) (suc k) e
 unfolding slotsOf layerAt areaRecord loopChecks entryChecks
 slot-kept file p i a k x e m =
     let t = tableOf file in
@@ -143,12 +144,12 @@ slot-kept file p i a k x e m =
     let o : q < recordsTo file (suc k) (loopsAt file (suc k)) = omega arith in
     let v = inside file k (x .due) q o in
     let w = complete file k (recordsOf file) (x .within) (ended file (p .two)) (x .due) q o in
-    let n : stateAt file j .area ≡ suc a = omega (arith, v .area, area-due (stateAt file k) (x .due) .0) in
+    let n : stateAt file j .area ≡ suc a = omega (arith, v .area, number-of areas file k (x .within) _ _ (x .due) .0) in
     let f : layerAt file t b j ≡ layerOf file i = ap (λ (c : ℕ). layerIn t b (c - 1)) (v .layers) ∙ x .layer in
     let four = rw f at (four-holds file p j w (v .due)) in
     let five = rw (f, n) at (five-holds file p j w (v .due)) in
     let y : suc a - 1 ≡ a = omega arith in
-    let z : getD t (layerOf file i .area + (suc a - 1)) 0 ≡ suc k = rw y (rw (x .layer) at (area-word file k (x .within) (x .due))) in
+    let z : getD t (layerOf file i .area + (suc a - 1)) 0 ≡ suc k = rw y (rw (x .layer) at (word-of areas file k (x .within) _ _ (x .due))) in
     let g = firstRecord (j + 1) (v .count) (v .left) in
     slot-by file t (layerOf file i) (suc a) (suc k) g (j + 1) (e % 12) e (omega arith) refl z
     (slot-holds _ 12 four (e % 12) (omega arith) .0)

@@ -41,7 +41,8 @@ use Rattle.walk.proofs.Passing.{quiet-points, passed-due}
 use Rattle.layers.specs.Naming.{lineOf}
 use Rattle.layers.specs.Passing.{isLayer, basesIn, layerOf}
 use Rattle.layers.proofs.Rows.{row-laid}
-use Rattle.layers.proofs.Laid.{line-named, line-laid}
+use Rattle.layers.proofs.Sections.{lines, named}
+use Rattle.layers.proofs.Laid.{laid}
 use Rattle.measures.specs.Points.{coordinateIn, countOf, pointCount, pairBy, pointBy, pointAt}
 use Rattle.measures.specs.Sound.{SoundAt, Sound}
 use Rattle.loops.specs.Scanning.{SoundTable}
@@ -176,8 +177,8 @@ table-sound file h = record {
   layers = λ i l. record {
     few = lines-limit file h i l;
     sound = λ m a.
-        let p = line-laid file (ended file h) i m l a in
-        let e = sym (line-named (tableOf file) (layerOf file i) m a) ∙ p .1 .word in
+        let p = laid lines file (ended file h) i m l a in
+        let e = sym (named lines (tableOf file) (layerOf file i) m a) ∙ p .1 .word in
         rw e (line-sound file h (p .0) (p .1 .within) (p .1 .due));
   };
 }
@@ -189,5 +190,5 @@ pub points-stated : (file : List ℕ) → firstBroken (stageTwo file) ≡ Fine �
     × SoundAt (recordOf file (lineOf (tableOf file) (layerOf file i) (pos n) + 1 + j / 7)) (6 + 10 * (j % 7)) (pointAt file (lineOf (tableOf file) (layerOf file i) (pos n)) j .y)
 points-stated file h i zero l a b j m = absurd (omega arith)
 points-stated file h i (suc n) l a b j m =
-    let s : Sound file (lineOf (tableOf file) (layerOf file i) (pos (suc n))) = rw (line-named (tableOf file) (layerOf file i) n b) (table-sound file h .layers i l .sound n b) in
+    let s : Sound file (lineOf (tableOf file) (layerOf file i) (pos (suc n))) = rw (named lines (tableOf file) (layerOf file i) n b) (table-sound file h .layers i l .sound n b) in
     (s .east j m, s .north j m)

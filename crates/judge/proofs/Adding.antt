@@ -32,7 +32,8 @@ use Rattle.measures.proofs.Bounds.{fits-by, read-back}
 use Rattle.layers.specs.declared.Bases.{Bases}
 use Rattle.layers.specs.declared.Layer.{Layer}
 use Rattle.layers.specs.Naming.{rowWord, wordsBefore, layerIn, lineOf, areaOf}
-use Rattle.layers.proofs.Laid.{words-more, area-named}
+use Rattle.layers.proofs.Sections.{areas, named}
+use Rattle.layers.proofs.Laid.{words-more}
 use Rattle.entries.specs.Entries.{loopsAt, loopAt, loopsTo, recordsTo}
 use Rattle.entries.specs.Loops.{measureOf, areaMeasureIn}
 use Rattle.entries.specs.Keeping.{keptMeasure, Kept}
@@ -105,7 +106,7 @@ module _ (file t : List ℕ) (l : Layer) where
   -- area a, counted from 0, whose A is record r
   module _ {a r : ℕ} (h : a < l .areas) (e : r ≡ getD t (l .area + a) 0) where
     record-is : r ≡ areaOf t l (pos (suc a))
-    record-is = e ∙ sym (area-named t l a h)
+    record-is = e ∙ sym (named areas t l a h)
 
     -- by the kept line measures ks
     module _ {ks : List ℤ} (k : Kept file t l ks) where
