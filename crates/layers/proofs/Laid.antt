@@ -4,7 +4,7 @@
 use mathlib.Core.Bool.{Bool, true, false}
 use mathlib.Core.List.{List, [], _∷_}
 use mathlib.Core.Logic.{⊎-elim}
-use mathlib.Core.Path.{_≡_, refl, sym, _∙_, ap, subst}
+use mathlib.Core.Path.{_≡_, refl, sym, _∙_, ap}
 use Prim.Native.Nat.{ℕ, zero, suc, _+_, _-_, _≤_, _<_}
 use native.Mathlib.Nat.{le-of-suc-le-suc, eq-or-lt-of-le}
 use native.Mathlib.Numerals.{add-one}
@@ -81,6 +81,9 @@ part-row {v = v} more e w p =
 part-none : {t : List ℕ} {j : ℕ} {v : Tally} → v .came ≡ v .own → Part t j v → Part t j (noneLeft v)
 part-none e p = record { all = omega (arith, p .all); some = λ l. absurd (omega arith); last = λ l. absurd (omega arith) }
 
+part-is : {t : List ℕ} {j : ℕ} {v w : Tally} → v ≡ w → Part t j w → Part t j v
+part-is e p = rw e p
+
 -- the next word of a layer that has not all yet: its row and its place
 record Next (t : List ℕ) (j : ℕ) (v : Tally) : Type 0 where
   row : v .rows - 1 < v .rows
@@ -102,6 +105,9 @@ only {t = t} {j = j} {v = v} {i = i} {m = m} x e l =
 
 -- ---- from record to record
 
+count-is : {v w : Tally} → v ≡ w → v .count ≡ w .count
+count-is e = ap (λ (v : Tally). v .count) e
+
 -- a record of the section has a word
 wordless : {A : Type 0} (x : Section) (d : Due) (r : List ℕ) (code m : ℕ) → wordsOf x d r 0 ≡ [] → d ≡ dueIn x code m → A
 wordless x d r code m n e =
@@ -111,10 +117,10 @@ wordless x d r code m n e =
 module _ {x : Section} {s : State} {c : Counts} {r : List ℕ} {d : Due} where
   part-next : {t : List ℕ} → Turn x s c r d → cameIn x s ≤ ownIn x s → (isLayer d ≡ true → rowWord t (c .layers) (wordOf x) ≡ totalIn x r)
       → Part t (wordOf x) (tallyOf x c s) → Part t (wordOf x) (tallyOf x (countedFor d c r) (nextFor d s r))
-  part-next {t} (own e l q) o h p = subst (Part t (wordOf x)) (sym q) (part-one p)
-  part-next {t} (head n e l q) o h p = subst (Part t (wordOf x)) (sym q) (part-row (totalIn x r) (omega arith) (h e) p)
-  part-next {t} (mesh n l q) o h p = subst (Part t (wordOf x)) (sym q) (part-none (omega arith) p)
-  part-next {t} (other n q) o h p = subst (Part t (wordOf x)) (sym q) p
+  part-next (own e l q) o h p = part-is q (part-one p)
+  part-next (head n e l q) o h p = part-is q (part-row (totalIn x r) (omega arith) (h e) p)
+  part-next (mesh n l q) o h p = part-is q (part-none (omega arith) p)
+  part-next (other n q) o h p = part-is q p
 
   -- where one is due: its number, and that the layer has not all yet
   due-by : (code m : ℕ) → Turn x s c r d → d ≡ dueIn x code m → (m ≡ cameIn x s) × (cameIn x s < ownIn x s)
@@ -125,10 +131,10 @@ module _ {x : Section} {s : State} {c : Counts} {r : List ℕ} {d : Due} where
 
   -- where their count comes past p, one is due
   passed : {p : ℕ} → Turn x s c r d → countIn x c ≤ p → p < countIn x (countedFor d c r) → (d ≡ dueNow x s (cameIn x s)) × (countIn x c ≡ p)
-  passed (own e l q) a b = (e, omega (arith, ap (λ (v : Tally). v .count) q))
-  passed (head n e l q) a b = absurd (omega (arith, ap (λ (v : Tally). v .count) q))
-  passed (mesh n l q) a b = absurd (omega (arith, ap (λ (v : Tally). v .count) q))
-  passed (other n q) a b = absurd (omega (arith, ap (λ (v : Tally). v .count) q))
+  passed (own e l q) a b = (e, omega (arith, count-is q))
+  passed (head n e l q) a b = absurd (omega (arith, count-is q))
+  passed (mesh n l q) a b = absurd (omega (arith, count-is q))
+  passed (other n q) a b = absurd (omega (arith, count-is q))
 
 -- record n of the section, counted from 0 over all layers: that behind the first k
 pub record Nth (x : Section) (file : List ℕ) (n k : ℕ) : Type 0 where
@@ -139,8 +145,7 @@ pub record Nth (x : Section) (file : List ℕ) (n k : ℕ) : Type 0 where
 module _ (x : Section) (file : List ℕ) where
   parts : (k : ℕ) → k ≤ recordsOf file → Part (tableOf file) (wordOf x) (tallyAt x file k)
   unfolding countsAt stateAt nextOf wordsBefore
-  parts zero l =
-      subst (Part (tableOf file) (wordOf x)) (sym (none-yet x)) (record { all = refl; some = λ m. m; last = λ m. absurd (omega arith) })
+  parts zero l = part-is (none-yet x) (record { all = refl; some = λ m. m; last = λ m. absurd (omega arith) })
   parts (suc k) l = part-next (turn-at x file k) (came-most x file k) (head-total x file k l) (parts k (omega arith))
 
   -- where the file may end, all that the rows say has come
@@ -154,7 +159,7 @@ module _ (x : Section) (file : List ℕ) where
   pub nth : (n : ℕ) → n < countIn x (countsAt file (recordsOf file)) → (k : ℕ) × Nth x file n k
   unfolding countsAt
   nth n l =
-      let z : countIn x (countsAt file 0) ≡ 0 = ap (λ (v : Tally). v .count) (none-yet x) in
+      let z : countIn x (countsAt file 0) ≡ 0 = count-is (none-yet x) in
       let q = passes (λ k. countIn x (countsAt file k)) n (recordsOf file) (omega arith) l in
       let d = passed (turn-at x file (q .0)) (q .1 .above) (q .1 .below) in
       (q .0, record { within = q .1 .before; due = d .0; before = d .1 })
