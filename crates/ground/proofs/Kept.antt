@@ -92,8 +92,9 @@ sides-named file t l r h =
     (b .0, b .1 .1 .0)
 
 -- 18 of the side whose area, not 0, stands at column c
-side-lists : (file t : List ℕ) (l : layers.Layer) (r c : ℕ) (back : Bool) (n : ℕ) → (isZero (numberIn file r c 5) || names (l .areas) (numberIn file r c 5)) ≡ true
-    → sideListed file t l r c back n ≡ true → 0 < size (numberIn file r c 5) → lists file (areaOf t l (pos (size (numberIn file r c 5)))) back n ≡ true
+side-lists : (file t : List ℕ) (l : layers.Layer) (r c : ℕ) (back : Bool) (n : ℕ)
+    → (isZero (numberIn file r c 5) || names (l .areas) (numberIn file r c 5)) ≡ true → sideListed file t l r c back n ≡ true → 0 < size (numberIn file r c 5)
+    → lists file (areaOf t l (pos (size (numberIn file r c 5)))) back n ≡ true
 unfolding sideListed
 side-lists file t l r c back n e h a = by (numberIn file r c 5) (isZero (numberIn file r c 5)) refl e h a
   where
@@ -102,7 +103,8 @@ side-lists file t l r c back n e h a = by (numberIn file r c 5) (isZero (numberI
     by v true z e h a = absurd (omega (arith, eqb-true (size v) 0 z))
     by v false z e h a = subst (λ (w : ℤ). lists file (areaOf t l w) back n ≡ true) (names-natural (l .areas) v e) h
 
-kept-by : (file t : List ℕ) (l : layers.Layer) (r n : ℕ) → lineOf t l (pos n) ≡ r → Holding (lineChecks file t l r) → Holding (listChecks file t l r n) → LineKept file t l n
+kept-by : (file t : List ℕ) (l : layers.Layer) (r n : ℕ) → lineOf t l (pos n) ≡ r → Holding (lineChecks file t l r)
+    → Holding (listChecks file t l r n) → LineKept file t l n
 unfolding leftOf rightOf listChecks
 kept-by file t l r n e four six =
     let s = sides-named file t l r four in
@@ -124,7 +126,8 @@ line-kept file p i m k x =
 
 -- from the checks of slot i of the loop record r
 slot-by : (file t : List ℕ) (l : layers.Layer) (a x f r i e : ℕ) → r ≡ x + 1 + e / 12 → i ≡ e % 12 → areaRecord t l a ≡ x
-    → (isZero (loopEntry file r i) || namesLine (l .lines) (loopEntry file r i)) ≡ true → Holding (loopSlot file t l (areaRecord t l a) a f r i) → SlotKept file t l a x e
+    → (isZero (loopEntry file r i) || namesLine (l .lines) (loopEntry file r i)) ≡ true
+    → Holding (loopSlot file t l (areaRecord t l a) a f r i) → SlotKept file t l a x e
 unfolding slotOf loopSlot
 slot-by file t l a x f r i e p q z four five =
     let y : 12 * (r - (x + 1)) + i ≡ e = omega arith in
@@ -134,7 +137,8 @@ slot-by file t l a x f r i e p q z four five =
       own = rw (← p, ← q) (five .1 .1 .0);
     }
 
-pub slot-kept : (file : List ℕ) → Passed file → (i a k : ℕ) → RecordAt areas file i a k → (e : ℕ) → e < slotsOf file (suc k) → SlotKept file (tableOf file) (layerOf file i) (suc a) (suc k) e
+pub slot-kept : (file : List ℕ) → Passed file → (i a k : ℕ) → RecordAt areas file i a k → (e : ℕ) → e < slotsOf file (suc k)
+    → SlotKept file (tableOf file) (layerOf file i) (suc a) (suc k) e
 unfolding slotsOf layerAt areaRecord loopChecks entryChecks
 slot-kept file p i a k x e m =
     let t = tableOf file in
