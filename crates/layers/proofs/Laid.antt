@@ -24,7 +24,7 @@ use Rattle.walk.proofs.Dues.{grown, idle-end}
 use Rattle.layers.specs.Naming.{rowWord, wordsBefore}
 use Rattle.layers.specs.Passing.{isLayer, layerAt, basesIn, layerOf}
 use Rattle.layers.proofs.Rows.{gathered, passes}
-use Rattle.layers.proofs.Sections.{Section, wordOf, baseIn, wordsOf, manyIn, firstIn, recordIn, totalIn, dueIn, dueNow, countIn, ownIn, cameIn}
+use Rattle.layers.proofs.Sections.{Section, wordOf, baseIn, wordsFor, manyIn, firstIn, recordIn, totalIn, dueIn, dueNow, countIn, ownIn, cameIn}
 use Rattle.layers.proofs.Sections.{Tally, tallyOf, oneMore, newRow, noneLeft, tallyAt, Turn, own, head, mesh, other, turn-at, none-yet}
 use Rattle.layers.proofs.Sections.{came-most, came-all, own-word, due-number, head-total, many-is, first-is, many-words, word-in, named}
 
@@ -109,9 +109,9 @@ count-is : {v w : Tally} → v ≡ w → v .count ≡ w .count
 count-is e = ap (λ (v : Tally). v .count) e
 
 -- a record of the section has a word
-wordless : {A : Type 0} (x : Section) (d : Due) (r : List ℕ) (code m : ℕ) → wordsOf x d r 0 ≡ [] → d ≡ dueIn x code m → A
+wordless : {A : Type 0} (x : Section) (d : Due) (r : List ℕ) (code m : ℕ) → wordsFor x d r 0 ≡ [] → d ≡ dueIn x code m → A
 wordless x d r code m n e =
-    let z : _≡_ {A = ℕ} 1 0 = ap length (sym (own-word x code m r 0) ∙ ap (λ d. wordsOf x d r 0) (sym e) ∙ n) in
+    let z : _≡_ {A = ℕ} 1 0 = ap length (sym (own-word x code m r 0) ∙ ap (λ d. wordsFor x d r 0) (sym e) ∙ n) in
     absurd (omega arith)
 
 module _ {x : Section} {s : State} {c : Counts} {r : List ℕ} {d : Due} where
@@ -197,9 +197,9 @@ module _ (x : Section) (file : List ℕ) (k : ℕ) (l : k < recordsOf file) (cod
   there : getD (tableOf file) (baseIn x (basesIn file) + countIn x (countsAt file k)) 0 ≡ suc k
   there =
       let r = recordOf file (suc k) in
-      let before = length (gather (wordsOf x) file k) in
-      let v : wordsOf x (dueOf (stateAt file k)) r (suc k) ≡ suc k ∷ [] = ap (λ d. wordsOf x d r (suc k)) e ∙ own-word x code m r (suc k) in
-      let w = gathered (wordsOf x) file k (recordsOf file) 0 l (rw v (lit≤ tt)) in
+      let before = length (gather (wordsFor x) file k) in
+      let v : wordsFor x (dueOf (stateAt file k)) r (suc k) ≡ suc k ∷ [] = ap (λ d. wordsFor x d r (suc k)) e ∙ own-word x code m r (suc k) in
+      let w = gathered (wordsFor x) file k (recordsOf file) 0 l (rw v (lit≤ tt)) in
       let z : countIn x (countsAt file k) ≡ before + 0 = omega (arith, many-words x file k) in
       rw z (word-in x file (before + 0) (w .short) ∙ w .word ∙ ap (λ ws. getD ws 0 0) v)
 

@@ -91,7 +91,7 @@ is-row file i l =
     row-layer (tableOf file) (basesIn file) i (omega (arith, counts-small file (recordsOf file) .layers, records-small file))
 
 -- the row that an H gives, the record t with the number r
-abbrev pub headRow : List ℕ → ℕ → List ℕ
+abbrev headRow : List ℕ → ℕ → List ℕ
 headRow t r = rowWords (due.Layer 0) t r
 
 head-words : (d : Due) (t : List ℕ) (r : ℕ) → isLayer d ≡ true → rowWords d t r ≡ headRow t r

@@ -28,6 +28,7 @@ use Rattle.layers.specs.Naming.{rowWord, wordsBefore, rowLayer, names, n
 use Rattle.layers.specs.Passing.{isLayer, basesOf, basesIn, layerOf}
 use Rattle.layers.proofs.Rows.{is-row, head-word}
 
+-- behind all rows each line's L record; then each area's A record
 pub data Section : Type 0 where
   lines : Section
   areas : Section
@@ -45,9 +46,9 @@ baseIn lines b = b .lines
 baseIn areas b = b .areas
 
 -- the words that a record gives it
-abbrev pub wordsOf : Section → Due → List ℕ → ℕ → List ℕ
-wordsOf lines d t r = lineWords d t r
-wordsOf areas d t r = areaWords d t r
+abbrev pub wordsFor : Section → Due → List ℕ → ℕ → List ℕ
+wordsFor lines d t r = lineWords d t r
+wordsFor areas d t r = areaWords d t r
 
 -- how many words of it a layer has, and where the first of them stands
 abbrev pub manyIn : Section → Layer → ℕ
@@ -126,11 +127,11 @@ tallyAt x file k = tallyOf x (countsAt file k) (stateAt file k)
 pub data Turn (x : Section) (s : State) (c : Counts) (r : List ℕ) (d : Due) : Type 0 where
   own : d ≡ dueNow x s (cameIn x s) → cameIn x s < ownIn x s
       → tallyOf x (countedFor d c r) (nextFor d s r) ≡ oneMore (tallyOf x c s) → Turn x s c r d
-  head : wordsOf x d r 0 ≡ [] → isLayer d ≡ true → ownIn x s ≤ cameIn x s
+  head : wordsFor x d r 0 ≡ [] → isLayer d ≡ true → ownIn x s ≤ cameIn x s
       → tallyOf x (countedFor d c r) (nextFor d s r) ≡ newRow (totalIn x r) (tallyOf x c s) → Turn x s c r d
-  mesh : wordsOf x d r 0 ≡ [] → ownIn x s ≤ cameIn x s
+  mesh : wordsFor x d r 0 ≡ [] → ownIn x s ≤ cameIn x s
       → tallyOf x (countedFor d c r) (nextFor d s r) ≡ noneLeft (tallyOf x c s) → Turn x s c r d
-  other : wordsOf x d r 0 ≡ [] → tallyOf x (countedFor d c r) (nextFor d s r) ≡ tallyOf x c s → Turn x s c r d
+  other : wordsFor x d r 0 ≡ [] → tallyOf x (countedFor d c r) (nextFor d s r) ≡ tallyOf x c s → Turn x s c r d
 
 turn : (x : Section) (s : State) (c : Counts) (r : List ℕ) → Turn x s c r (dueOf s)
 turn lines s c r =
@@ -175,7 +176,7 @@ came-all lines i = i .lines
 came-all areas i = i .areas
 
 -- a record of it gives it a word, its number
-pub own-word : (x : Section) (code m : ℕ) (t : List ℕ) (r : ℕ) → wordsOf x (dueIn x code m) t r ≡ r ∷ []
+pub own-word : (x : Section) (code m : ℕ) (t : List ℕ) (r : ℕ) → wordsFor x (dueIn x code m) t r ≡ r ∷ []
 own-word lines code m t r = refl
 own-word areas code m t r = refl
 
@@ -186,8 +187,8 @@ due-number areas code last m n e = cc
 -- a row has what its H says
 pub head-total : (x : Section) (file : List ℕ) (k : ℕ) → k < recordsOf file → isLayer (dueOf (stateAt file k)) ≡ true
     → rowWord (tableOf file) (countsAt file k .layers) (wordOf x) ≡ totalIn x (recordOf file (suc k))
-head-total lines file k l h = head-word file k l h 2 (lit≤ tt)
-head-total areas file k l h = head-word file k l h 3 (lit≤ tt)
+head-total lines file k l h = head-word file k l h (wordOf lines) (lit≤ tt)
+head-total areas file k l h = head-word file k l h (wordOf areas) (lit≤ tt)
 
 row-many : (x : Section) (t : List ℕ) (b : Bases) (i : ℕ) → manyIn x (rowLayer t b i) ≡ rowWord t i (wordOf x)
 row-many lines t b i = refl
@@ -206,13 +207,13 @@ module _ (x : Section) (file : List ℕ) (i : ℕ) (l : i ≤ countsAt file (rec
   first-is = ap (firstIn x) (is-row file i l) ∙ row-first x (tableOf file) (basesIn file) i
 
 -- it has as many words as came
-pub many-words : (x : Section) (file : List ℕ) (k : ℕ) → length (gather (wordsOf x) file k) ≡ countIn x (countsAt file k)
+pub many-words : (x : Section) (file : List ℕ) (k : ℕ) → length (gather (wordsFor x) file k) ≡ countIn x (countsAt file k)
 many-words lines file k = counted file k .lines
 many-words areas file k = counted file k .areas
 
 -- its word i stands in the table behind the sections before it
-pub word-in : (x : Section) (file : List ℕ) (i : ℕ) → i < length (gather (wordsOf x) file (recordsOf file))
-    → getD (tableOf file) (baseIn x (basesIn file) + i) 0 ≡ getD (gather (wordsOf x) file (recordsOf file)) i 0
+pub word-in : (x : Section) (file : List ℕ) (i : ℕ) → i < length (gather (wordsFor x) file (recordsOf file))
+    → getD (tableOf file) (baseIn x (basesIn file) + i) 0 ≡ getD (gather (wordsFor x) file (recordsOf file)) i 0
 unfolding tableOf basesOf
 word-in lines file i l =
     let n = recordsOf file in
