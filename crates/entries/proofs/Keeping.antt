@@ -70,7 +70,8 @@ module _ {m : ℤ} (f : SFits w64 m) where
       by (pos n) t = rw (lt-leb n most (ltb-true most n t))
       by (negsuc n) t = absurd (false≢true t)
 
-  pub between : ltZ (toZ w64 (ofZ w64 m)) (negsuc 199999999999999) ≡ false → ltZ (pos 200000000000000) (toZ w64 (ofZ w64 m)) ≡ false → toZ w64 (ofZ w64 m) ≡ possibleOf m
+  pub between : ltZ (toZ w64 (ofZ w64 m)) (negsuc 199999999999999) ≡ false → ltZ (pos 200000000000000) (toZ w64 (ofZ w64 m)) ≡ false
+      → toZ w64 (ofZ w64 m) ≡ possibleOf m
   between s t = toZ-ofZ f ∙ sym (possible-same (by m (rw (toZ-ofZ f) at s) (rw (toZ-ofZ f) at t)))
     where
       by : (m : ℤ) → ltZ m (negsuc 199999999999999) ≡ false → ltZ (pos 200000000000000) m ≡ false → Small most m

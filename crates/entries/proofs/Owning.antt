@@ -131,7 +131,8 @@ module _ (file : List ℕ) where
     one-loop x b w l (suc i) m =
         let p = suc k + x in
         let n = countAt file (suc p) in
-        let v : Within (suc k + (x + suc i)) (suc b) (n - 12 - 12 * i) = moved (omega arith) refl refl (to-all (suc p) (suc b) (n - 12) i (omega arith) (to-first p b w l)) in
+        let u = to-all (suc p) (suc b) (n - 12) i (omega arith) (to-first p b w l) in
+        let v : Within (suc k + (x + suc i)) (suc b) (n - 12 - 12 * i) = moved (omega arith) refl refl u in
         record { last = _; count = _; left = _; due = further-due v (omega arith); area = v .area; layers = v .layers }
 
     loop-end : (p b : ℕ) → Within p b 0 → b < loopsAt file (suc k) → Within (p + recordsFor (countAt file (suc p))) (suc b) 0

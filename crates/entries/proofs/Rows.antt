@@ -138,7 +138,8 @@ module _ (file : List ℕ) (f : ℕ) where
 
   -- 17: all are area a's
   pub row-own : (n : ℕ) (left right : ℕ → ℕ) (a : ℕ)
-      → ((e : ℕ) → e < n → (isZero (slotOf file f e) || eqb (cond (natural (slotOf file f e)) (right (size (slotOf file f e))) (left (size (slotOf file f e)))) a) ≡ true)
+      → ((e : ℕ) → e < n
+      → (isZero (slotOf file f e) || eqb (cond (natural (slotOf file f e)) (right (size (slotOf file f e))) (left (size (slotOf file f e)))) a) ≡ true)
       → Own left right a (entriesTo file f n)
   row-own n left right a h = each-row (λ e. areaOf left right e ≡ a) n (λ e l. slot-own left right a (slotOf file f e) (h e l))
 
@@ -148,20 +149,24 @@ module _ (file : List ℕ) (f : ℕ) where
   stands-row e (suc n) = stands-joined e (entriesTo file f n) (entryOf (slotOf file f n)) ∙ rw (stands-row e n)
 
   -- an entry stands in the row if a slot is it, and only then
-  pub row-stands : (n : ℕ) (back : Bool) (m : ℕ) → 0 < m → stands (cond back (minus m) (plus m)) (entriesTo file f n) ≡ some n (λ e. entryIs back m (slotOf file f e))
+  pub row-stands : (n : ℕ) (back : Bool) (m : ℕ) → 0 < m
+      → stands (cond back (minus m) (plus m)) (entriesTo file f n) ≡ some n (λ e. entryIs back m (slotOf file f e))
   row-stands n back m l = stands-row (sided back m) n ∙ some-same n _ _ (λ e. slot-stands back m l (slotOf file f e))
 
   -- 18
-  pub row-there : (n : ℕ) (back : Bool) (m : ℕ) → 0 < m → some n (λ e. entryIs back m (slotOf file f e)) ≡ true → stands (cond back (minus m) (plus m)) (entriesTo file f n) ≡ true
+  pub row-there : (n : ℕ) (back : Bool) (m : ℕ) → 0 < m → some n (λ e. entryIs back m (slotOf file f e)) ≡ true
+      → stands (cond back (minus m) (plus m)) (entriesTo file f n) ≡ true
   row-there n back m l h = row-stands n back m l ∙ h
 
   -- 13: no slot that is not 0 is like one before it
-  pub row-once : (n : ℕ) → ((e : ℕ) → e < n → (isZero (slotOf file f e) || not (some e (λ j. equal (slotOf file f e) (slotOf file f j)))) ≡ true) → NoRepeat (entriesTo file f n)
+  pub row-once : (n : ℕ) → ((e : ℕ) → e < n → (isZero (slotOf file f e) || not (some e (λ j. equal (slotOf file f e) (slotOf file f j)))) ≡ true)
+      → NoRepeat (entriesTo file f n)
   unfolding entriesTo
   row-once zero h = tt
   row-once (suc n) h = more n (slotOf file f n) (isZero (slotOf file f n)) refl (row-once n (λ e l. h e (omega arith))) (h n (le-refl _))
     where
-      more : (n : ℕ) (v : ℤ) (t : Bool) → isZero v ≡ t → NoRepeat (entriesTo file f n) → (t || not (some n (λ j. equal v (slotOf file f j)))) ≡ true → NoRepeat (entriesTo file f n ++ entryOf v)
+      more : (n : ℕ) (v : ℤ) (t : Bool) → isZero v ≡ t → NoRepeat (entriesTo file f n) → (t || not (some n (λ j. equal v (slotOf file f j)))) ≡ true
+          → NoRepeat (entriesTo file f n ++ entryOf v)
       more n v true e o h = rw (entry-none v e, append-nil (entriesTo file f n)) o
       more n v false e o h =
           let q = some-same n _ _ (λ j. equal-is v (slotOf file f j)) in
@@ -181,7 +186,8 @@ module _ (file : List ℕ) (f : ℕ) where
   unfolding entriesTo
   entries-joined q zero = rw add-zero (sym (append-nil (entriesTo file f (12 * q))))
   entries-joined q (suc n) =
-      rw (add-suc, entries-joined q n, slot-shift q n) (append-assoc (entriesTo file f (12 * q)) (entriesTo file (f + q) n) (entryOf (slotOf file f (12 * q + n))))
+      rw (add-suc, entries-joined q n, slot-shift q n)
+      (append-assoc (entriesTo file f (12 * q)) (entriesTo file (f + q) n) (entryOf (slotOf file f (12 * q + n))))
 
 -- ---- an area's measure
 
@@ -192,7 +198,8 @@ loop-more m ls es = sum-append (loopMeasure m) ls (es ∷ []) ∙ rw (+ℤ-idr (
 
 module _ (file : List ℕ) (a : ℕ) where
   -- a loop's entries stand behind those of the loops before it
-  pub row-more : (j : ℕ) → entriesTo file (a + 1) (12 * recordsTo file a (suc j)) ≡ entriesTo file (a + 1) (12 * recordsTo file a j) ++ loopAt file (a + 1 + recordsTo file a j)
+  pub row-more : (j : ℕ)
+      → entriesTo file (a + 1) (12 * recordsTo file a (suc j)) ≡ entriesTo file (a + 1) (12 * recordsTo file a j) ++ loopAt file (a + 1 + recordsTo file a j)
   unfolding recordsTo loopAt
   row-more j =
       let x = recordsTo file a j in

@@ -1,22 +1,15 @@
 -- Loop records and their counts: a number of width 4 is at most 9999, and every number of a record that the file has not is 0.
 -- Assumes nothing.
-use mathlib.Core.Bool.{true}
 use mathlib.Core.List.{List}
-use mathlib.Core.Path.{_≡_, refl}
+use mathlib.Core.Path.{_≡_}
 use Prim.Native.Nat.{ℕ, _+_, _/_, _^_, _≤_, _<_}
 use native.Mathlib.Omega.{arith}
-use lib.Dec.{lit≤}
-use lib.IntN.{ℤ, pos, negsuc}
+use lib.IntN.{ℤ, pos}
 use lib.ListN.{length}
 use lib.Signed.{mag}
 use mir.Syntax.{w32}
 use mir.Val.{toZ, ofZ, hbits}
-use Rattle.fields.specs.Answer.{valueOf}
-use Rattle.fields.specs.Number.{numberAt, holds}
-use Rattle.fields.specs.declared.Number as numbers
-use Rattle.fields.specs.declared.Number.the-variants as number
-use Rattle.fields.proofs.FieldLaws.{number-in-range}
-use Rattle.fields.proofs.Range.{holds-size, holds-minus}
+use Rattle.fields.proofs.FieldLaws.{number-digits}
 use Rattle.records.specs.View.{recordOf, numberIn}
 use Rattle.records.proofs.Numbers.{record-past, number-none}
 use Rattle.permitted.specs.Permitted.{size}
@@ -26,18 +19,10 @@ use Rattle.entries.specs.Entries.{slotOf, recordsFor, countAt, loopsAt, 
 
 -- ---- a number of width 4
 
-four-holds : (v : ℤ) → holds 4 v ≡ true → size v ≤ 9999
-four-holds (pos n) h = omega (arith, holds-size 4 n h)
-four-holds (negsuc n) h = omega (arith, holds-minus 4 n h)
-
-four-by : (s : List ℕ) (c : ℕ) (r : numbers.Number) → numberAt s c 4 ≡ r → size (valueOf r) ≤ 9999
-four-by s c (number.Value v) e = four-holds v (number-in-range s c 4 v e)
-four-by s c number.Refused e = lit≤ tt
-
 -- it has at most four digits, whatever stands there
 pub four-digits : (file : List ℕ) (k c : ℕ) → size (numberIn file k c 4) ≤ 9999
 unfolding numberIn
-four-digits file k c = four-by (recordOf file k) c (numberAt (recordOf file k) c 4) refl
+four-digits file k c = omega (arith, number-digits (recordOf file k) c 4)
 
 -- the answer r of `size` about the number z that stands there
 pub four-told : (file : List ℕ) (k c : ℕ) {z : ℤ} {r : ℕ} → mag z < 2 ^ hbits w32 → z ≡ numberIn file k c 4 → r ≡ size (toZ w32 (ofZ w32 z))

@@ -4,10 +4,11 @@ use mathlib.Core.Bool.{Bool, true, false, cond, _&&_}
 use mathlib.Core.List.{List, [], _∷_}
 use mathlib.Core.Logic.{_⊎_, inl, inr}
 use mathlib.Core.Path.{_≡_, refl, sym, _∙_}
-use Prim.Native.Nat.{ℕ, zero, suc}
+use Prim.Native.Nat.{ℕ, zero, suc, _^_, _<_}
+use native.Mathlib.Nat.{one-le-pow}
 use native.Mathlib.Omega.{arith}
-use lib.Dec.{eqb}
-use lib.IntN.{ℤ}
+use lib.Dec.{eqb, lit<}
+use lib.IntN.{ℤ, natAbs}
 use lib.ListN.{length, replicate, length-replicate}
 use borrow.Author.Tests.{eq-eqb, eqb-true}
 use Rattle.fields.specs.Answer.{numberRefusal, valueOf, textRefusal, writingRefusal, numberFits, nameFits, Wrote}
@@ -22,6 +23,7 @@ use Rattle.fields.specs.declared.Writing.the-variants as writing
 use Rattle.fields.specs.declared.Writing.{Writing}
 use Rattle.fields.proofs.Columns.{spell-length}
 use Rattle.fields.proofs.Places.{both, bytes-length, put-inside, put-bytes, put-same}
+use Rattle.fields.proofs.Range.{holds-digits, holds-small}
 use Rattle.fields.proofs.Spelled.{read-spelled}
 use Rattle.fields.proofs.Unspelled.{spelled-read, holds-read}
 
@@ -63,6 +65,19 @@ number-answer s c w = answer-by s c w (numberAt s c w) refl
 -- every value read is in the width's range
 pub number-in-range : (s : List ℕ) (c w : ℕ) (v : ℤ) → numberAt s c w ≡ number.Value v → holds w v ≡ true
 number-in-range s c w v e = number-says s c w v e .held
+
+-- what is read of a field, a value or the 0 of a refusal, has no more digits than the field has columns, and at most six
+digits-by : (s : List ℕ) (c w : ℕ) (r : Number) → numberAt s c w ≡ r → (natAbs (valueOf r) < 10 ^ w) × (natAbs (valueOf r) < 1000000)
+digits-by s c w (number.Value v) e =
+    let h = number-in-range s c w v e in
+    (holds-digits w v h, holds-small w v h)
+digits-by s c w number.Refused e = (one-le-pow w 10 (lit< tt), lit< tt)
+
+pub number-digits : (s : List ℕ) (c w : ℕ) → natAbs (valueOf (numberAt s c w)) < 10 ^ w
+number-digits s c w = digits-by s c w (numberAt s c w) refl .0
+
+pub number-small : (s : List ℕ) (c w : ℕ) → natAbs (valueOf (numberAt s c w)) < 1000000
+number-small s c w = digits-by s c w (numberAt s c w) refl .1
 
 -- a field has at most one value
 pub number-one-value : (s : List ℕ) (c w : ℕ) (u v : ℤ) → Says s c w u → Says s c w v → u ≡ v

@@ -71,15 +71,18 @@ pub holds-width : (w : ℕ) (v : ℤ) → holds w v ≡ true → (1 ≤ w) × (w
 holds-width w (pos n) h = width-bounds w (split-pos w n h .0)
 holds-width w (negsuc n) h = width-bounds w (split-neg w n h .0)
 
--- such a value has at most six digits
-pub holds-small : (w : ℕ) (v : ℤ) → holds w v ≡ true → natAbs v < 1000000
-holds-small w (pos n) h =
-    let p : 10 ^ w ≤ 10 ^ 6 = pow-le-pow-right (lit< tt) (holds-width w (pos n) h .1) in
-    omega (arith, holds-size w n h)
-holds-small w (negsuc n) h =
-    let l : w - 1 ≤ 6 = omega (arith, holds-width w (negsuc n) h .1) in
-    let p : 10 ^ (w - 1) ≤ 10 ^ 6 = pow-le-pow-right (lit< tt) l in
+-- such a value has no more digits than its width, and at most six
+pub holds-digits : (w : ℕ) (v : ℤ) → holds w v ≡ true → natAbs v < 10 ^ w
+holds-digits w (pos n) h = holds-size w n h
+holds-digits w (negsuc n) h =
+    let l : w - 1 ≤ w = omega arith in
+    let p : 10 ^ (w - 1) ≤ 10 ^ w = pow-le-pow-right (lit< tt) l in
     omega (arith, holds-minus w n h)
+
+pub holds-small : (w : ℕ) (v : ℤ) → holds w v ≡ true → natAbs v < 1000000
+holds-small w v h =
+    let p : 10 ^ w ≤ 10 ^ 6 = pow-le-pow-right (lit< tt) (holds-width w v h .1) in
+    omega (arith, holds-digits w v h)
 
 -- the same range as an order of numbers; a wider field holds more
 abbrev pub InRange : ℕ → ℤ → Type 0

@@ -11,7 +11,8 @@ use Rattle.walk.specs.Table.{tableOf}
 use Rattle.walk.proofs.Judging.{ended}
 use Rattle.layers.specs.Naming.{areaOf}
 use Rattle.layers.specs.Passing.{layerOf}
-use Rattle.layers.proofs.Laid.{line-laid, area-laid}
+use Rattle.layers.proofs.Sections.{lines, areas}
+use Rattle.layers.proofs.Laid.{laid}
 use Rattle.entries.specs.Entries.{slotsOf}
 use Rattle.ground.specs.Layers.{areasSum, outsideSum}
 use Rattle.ground.specs.Standing.{LineKept, SlotKept, LayerKept}
@@ -23,7 +24,7 @@ module _ (file : List ℕ) (p : Passed file) (i : ℕ) (l : i < countsAt file (r
   pub lines-kept : (n : ℕ) → 0 < n → n ≤ layerOf file i .lines → LineKept file (tableOf file) (layerOf file i) n
   lines-kept zero o m = absurd (omega arith)
   lines-kept (suc n) o m =
-      let q = line-laid file (ended file (p .two)) i n l m in
+      let q = laid lines file (ended file (p .two)) i n l m in
       line-kept file p i n (q .0) (q .1)
 
   -- each area's slots keep stages 4 and 5
@@ -31,7 +32,7 @@ module _ (file : List ℕ) (p : Passed file) (i : ℕ) (l : i < countsAt file (r
       → SlotKept file (tableOf file) (layerOf file i) a (areaOf (tableOf file) (layerOf file i) (pos a)) e
   slots-kept zero o m e j = absurd (omega arith)
   slots-kept (suc a) o m e j =
-      let q = area-laid file (ended file (p .two)) i a l m in
+      let q = laid areas file (ended file (p .two)) i a l m in
       let w = q .1 .word in
       rw w (slot-kept file p i a (q .0) (q .1) e (rw w at j))
 

@@ -24,7 +24,8 @@ use Rattle.walk.proofs.Judging.{ended}
 use Rattle.layers.specs.declared.Layer as layers
 use Rattle.layers.specs.Naming.{layerIn, names, namesLine, lineOf, areaOf}
 use Rattle.layers.specs.Passing.{layerAt, basesIn, layerOf}
-use Rattle.layers.proofs.Laid.{area-due, area-word, LineAt, AreaAt}
+use Rattle.layers.proofs.Sections.{lines, areas}
+use Rattle.layers.proofs.Laid.{number-of, word-of, RecordAt}
 use Rattle.links.specs.Links.{isZero, lineEndChecks, sideChecks, lineChecks, loopEntry, entryChecks, linkChecks, fifth, stageFour}
 use Rattle.entries.specs.Entries.{slotOf, loopsAt, recordsTo, slotsOf}
 use Rattle.entries.specs.Loops.{loopMeasureIn}
@@ -91,8 +92,9 @@ sides-named file t l r h =
     (b .0, b .1 .1 .0)
 
 -- 18 of the side whose area, not 0, stands at column c
-side-lists : (file t : List ℕ) (l : layers.Layer) (r c : ℕ) (back : Bool) (n : ℕ) → (isZero (numberIn file r c 5) || names (l .areas) (numberIn file r c 5)) ≡ true
-    → sideListed file t l r c back n ≡ true → 0 < size (numberIn file r c 5) → lists file (areaOf t l (pos (size (numberIn file r c 5)))) back n ≡ true
+side-lists : (file t : List ℕ) (l : layers.Layer) (r c : ℕ) (back : Bool) (n : ℕ)
+    → (isZero (numberIn file r c 5) || names (l .areas) (numberIn file r c 5)) ≡ true → sideListed file t l r c back n ≡ true → 0 < size (numberIn file r c 5)
+    → lists file (areaOf t l (pos (size (numberIn file r c 5)))) back n ≡ true
 unfolding sideListed
 side-lists file t l r c back n e h a = by (numberIn file r c 5) (isZero (numberIn file r c 5)) refl e h a
   where
@@ -101,7 +103,8 @@ side-lists file t l r c back n e h a = by (numberIn file r c 5) (isZero (numberI
     by v true z e h a = absurd (omega (arith, eqb-true (size v) 0 z))
     by v false z e h a = subst (λ (w : ℤ). lists file (areaOf t l w) back n ≡ true) (names-natural (l .areas) v e) h
 
-kept-by : (file t : List ℕ) (l : layers.Layer) (r n : ℕ) → lineOf t l (pos n) ≡ r → Holding (lineChecks file t l r) → Holding (listChecks file t l r n) → LineKept file t l n
+kept-by : (file t : List ℕ) (l : layers.Layer) (r n : ℕ) → lineOf t l (pos n) ≡ r → Holding (lineChecks file t l r)
+    → Holding (listChecks file t l r n) → LineKept file t l n
 unfolding leftOf rightOf listChecks
 kept-by file t l r n e four six =
     let s = sides-named file t l r four in
@@ -112,7 +115,7 @@ kept-by file t l r n e four six =
       rightLists = rw e (side-lists file t l r 45 false n (s .1) (six .1 .0));
     }
 
-pub line-kept : (file : List ℕ) → Passed file → (i m k : ℕ) → LineAt file i m k → LineKept file (tableOf file) (layerOf file i) (suc m)
+pub line-kept : (file : List ℕ) → Passed file → (i m k : ℕ) → RecordAt lines file i m k → LineKept file (tableOf file) (layerOf file i) (suc m)
 line-kept file p i m k x =
     let t = tableOf file in
     let four : Holding (lineChecks file t (layerOf file i) (k + 1)) = rw (x .layer) at (four-holds file p k (x .within) (x .due)) in
@@ -123,7 +126,8 @@ line-kept file p i m k x =
 
 -- from the checks of slot i of the loop record r
 slot-by : (file t : List ℕ) (l : layers.Layer) (a x f r i e : ℕ) → r ≡ x + 1 + e / 12 → i ≡ e % 12 → areaRecord t l a ≡ x
-    → (isZero (loopEntry file r i) || namesLine (l .lines) (loopEntry file r i)) ≡ true → Holding (loopSlot file t l (areaRecord t l a) a f r i) → SlotKept file t l a x e
+    → (isZero (loopEntry file r i) || namesLine (l .lines) (loopEntry file r i)) ≡ true
+    → Holding (loopSlot file t l (areaRecord t l a) a f r i) → SlotKept file t l a x e
 unfolding slotOf loopSlot
 slot-by file t l a x f r i e p q z four five =
     let y : 12 * (r - (x + 1)) + i ≡ e = omega arith in
@@ -133,7 +137,8 @@ slot-by file t l a x f r i e p q z four five =
       own = rw (← p, ← q) (five .1 .1 .0);
     }
 
-pub slot-kept : (file : List ℕ) → Passed file → (i a k : ℕ) → AreaAt file i a k → (e : ℕ) → e < slotsOf file (suc k) → SlotKept file (tableOf file) (layerOf file i) (suc a) (suc k) e
+pub slot-kept : (file : List ℕ) → Passed file → (i a k : ℕ) → RecordAt areas file i a k → (e : ℕ) → e < slotsOf file (suc k)
+    → SlotKept file (tableOf file) (layerOf file i) (suc a) (suc k) e
 unfolding slotsOf layerAt areaRecord loopChecks entryChecks
 slot-kept file p i a k x e m =
     let t = tableOf file in
@@ -143,12 +148,12 @@ slot-kept file p i a k x e m =
     let o : q < recordsTo file (suc k) (loopsAt file (suc k)) = omega arith in
     let v = inside file k (x .due) q o in
     let w = complete file k (recordsOf file) (x .within) (ended file (p .two)) (x .due) q o in
-    let n : stateAt file j .area ≡ suc a = omega (arith, v .area, area-due (stateAt file k) (x .due) .0) in
+    let n : stateAt file j .area ≡ suc a = omega (arith, v .area, number-of areas file k (x .within) _ _ (x .due) .0) in
     let f : layerAt file t b j ≡ layerOf file i = ap (λ (c : ℕ). layerIn t b (c - 1)) (v .layers) ∙ x .layer in
     let four = rw f at (four-holds file p j w (v .due)) in
     let five = rw (f, n) at (five-holds file p j w (v .due)) in
     let y : suc a - 1 ≡ a = omega arith in
-    let z : getD t (layerOf file i .area + (suc a - 1)) 0 ≡ suc k = rw y (rw (x .layer) at (area-word file k (x .within) (x .due))) in
+    let z : getD t (layerOf file i .area + (suc a - 1)) 0 ≡ suc k = rw y (rw (x .layer) at (word-of areas file k (x .within) _ _ (x .due))) in
     let g = firstRecord (j + 1) (v .count) (v .left) in
     slot-by file t (layerOf file i) (suc a) (suc k) g (j + 1) (e % 12) e (omega arith) refl z
     (slot-holds _ 12 four (e % 12) (omega arith) .0)

@@ -61,7 +61,9 @@ module _ (n : ℕ) (most : n ≤ 9999) (m : ℕ → ℤ) (small : (i : ℕ) → 
   -- lines that count forwards and backwards, or not
   picked-small : (p q : ℕ → Bool) → Small 4000000000000000000 (sumTo n (λ i. only (p i) (m i) +ℤ only (q i) (negℤ (m i))))
   picked-small p q =
-      small-le 4000000000000000000 (sum-small n 400000000000000 _ (λ i _ _. add-small (only-small (p i) (small i)) (only-small (q i) (neg-small (small i))))) (omega arith)
+      small-le 4000000000000000000
+      (sum-small n 400000000000000 _ (λ i _ _. add-small (only-small (p i) (small i)) (only-small (q i) (neg-small (small i)))))
+      (omega arith)
 
   entries-small : (es : List Entry) → Known n es → NoRepeat es → Small 4000000000000000000 (loopMeasure m es)
   entries-small es k o = rw (loop-lines n m es k o) (picked-small (λ i. stands (plus i) es) (λ i. stands (minus i) es))
@@ -88,7 +90,8 @@ module _ (file : List ℕ) (p : Passed file) (i : ℕ) (l : i < countsAt file (r
 
   -- an area's first j loops
   pub area-small : (a : ℕ) → 0 < a → a ≤ layerOf file i .areas → (j : ℕ) → j ≤ loopsAt file (areaOf (tableOf file) (layerOf file i) (pos a))
-      → Small 4000000000000000000 (areaMeasure (measureOf file (tableOf file) (layerOf file i)) (loopsTo file (areaOf (tableOf file) (layerOf file i) (pos a)) j))
+      → Small 4000000000000000000
+      (areaMeasure (measureOf file (tableOf file) (layerOf file i)) (loopsTo file (areaOf (tableOf file) (layerOf file i) (pos a)) j))
   unfolding slotsOf repeatsArea
   area-small a o m j q =
       let y = layerOf file i in
@@ -106,13 +109,22 @@ module _ (file : List ℕ) (p : Passed file) (i : ℕ) (l : i < countsAt file (r
   areas-small j m =
       let t = tableOf file in
       let y = layerOf file i in
-      rw (areas-entries file t y j, ground-prefix (y .lines) (measureOf file t y) (leftOf file t y) (rightOf file t y) (y .areas) (entriesOf file t y) (kept-listed file t y (layer-kept file p i l)) j m)
+      let k = kept-listed file t y (layer-kept file p i l) in
+      rw (
+        areas-entries file t y j,
+        ground-prefix (y .lines) (measureOf file t y) (leftOf file t y) (rightOf file t y) (y .areas) (entriesOf file t y) k j m,
+      )
       (picked-small (y .lines) (sound .few) _ line-small (λ n. inside (rightOf file t y n) j) (λ n. inside (leftOf file t y n) j))
 
   -- the outside sum along its first j lines
   pub outside-small : (j : ℕ) → j ≤ layerOf file i .lines
-      → Small 4000000000000000000 (sumTo j (λ n. outside (leftOf file (tableOf file) (layerOf file i) n) (rightOf file (tableOf file) (layerOf file i) n) (measureOf file (tableOf file) (layerOf file i) n)))
+      → Small 4000000000000000000
+      (sumTo j (λ n.
+      outside (leftOf file (tableOf file) (layerOf file i) n) (rightOf file (tableOf file) (layerOf file i) n)
+      (measureOf file (tableOf file) (layerOf file i) n)))
   outside-small j m =
       let t = tableOf file in
       let y = layerOf file i in
-      small-le 4000000000000000000 (sum-small j 200000000000000 _ (λ n _ _. outside-one (eqb (leftOf file t y n) 0) (eqb (rightOf file t y n) 0) (line-small n))) (omega (arith, sound .few))
+      small-le 4000000000000000000
+      (sum-small j 200000000000000 _ (λ n _ _. outside-one (eqb (leftOf file t y n) 0) (eqb (rightOf file t y n) 0) (line-small n)))
+      (omega (arith, sound .few))

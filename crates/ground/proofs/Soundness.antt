@@ -41,8 +41,9 @@ use Rattle.walk.proofs.Passing.{quiet-points, passed-due}
 use Rattle.layers.specs.Naming.{lineOf}
 use Rattle.layers.specs.Passing.{isLayer, basesIn, layerOf}
 use Rattle.layers.proofs.Rows.{row-laid}
-use Rattle.layers.proofs.Laid.{line-named, line-laid}
-use Rattle.measures.specs.Points.{coordinateIn, countOf, pointCount, pairBy, pointBy, pointAt}
+use Rattle.layers.proofs.Sections.{lines, named}
+use Rattle.layers.proofs.Laid.{laid}
+use Rattle.measures.specs.Points.{coordinateIn, countOf, pointCount, pairBy, pointBy}
 use Rattle.measures.specs.Sound.{SoundAt, Sound}
 use Rattle.loops.specs.Scanning.{SoundTable}
 
@@ -75,7 +76,8 @@ lines-limit file f i l =
 -- ---- a coordinate
 
 -- what the field at column c answers is well formed and permitted
-sound-by : (t : List ℕ) (c : ℕ) (r : numbers.Number) → numberAt t c 5 ≡ r → not (eqb (numberRefusal r) 5) ≡ true → within 0 10000 (valueOf r) ≡ true → SoundAt t c (coordinateIn t c)
+sound-by : (t : List ℕ) (c : ℕ) (r : numbers.Number) → numberAt t c 5 ≡ r → not (eqb (numberRefusal r) 5) ≡ true
+    → within 0 10000 (valueOf r) ≡ true → SoundAt t c (coordinateIn t c)
 unfolding within coordinateIn
 sound-by t c (number.Value (pos n)) e f h = record { value = n; permitted = within-most 0 10000 (pos n) h; said = e; is = rw e }
 sound-by t c (number.Value (negsuc n)) e f h = absurd (false≢true h)
@@ -154,13 +156,15 @@ module _ (file : List ℕ) (h : firstBroken (stageTwo file) ≡ Fine) (k : ℕ) 
       c j e g (omega arith))
 
 -- the line whose L is record k + 1
-line-sound : (file : List ℕ) → firstBroken (stageTwo file) ≡ Fine → (k : ℕ) → k < recordsOf file → {layer m : ℕ} → dueOf (stateAt file k) ≡ Line layer m → Sound file (suc k)
+line-sound : (file : List ℕ) → firstBroken (stageTwo file) ≡ Fine → (k : ℕ) → k < recordsOf file
+    → {layer m : ℕ} → dueOf (stateAt file k) ≡ Line layer m → Sound file (suc k)
 unfolding stateAt nextOf pointCount numberIn sizeIn pairBy pointBy
 line-sound file h k l e =
     let few = count-most (valueOf (numberAt (recordOf file (suc k)) 50 6)) in
+    let place = place-sound file h (suc k) (omega arith) in
     record {
-      east = λ i a. place-sound file h (suc k) (omega arith) i (2 * (i % 7)) (1 + 10 * (i % 7)) (rw e (omega arith)) (omega arith) (omega arith) (omega arith);
-      north = λ i a. place-sound file h (suc k) (omega arith) i (2 * (i % 7) + 1) (6 + 10 * (i % 7)) (rw e (omega arith)) (omega arith) (omega arith) (omega arith);
+      east = λ i a. place i (2 * (i % 7)) (1 + 10 * (i % 7)) (rw e (omega arith)) (omega arith) (omega arith) (omega arith);
+      north = λ i a. place i (2 * (i % 7) + 1) (6 + 10 * (i % 7)) (rw e (omega arith)) (omega arith) (omega arith) (omega arith);
     }
 
 -- ---- the file
@@ -170,18 +174,14 @@ table-sound file h = record {
   layers = λ i l. record {
     few = lines-limit file h i l;
     sound = λ m a.
-        let p = line-laid file (ended file h) i m l a in
-        let e = sym (line-named (tableOf file) (layerOf file i) m a) ∙ p .1 .word in
+        let p = laid lines file (ended file h) i m l a in
+        let e = sym (named lines (tableOf file) (layerOf file i) m a) ∙ p .1 .word in
         rw e (line-sound file h (p .0) (p .1 .within) (p .1 .due));
   };
 }
 
--- point j, counted from 0, of line n of layer i
-pub points-stated : (file : List ℕ) → firstBroken (stageTwo file) ≡ Fine → (i n : ℕ) → i < countsAt file (recordsOf file) .layers → 1 ≤ n → n ≤ layerOf file i .lines
-    → (j : ℕ) → j < pointCount file (lineOf (tableOf file) (layerOf file i) (pos n))
-    → SoundAt (recordOf file (lineOf (tableOf file) (layerOf file i) (pos n) + 1 + j / 7)) (1 + 10 * (j % 7)) (pointAt file (lineOf (tableOf file) (layerOf file i) (pos n)) j .x)
-    × SoundAt (recordOf file (lineOf (tableOf file) (layerOf file i) (pos n) + 1 + j / 7)) (6 + 10 * (j % 7)) (pointAt file (lineOf (tableOf file) (layerOf file i) (pos n)) j .y)
-points-stated file h i zero l a b j m = absurd (omega arith)
-points-stated file h i (suc n) l a b j m =
-    let s : Sound file (lineOf (tableOf file) (layerOf file i) (pos (suc n))) = rw (line-named (tableOf file) (layerOf file i) n b) (table-sound file h .layers i l .sound n b) in
-    (s .east j m, s .north j m)
+-- line n of layer i
+pub points-stated : (file : List ℕ) → firstBroken (stageTwo file) ≡ Fine → (i n : ℕ) → i < countsAt file (recordsOf file) .layers
+    → 1 ≤ n → n ≤ layerOf file i .lines → Sound file (lineOf (tableOf file) (layerOf file i) (pos n))
+points-stated file h i zero l a b = absurd (omega arith)
+points-stated file h i (suc n) l a b = rw (named lines (tableOf file) (layerOf file i) n b) (table-sound file h .layers i l .sound n b)

@@ -31,7 +31,8 @@ abbrev pub entriesOf : List ℕ → List ℕ → Layer → ℕ → List Entry
 entriesOf file t l a = entriesTo file (areaOf t l (pos a) + 1) (slotsOf file (areaOf t l (pos a)))
 
 -- the first j areas measure what their entries do
-pub areas-entries : (file t : List ℕ) (l : Layer) (j : ℕ) → sumTo j (areaOfLayer file t l) ≡ sumTo j (λ a. loopMeasure (measureOf file t l) (entriesOf file t l a))
+pub areas-entries : (file t : List ℕ) (l : Layer) (j : ℕ)
+    → sumTo j (areaOfLayer file t l) ≡ sumTo j (λ a. loopMeasure (measureOf file t l) (entriesOf file t l a))
 unfolding areaOfLayer
 areas-entries file t l j = sumTo-ext j (areaOfLayer file t l) _ (λ a _ _. area-row file t l (areaOf t l (pos a)))
 

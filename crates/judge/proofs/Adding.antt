@@ -16,7 +16,6 @@ use lib.Signed.{mag}
 use mir.Facts.{toZ-ofZ, toZ-pos}
 use mir.Syntax.{w32, w64}
 use mir.Val.{SFits, toZ, ofZ, hbits}
-use borrow.Author.Tests.{le-leb}
 use Rattle.records.specs.View.{numberIn}
 use Rattle.permitted.specs.Permitted.{size, same}
 use Rattle.walk.proofs.Stores.{more-filled, filled-length}
@@ -32,7 +31,9 @@ use Rattle.measures.proofs.Bounds.{fits-by, read-back}
 use Rattle.layers.specs.declared.Bases.{Bases}
 use Rattle.layers.specs.declared.Layer.{Layer}
 use Rattle.layers.specs.Naming.{rowWord, wordsBefore, layerIn, lineOf, areaOf}
-use Rattle.layers.proofs.Laid.{words-more, area-named}
+use Rattle.layers.proofs.Rows.{row-layer}
+use Rattle.layers.proofs.Sections.{areas, named}
+use Rattle.layers.proofs.Laid.{words-more}
 use Rattle.entries.specs.Entries.{loopsAt, loopAt, loopsTo, recordsTo}
 use Rattle.entries.specs.Loops.{measureOf, areaMeasureIn}
 use Rattle.entries.specs.Keeping.{keptMeasure, Kept}
@@ -105,7 +106,7 @@ module _ (file t : List ℕ) (l : Layer) where
   -- area a, counted from 0, whose A is record r
   module _ {a r : ℕ} (h : a < l .areas) (e : r ≡ getD t (l .area + a) 0) where
     record-is : r ≡ areaOf t l (pos (suc a))
-    record-is = e ∙ sym (area-named t l a h)
+    record-is = e ∙ sym (named areas t l a h)
 
     -- by the kept line measures ks
     module _ {ks : List ℤ} (k : Kept file t l ks) where
@@ -174,10 +175,8 @@ module _ (file t : List ℕ) (l : Layer) where
 -- ---- layers
 
 module _ (t : List ℕ) (b : Bases) where
-  -- a row that a file can have is a layer
   row-areas : (i : ℕ) → i ≤ 6399936 → layerIn t b i .areas ≡ rowWord t i 3
-  unfolding layerIn
-  row-areas i h = rw (le-leb i 6399936 h)
+  row-areas i h = ap (λ (l : Layer). l .areas) (row-layer t b i h)
 
   -- the areas of the layers before row i and its own are some of those of n rows
   pub areas-more : (i n : ℕ) → i < n → n ≤ 6399936 → wordsBefore t 3 i + layerIn t b i .areas ≤ wordsBefore t 3 n

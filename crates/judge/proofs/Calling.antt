@@ -27,7 +27,8 @@ use Rattle.layers.specs.declared.Bases.{Bases}
 use Rattle.layers.specs.declared.Layer.{Layer}
 use Rattle.layers.specs.Naming.{layerIn}
 use Rattle.layers.specs.Passing.{basesOf, basesIn, layerOf}
-use Rattle.layers.proofs.Laid.{areas-all}
+use Rattle.layers.proofs.Sections.{areas}
+use Rattle.layers.proofs.Laid.{all-came}
 use Rattle.links.specs.Links.{stageFour}
 use Rattle.loops.specs.Loops.{stageFive}
 use Rattle.ground.specs.Layers.{areasSum, outsideSum}
@@ -206,7 +207,7 @@ module _ (file : List ℕ) (room : ℕ) {t : Tabled} (e : t ≡ judgedOf file ro
         fillable = rw (f, g, judged-counts) (record {
           few = omega (arith, counts-small file (recordsOf file) .layers, records-small file);
           sums = λ i m. summable i (rw judged-counts m);
-          places = rw (areas-all file (ended file (judged-passed .two))) (rw judged-counts at l);
+          places = rw (all-came areas file (ended file (judged-passed .two))) (rw judged-counts at l);
         })
 
         pub measures-kept : (ms : List ℤ) {after : List ℤ} → places ≡ length ms → after ≡ filledTo file ws b (t .counts .layers) ms → after ≡ measuresAfter file room ms

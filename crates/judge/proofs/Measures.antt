@@ -12,7 +12,6 @@ use lib.ListN.{length, getD, List·getD-append}
 use lib.Seq.{getD-append-add}
 use Rattle.verdict.specs.declared.Verdict.the-variants.{Fine}
 use Rattle.verdict.proofs.Parts.{both-fine}
-use Rattle.records.specs.View.{recordOf}
 use Rattle.rules.specs.declared.Due.the-variants.{Area}
 use Rattle.walk.specs.States.{dueOf, stateAt, countsAt}
 use Rattle.walk.specs.Stages.{recordsOf}
@@ -23,8 +22,8 @@ use Rattle.measures.proofs.FirstLaws.{first-at}
 use Rattle.layers.specs.declared.Bases.{Bases}
 use Rattle.layers.specs.Naming.{wordsBefore, layerIn}
 use Rattle.layers.specs.Passing.{layerAt, basesIn, layerOf}
-use Rattle.layers.proofs.Laid.{area-named, area-passed, area-place, area-word, areas-all}
-use Rattle.layers.proofs.Rows.{passes}
+use Rattle.layers.proofs.Sections.{areas, named}
+use Rattle.layers.proofs.Laid.{all-came, nth, place-of, word-of}
 use Rattle.entries.specs.Loops.{areaMeasureIn}
 use Rattle.ground.specs.Layers.{areaOfLayer, measuresTo}
 use Rattle.judge.specs.Rulebook.{rulesOf, measureRule, verdictOf}
@@ -69,7 +68,7 @@ pub measures-areas : (file : List ℕ) (room places : ℕ) → verdictOf file ro
 unfolding verdictOf measuresOf
 measures-areas file room places h =
     let p = passed file room (both-fine (rulesOf file room) (measureRule file places) h .0) in
-    measures-many (tableOf file) (basesIn file) file (countsAt file (recordsOf file) .layers) (counts-few file refl .0) ∙ areas-all file (ended file (p .two))
+    measures-many (tableOf file) (basesIn file) file (countsAt file (recordsOf file) .layers) (counts-few file refl .0) ∙ all-came areas file (ended file (p .two))
 
 -- the A that stands behind k records: behind as many areas as came in them stands its measure
 pub measure-place : (file : List ℕ) (k : ℕ) → k < recordsOf file → {layer last : ℕ} → dueOf (stateAt file k) ≡ Area layer last
@@ -78,10 +77,10 @@ unfolding measuresOf areaOfLayer layerAt
 measure-place file k l {last = m} e =
     let t = tableOf file in
     let i = countsAt file k .layers - 1 in
-    let x = area-place file k l e in
+    let x = place-of areas file k l _ _ e in
     rw (x .place)
     (layer-measure t (basesIn file) file (countsAt file (recordsOf file) .layers) i m (counts-few file refl .0) (x .layer) (x .inside)
-    ∙ ap (areaMeasureIn file t (layerOf file i)) (area-named t (layerOf file i) m (x .inside) ∙ area-word file k l e ∙ sym (add-one k)))
+    ∙ ap (areaMeasureIn file t (layerOf file i)) (named areas t (layerOf file i) m (x .inside) ∙ word-of areas file k l _ _ e ∙ sym (add-one k)))
 
 -- the measure in place n is that of the A before which n others stand: the record behind the first k
 pub record MeasureAt (file : List ℕ) (n k : ℕ) : Type 0 where
@@ -91,9 +90,8 @@ pub record MeasureAt (file : List ℕ) (n k : ℕ) : Type 0 where
   pub measure : getD (measuresOf file) n (pos 0) ≡ areaMeasureIn file (tableOf file) (layerAt file (tableOf file) (basesIn file) k) (k + 1)
 
 pub measure-nth : (file : List ℕ) (n : ℕ) → n < countsAt file (recordsOf file) .areas → (k : ℕ) × MeasureAt file n k
-unfolding countsAt
 measure-nth file n l =
-    let q = passes (λ k. countsAt file k .areas) n (recordsOf file) (omega arith) l in
+    let q = nth areas file n l in
     let k = q .0 in
-    let d = area-passed (stateAt file k) (countsAt file k) (recordOf file (suc k)) n (q .1 .above) (q .1 .below) in
-    (k, record { within = q .1 .before; due = d .0; before = d .1; measure = rw (d .1) at (measure-place file k (q .1 .before) (d .0)) })
+    let a = q .1 in
+    (k, record { within = a .within; due = a .due; before = a .before; measure = rw (a .before) at (measure-place file k (a .within) (a .due)) })

@@ -2,33 +2,31 @@
 -- row says, and no further H comes before they are there; so what came is what the rows before the last one say, and what came of the last.
 -- Assumes nothing.
 use mathlib.Core.Bool.{Bool, true, false}
-use mathlib.Core.List.{List, _++_}
+use mathlib.Core.List.{List, [], _∷_}
 use mathlib.Core.Logic.{⊎-elim}
 use mathlib.Core.Path.{_≡_, refl, sym, _∙_, ap}
-use Prim.Native.Nat.{ℕ, zero, suc, _+_, _*_, _-_, _≤_, _<_}
+use Prim.Native.Nat.{ℕ, zero, suc, _+_, _-_, _≤_, _<_}
 use native.Mathlib.Nat.{le-of-suc-le-suc, eq-or-lt-of-le}
 use native.Mathlib.Numerals.{add-one}
 use native.Mathlib.Omega.{arith}
 use lib.Dec.{ltb, lit≤}
 use lib.IntN.{pos}
-use lib.ListN.{length, getD, List·getD-append}
-use lib.Seq.{getD-append-add}
-use borrow.Author.Tests.{ltb-true, ltb-false, le-leb}
+use lib.ListN.{length, getD}
+use borrow.Author.Tests.{ltb-true, ltb-false}
 use Rattle.records.specs.View.{recordOf}
-use Rattle.permitted.specs.Permitted.{within}
-use Rattle.rules.specs.declared.Due.the-variants.{Line, Area}
+use Rattle.rules.specs.declared.Due.{Due}
 use Rattle.walk.specs.declared.State.{State}
 use Rattle.walk.specs.declared.Counts.{Counts}
-use Rattle.walk.specs.States.{sizeIn, dueOf, nextFor, nextOf, stateAt, rowLength, countedFor, countsAt}
+use Rattle.walk.specs.States.{dueOf, nextFor, nextOf, stateAt, countedFor, countsAt}
 use Rattle.walk.specs.Stages.{recordsOf, mayEnd}
-use Rattle.walk.specs.Table.{rowWords, lineWords, areaWords, gather, tableOf}
-use Rattle.walk.proofs.Dues.{by-due, grown, opened, idle-end}
-use Rattle.walk.proofs.Filling.{counted}
-use Rattle.walk.proofs.Walking.{next-entries}
-use Rattle.layers.specs.declared.Layer.{Layer}
-use Rattle.layers.specs.Naming.{rowWord, wordsBefore, names, namesLine, lineOf, areaOf}
-use Rattle.layers.specs.Passing.{isLayer, basesOf, layerAt, basesIn, layerOf}
-use Rattle.layers.proofs.Rows.{gathered, passes, is-row, head-word}
+use Rattle.walk.specs.Table.{gather, tableOf}
+use Rattle.walk.proofs.Dues.{grown, idle-end}
+use Rattle.layers.specs.Naming.{rowWord, wordsBefore}
+use Rattle.layers.specs.Passing.{isLayer, layerAt, basesIn, layerOf}
+use Rattle.layers.proofs.Rows.{gathered, passes}
+use Rattle.layers.proofs.Sections.{Section, wordOf, baseIn, wordsFor, manyIn, firstIn, recordIn, totalIn, dueIn, dueNow, countIn, ownIn, cameIn}
+use Rattle.layers.proofs.Sections.{Tally, tallyOf, oneMore, newRow, noneLeft, tallyAt, Turn, own, head, mesh, other, turn-at, none-yet}
+use Rattle.layers.proofs.Sections.{came-most, came-all, own-word, due-number, head-total, many-is, first-is, many-words, word-in, named}
 
 -- ---- the words of the rows, added up
 
@@ -63,268 +61,179 @@ module _ (t : List ℕ) (j : ℕ) where
 
 -- ---- what came of a section
 
--- behind so many rows, cnt words of the section came, past of them from the last layer, which has own; j is its word in a row
-record Part (t : List ℕ) (j rows cnt own past : ℕ) : Type 0 where
-  all : cnt + own ≡ wordsBefore t j rows + past
-  some : 0 < own → 0 < rows
-  last : 0 < own → own ≡ rowWord t (rows - 1) j
+-- behind so many rows and so many words of the section, whose word of a row is j
+record Part (t : List ℕ) (j : ℕ) (v : Tally) : Type 0 where
+  all : v .count + v .own ≡ wordsBefore t j (v .rows) + v .came
+  some : 0 < v .own → 0 < v .rows
+  last : 0 < v .own → v .own ≡ rowWord t (v .rows - 1) j
 
 -- another one came
-part-one : {t : List ℕ} {j rows cnt own past : ℕ} → Part t j rows cnt own past → Part t j rows (cnt + 1) own (past + 1)
+part-one : {t : List ℕ} {j : ℕ} {v : Tally} → Part t j v → Part t j (oneMore v)
 part-one p = record { all = omega (arith, p .all); some = p .some; last = p .last }
 
 -- none is left, and another layer begins, or a mesh
-part-row : {t : List ℕ} {j rows cnt own past : ℕ} (more : ℕ) → past ≡ own → rowWord t rows j ≡ more → Part t j rows cnt own past → Part t j (rows + 1) cnt more 0
+part-row : {t : List ℕ} {j : ℕ} {v : Tally} (more : ℕ) → v .came ≡ v .own → rowWord t (v .rows) j ≡ more → Part t j v → Part t j (newRow more v)
 unfolding wordsBefore
-part-row {rows = rows} more e w p =
-    let z : rows + 1 - 1 ≡ rows = omega arith in
+part-row {v = v} more e w p =
+    let z : v .rows + 1 - 1 ≡ v .rows = omega arith in
     record { all = rw add-one (omega (arith, p .all)); some = λ _. omega arith; last = λ _. rw z (sym w) }
 
-part-none : {t : List ℕ} {j rows cnt own past : ℕ} → past ≡ own → Part t j rows cnt own past → Part t j rows cnt 0 0
+part-none : {t : List ℕ} {j : ℕ} {v : Tally} → v .came ≡ v .own → Part t j v → Part t j (noneLeft v)
 part-none e p = record { all = omega (arith, p .all); some = λ l. absurd (omega arith); last = λ l. absurd (omega arith) }
 
--- the next word of a layer that has not all yet: its row and its place
-record Next (t : List ℕ) (j rows cnt past : ℕ) : Type 0 where
-  row : rows - 1 < rows
-  place : cnt ≡ wordsBefore t j (rows - 1) + past
-  inside : past < rowWord t (rows - 1) j
+part-is : {t : List ℕ} {j : ℕ} {v w : Tally} → v ≡ w → Part t j w → Part t j v
+part-is e p = rw e p
 
-next : {t : List ℕ} {j rows cnt own past : ℕ} → Part t j rows cnt own past → past < own → Next t j rows cnt past
-next {t = t} {j = j} {rows = rows} p l =
-    let a : 0 < rows = p .some (omega arith) in
+-- the next word of a layer that has not all yet: its row and its place
+record Next (t : List ℕ) (j : ℕ) (v : Tally) : Type 0 where
+  row : v .rows - 1 < v .rows
+  place : v .count ≡ wordsBefore t j (v .rows - 1) + v .came
+  inside : v .came < rowWord t (v .rows - 1) j
+
+next : {t : List ℕ} {j : ℕ} {v : Tally} → Part t j v → v .came < v .own → Next t j v
+next {t = t} {j = j} {v = v} p l =
+    let a : 0 < v .rows = p .some (omega arith) in
     let b = p .last (omega arith) in
-    record { row = omega arith; place = omega (arith, words-last t j rows a, p .all); inside = omega arith }
+    record { row = omega arith; place = omega (arith, words-last t j (v .rows) a, p .all); inside = omega arith }
 
 -- it is the only one at its place
-only : {t : List ℕ} {j rows cnt past i m : ℕ} → Next t j rows cnt past → cnt ≡ wordsBefore t j i + m → m < rowWord t i j → (rows - 1 ≡ i) × (past ≡ m)
-only {t = t} {j = j} {rows = rows} {past = past} {i = i} {m = m} x e l =
-    let r = one-row t j (rows - 1) i past m (sym (x .place) ∙ e) (x .inside) l in
+only : {t : List ℕ} {j : ℕ} {v : Tally} {i m : ℕ} → Next t j v → v .count ≡ wordsBefore t j i + m → m < rowWord t i j → (v .rows - 1 ≡ i) × (v .came ≡ m)
+only {t = t} {j = j} {v = v} {i = i} {m = m} x e l =
+    let r = one-row t j (v .rows - 1) i (v .came) m (sym (x .place) ∙ e) (x .inside) l in
     let y = rw r at (x .place) in
     (r, omega arith)
 
--- both sections, behind records that count up to c and end in the state s
-record Parts (t : List ℕ) (c : Counts) (s : State) : Type 0 where
-  lines : Part t 2 (c .layers) (c .lines) (s .lines) (s .line)
-  areas : Part t 3 (c .layers) (c .areas) (s .areas) (s .area)
+-- ---- from record to record
 
-parts-next : (t : List ℕ) (c : Counts) (s : State) (r : List ℕ) → s .line ≤ s .lines → s .area ≤ s .areas
-    → (isLayer (dueOf s) ≡ true → (rowWord t (c .layers) 2 ≡ sizeIn r 10 5) × (rowWord t (c .layers) 3 ≡ sizeIn r 15 5))
-    → Parts t c s → Parts t (countedFor (dueOf s) c r) (nextFor (dueOf s) s r)
-parts-next t c s r ol oa w p =
-    by-due (λ d. (isLayer d ≡ true → (rowWord t (c .layers) 2 ≡ sizeIn r 10 5) × (rowWord t (c .layers) 3 ≡ sizeIn r 15 5)) → Parts t (countedFor d c r) (nextFor d s r)) s
-    (λ _ _. record { lines = p .lines; areas = p .areas })
-    (λ l _. rw (next-entries s r l) (record { lines = p .lines; areas = p .areas }))
-    (λ _ _. record { lines = p .lines; areas = p .areas })
-    (λ _ _. record { lines = p .lines; areas = p .areas })
-    (λ _ _. record { lines = part-one (p .lines); areas = p .areas })
-    (λ _ _ _. record { lines = p .lines; areas = part-one (p .areas) })
-    (λ i h. record {
-      lines = part-row (sizeIn r 10 5) (omega (arith, i .lines)) (h refl .0) (p .lines);
-      areas = part-row (sizeIn r 15 5) (omega (arith, i .areas)) (h refl .1) (p .areas);
-    })
-    (λ i _. record { lines = part-none (omega (arith, i .lines)) (p .lines); areas = part-none (omega (arith, i .areas)) (p .areas) })
-    w
+count-is : {v w : Tally} → v ≡ w → v .count ≡ w .count
+count-is e = ap (λ (v : Tally). v .count) e
 
-parts : (file : List ℕ) (k : ℕ) → k ≤ recordsOf file → Parts (tableOf file) (countsAt file k) (stateAt file k)
-unfolding countsAt stateAt nextOf wordsBefore
-parts file zero l = record {
-  lines = record { all = refl; some = λ m. m; last = λ m. absurd (omega arith) };
-  areas = record { all = refl; some = λ m. m; last = λ m. absurd (omega arith) };
-}
-parts file (suc k) l =
-    let o = opened file k in
-    parts-next (tableOf file) (countsAt file k) (stateAt file k) (recordOf file (suc k)) (o .lines) (o .areas)
-    (λ h. (head-word file k l h 2 (lit≤ tt), head-word file k l h 3 (lit≤ tt)))
-    (parts file k (omega arith))
+-- a record of the section has a word
+wordless : {A : Type 0} (x : Section) (d : Due) (r : List ℕ) (code m : ℕ) → wordsFor x d r 0 ≡ [] → d ≡ dueIn x code m → A
+wordless x d r code m n e =
+    let z : _≡_ {A = ℕ} 1 0 = ap length (sym (own-word x code m r 0) ∙ ap (λ d. wordsFor x d r 0) (sym e) ∙ n) in
+    absurd (omega arith)
 
--- where the file may end, all that the rows say has come
-module _ (file : List ℕ) (h : mayEnd (dueOf (stateAt file (recordsOf file))) ≡ true) where
-  pub lines-all : wordsBefore (tableOf file) 2 (countsAt file (recordsOf file) .layers) ≡ countsAt file (recordsOf file) .lines
-  lines-all =
+module _ {x : Section} {s : State} {c : Counts} {r : List ℕ} {d : Due} where
+  part-next : {t : List ℕ} → Turn x s c r d → cameIn x s ≤ ownIn x s → (isLayer d ≡ true → rowWord t (c .layers) (wordOf x) ≡ totalIn x r)
+      → Part t (wordOf x) (tallyOf x c s) → Part t (wordOf x) (tallyOf x (countedFor d c r) (nextFor d s r))
+  part-next (own e l q) o h p = part-is q (part-one p)
+  part-next (head n e l q) o h p = part-is q (part-row (totalIn x r) (omega arith) (h e) p)
+  part-next (mesh n l q) o h p = part-is q (part-none (omega arith) p)
+  part-next (other n q) o h p = part-is q p
+
+  -- where one is due: its number, and that the layer has not all yet
+  due-by : (code m : ℕ) → Turn x s c r d → d ≡ dueIn x code m → (m ≡ cameIn x s) × (cameIn x s < ownIn x s)
+  due-by code m (own e l q) f = (due-number x code _ m (cameIn x s) (sym f ∙ e), l)
+  due-by code m (head n e l q) f = wordless x d r code m n f
+  due-by code m (mesh n l q) f = wordless x d r code m n f
+  due-by code m (other n q) f = wordless x d r code m n f
+
+  -- where their count comes past p, one is due
+  passed : {p : ℕ} → Turn x s c r d → countIn x c ≤ p → p < countIn x (countedFor d c r) → (d ≡ dueNow x s (cameIn x s)) × (countIn x c ≡ p)
+  passed (own e l q) a b = (e, omega (arith, count-is q))
+  passed (head n e l q) a b = absurd (omega (arith, count-is q))
+  passed (mesh n l q) a b = absurd (omega (arith, count-is q))
+  passed (other n q) a b = absurd (omega (arith, count-is q))
+
+-- record n of the section, counted from 0 over all layers: that behind the first k
+pub record Nth (x : Section) (file : List ℕ) (n k : ℕ) : Type 0 where
+  pub within : k < recordsOf file
+  pub due : dueOf (stateAt file k) ≡ dueNow x (stateAt file k) (cameIn x (stateAt file k))
+  pub before : countIn x (countsAt file k) ≡ n
+
+module _ (x : Section) (file : List ℕ) where
+  parts : (k : ℕ) → k ≤ recordsOf file → Part (tableOf file) (wordOf x) (tallyAt x file k)
+  unfolding countsAt stateAt nextOf wordsBefore
+  parts zero l = part-is (none-yet x) (record { all = refl; some = λ m. m; last = λ m. absurd (omega arith) })
+  parts (suc k) l = part-next (turn-at x file k) (came-most x file k) (head-total x file k l) (parts k (omega arith))
+
+  -- where the file may end, all that the rows say has come
+  pub all-came : mayEnd (dueOf (stateAt file (recordsOf file))) ≡ true
+      → wordsBefore (tableOf file) (wordOf x) (countsAt file (recordsOf file) .layers) ≡ countIn x (countsAt file (recordsOf file))
+  all-came h =
       let n = recordsOf file in
-      omega (arith, parts file n (omega arith) .lines .all, opened file n .lines, idle-end (stateAt file n) h .lines)
+      omega (arith, parts n (omega arith) .all, came-most x file n, came-all x (idle-end (stateAt file n) h))
 
-  pub areas-all : wordsBefore (tableOf file) 3 (countsAt file (recordsOf file) .layers) ≡ countsAt file (recordsOf file) .areas
-  areas-all =
-      let n = recordsOf file in
-      omega (arith, parts file n (omega arith) .areas .all, opened file n .areas, idle-end (stateAt file n) h .areas)
+  -- each that was counted is there
+  pub nth : (n : ℕ) → n < countIn x (countsAt file (recordsOf file)) → (k : ℕ) × Nth x file n k
+  unfolding countsAt
+  nth n l =
+      let z : countIn x (countsAt file 0) ≡ 0 = count-is (none-yet x) in
+      let q = passes (λ k. countIn x (countsAt file k)) n (recordsOf file) (omega arith) l in
+      let d = passed (turn-at x file (q .0)) (q .1 .above) (q .1 .below) in
+      (q .0, record { within = q .1 .before; due = d .0; before = d .1 })
 
 -- ---- a record's word
 
-clash : {A : Type 0} → _≡_ {A = ℕ} 0 1 → A
-clash e = absurd (omega arith)
-
--- an L is due, or an A: its number, and that the layer has not all yet
-line-due : (s : State) {layer m : ℕ} → dueOf s ≡ Line layer m → (m ≡ s .line) × (s .line < s .lines)
-line-due s {layer} {m} =
-    by-due (λ d. d ≡ Line layer m → (m ≡ s .line) × (s .line < s .lines)) s
-    (λ _ e. clash (cc))
-    (λ _ e. clash (cc))
-    (λ _ e. clash (cc))
-    (λ _ e. clash (cc))
-    (λ l e. (cc, l))
-    (λ _ _ e. clash (cc))
-    (λ _ e. clash (cc))
-    (λ _ e. clash (cc))
-
-pub area-due : (s : State) {layer m : ℕ} → dueOf s ≡ Area layer m → (m ≡ s .area) × (s .area < s .areas)
-area-due s {layer} {m} =
-    by-due (λ d. d ≡ Area layer m → (m ≡ s .area) × (s .area < s .areas)) s
-    (λ _ e. clash (cc))
-    (λ _ e. clash (cc))
-    (λ _ e. clash (cc))
-    (λ _ e. clash (cc))
-    (λ _ e. clash (cc))
-    (λ _ l e. (cc, l))
-    (λ _ e. clash (cc))
-    (λ _ e. clash (cc))
-
--- the A behind the first k records is area m of layer i
-pub record AreaPlace (file : List ℕ) (k i m : ℕ) : Type 0 where
+-- the record behind the first k is record m of its section in layer i
+pub record Place (x : Section) (file : List ℕ) (k i m : ℕ) : Type 0 where
   pub layer : i < countsAt file (recordsOf file) .layers
-  pub inside : m < layerOf file i .areas
-  pub place : countsAt file k .areas ≡ wordsBefore (tableOf file) 3 i + m
+  pub inside : m < manyIn x (layerOf file i)
+  pub place : countIn x (countsAt file k) ≡ wordsBefore (tableOf file) (wordOf x) i + m
 
-module _ (file : List ℕ) (k : ℕ) (l : k < recordsOf file) where
+-- where record m of a section is due
+module _ (x : Section) (file : List ℕ) (k : ℕ) (l : k < recordsOf file) (code m : ℕ) (e : dueOf (stateAt file k) ≡ dueIn x code m) where
+  -- m of the layer came, and it has not all yet
+  pub number-of : (m ≡ cameIn x (stateAt file k)) × (cameIn x (stateAt file k) < ownIn x (stateAt file k))
+  number-of = due-by code m (turn-at x file k) e
+
   -- the layers that came up to here are among those of the file
   here : countsAt file k .layers - 1 ≤ countsAt file (recordsOf file) .layers
   here = omega (arith, grown file (recordsOf file) k (omega arith) .layers)
 
-  -- where an L is due, its word stands behind those of the lines before it
-  line-there : {layer m : ℕ} → dueOf (stateAt file k) ≡ Line layer m → getD (tableOf file) (basesIn file .lines + countsAt file k .lines) 0 ≡ suc k
-  unfolding tableOf basesOf
-  line-there e =
-      let n = recordsOf file in
-      let w = gathered lineWords file k n 0 l (rw e (lit≤ tt)) in
-      let v : getD (gather lineWords file n) (length (gather lineWords file k) + 0) 0 ≡ suc k = rw e at (w .word) in
-      let z : rowLength * countsAt file n .layers + countsAt file k .lines ≡ length (gather rowWords file n) + (length (gather lineWords file k) + 0) = omega (arith, counted file n .rows, counted file k .lines) in
-      rw z
-      (getD-append-add (gather rowWords file n) (gather lineWords file n ++ gather areaWords file n) (length (gather lineWords file k) + 0) 0
-      ∙ List·getD-append (gather lineWords file n) (gather areaWords file n) 0 (length (gather lineWords file k) + 0) (w .short) ∙ v)
-
-  -- an A's behind those of the areas before it
-  area-there : {layer m : ℕ} → dueOf (stateAt file k) ≡ Area layer m → getD (tableOf file) (basesIn file .areas + countsAt file k .areas) 0 ≡ suc k
-  unfolding tableOf basesOf
-  area-there e =
-      let n = recordsOf file in
-      let w = gathered areaWords file k n 0 l (rw e (lit≤ tt)) in
-      let v : getD (gather areaWords file n) (length (gather areaWords file k) + 0) 0 ≡ suc k = rw e at (w .word) in
-      let q = counted file n in
-      let z : rowLength * countsAt file n .layers + countsAt file n .lines + countsAt file k .areas ≡ length (gather rowWords file n) + (length (gather lineWords file n) + (length (gather areaWords file k) + 0)) = omega (arith, q .rows, q .lines, counted file k .areas) in
-      rw z
-      (getD-append-add (gather rowWords file n) (gather lineWords file n ++ gather areaWords file n) (length (gather lineWords file n) + (length (gather areaWords file k) + 0)) 0
-      ∙ getD-append-add (gather lineWords file n) (gather areaWords file n) (length (gather areaWords file k) + 0) 0 ∙ v)
-
-  -- word m of the lines of its layer is the L before which m of them came
-  pub line-word : {layer m : ℕ} → dueOf (stateAt file k) ≡ Line layer m → getD (tableOf file) (layerAt file (tableOf file) (basesIn file) k .line + m) 0 ≡ suc k
-  unfolding layerAt
-  line-word {m = m} e =
-      let d = line-due (stateAt file k) e in
-      let x = next (parts file k (omega arith) .lines) (d .1) in
-      let z : basesIn file .lines + wordsBefore (tableOf file) 2 (countsAt file k .layers - 1) + m ≡ basesIn file .lines + countsAt file k .lines = omega (arith, x .place, d .0) in
-      rw (is-row file (countsAt file k .layers - 1) here, z) (line-there e)
-
-  -- where an A is due, it is area m of its layer, whose areas come behind those of the layers before it
-  pub area-place : {layer m : ℕ} → dueOf (stateAt file k) ≡ Area layer m → AreaPlace file k (countsAt file k .layers - 1) m
-  area-place {m = m} e =
-      let d = area-due (stateAt file k) e in
-      let x = next (parts file k (omega arith) .areas) (d .1) in
+  -- it is record m of its layer, whose records come behind those of the layers before it
+  pub place-of : Place x file k (countsAt file k .layers - 1) m
+  place-of =
+      let d = number-of in
+      let y = next (parts x file k (omega arith)) (d .1) in
       record {
-        layer = omega (arith, x .row, grown file (recordsOf file) k (omega arith) .layers);
-        inside = rw (is-row file (countsAt file k .layers - 1) here) (omega (arith, x .inside, d .0));
-        place = omega (arith, x .place, d .0);
+        layer = omega (arith, y .row, grown file (recordsOf file) k (omega arith) .layers);
+        inside = rw (many-is x file (countsAt file k .layers - 1) here) (omega (arith, y .inside, d .0));
+        place = omega (arith, y .place, d .0);
       }
 
-  -- so with the areas and an A
-  pub area-word : {layer m : ℕ} → dueOf (stateAt file k) ≡ Area layer m → getD (tableOf file) (layerAt file (tableOf file) (basesIn file) k .area + m) 0 ≡ suc k
+  -- its word stands behind those of its section that came before it
+  there : getD (tableOf file) (baseIn x (basesIn file) + countIn x (countsAt file k)) 0 ≡ suc k
+  there =
+      let r = recordOf file (suc k) in
+      let before = length (gather (wordsFor x) file k) in
+      let v : wordsFor x (dueOf (stateAt file k)) r (suc k) ≡ suc k ∷ [] = ap (λ d. wordsFor x d r (suc k)) e ∙ own-word x code m r (suc k) in
+      let w = gathered (wordsFor x) file k (recordsOf file) 0 l (rw v (lit≤ tt)) in
+      let z : countIn x (countsAt file k) ≡ before + 0 = omega (arith, many-words x file k) in
+      rw z (word-in x file (before + 0) (w .short) ∙ w .word ∙ ap (λ ws. getD ws 0 0) v)
+
+  -- it is word m of its layer
+  pub word-of : getD (tableOf file) (firstIn x (layerAt file (tableOf file) (basesIn file) k) + m) 0 ≡ suc k
   unfolding layerAt
-  area-word {m = m} e =
-      let z : basesIn file .areas + wordsBefore (tableOf file) 3 (countsAt file k .layers - 1) + m ≡ basesIn file .areas + countsAt file k .areas = omega (arith, area-place e .place) in
-      rw (is-row file (countsAt file k .layers - 1) here, z) (area-there e)
+  word-of =
+      let i = countsAt file k .layers - 1 in
+      let z : firstIn x (layerOf file i) + m ≡ baseIn x (basesIn file) + countIn x (countsAt file k) = omega (arith, first-is x file i here, place-of .place) in
+      rw z there
 
 -- ---- a layer's word
 
--- line m of layer i, and area m: the record behind the first k
-pub record LineAt (file : List ℕ) (i m k : ℕ) : Type 0 where
+-- record m of a section in layer i: that behind the first k
+pub record RecordAt (x : Section) (file : List ℕ) (i m k : ℕ) : Type 0 where
   pub within : k < recordsOf file
-  pub due : dueOf (stateAt file k) ≡ Line (stateAt file k .layer) m
+  pub due : dueOf (stateAt file k) ≡ dueNow x (stateAt file k) m
   pub layer : layerAt file (tableOf file) (basesIn file) k ≡ layerOf file i
-  pub word : lineOf (tableOf file) (layerOf file i) (pos (suc m)) ≡ suc k
-
-pub record AreaAt (file : List ℕ) (i m k : ℕ) : Type 0 where
-  pub within : k < recordsOf file
-  pub due : dueOf (stateAt file k) ≡ Area (stateAt file k .layer) m
-  pub layer : layerAt file (tableOf file) (basesIn file) k ≡ layerOf file i
-  pub word : areaOf (tableOf file) (layerOf file i) (pos (suc m)) ≡ suc k
-
--- what the number m + 1 names
-pub line-named : (t : List ℕ) (l : Layer) (m : ℕ) → m < l .lines → lineOf t l (pos (suc m)) ≡ getD t (l .line + m) 0
-unfolding lineOf namesLine
-line-named t l m h =
-    let z : suc m - 1 ≡ m = omega arith in
-    rw (le-leb 1 (suc m) (omega arith), le-leb (suc m) (l .lines) h, z)
-
-pub area-named : (t : List ℕ) (l : Layer) (m : ℕ) → m < l .areas → areaOf t l (pos (suc m)) ≡ getD t (l .area + m) 0
-unfolding areaOf names within
-area-named t l m h =
-    let z : suc m - 1 ≡ m = omega arith in
-    rw (le-leb 1 (suc m) (omega arith), le-leb (suc m) (l .areas) h, z)
-
--- where the lines, or the areas, come past p, an L is due, or an A
-line-passed : (s : State) (c : Counts) (r : List ℕ) (p : ℕ) → c .lines ≤ p → p < countedFor (dueOf s) c r .lines → (dueOf s ≡ Line (s .layer) (s .line)) × (c .lines ≡ p)
-line-passed s c r p l =
-    by-due (λ d. p < countedFor d c r .lines → (d ≡ Line (s .layer) (s .line)) × (c .lines ≡ p)) s
-    (λ _ m. absurd (omega arith))
-    (λ _ m. absurd (omega arith))
-    (λ _ m. absurd (omega arith))
-    (λ _ m. absurd (omega arith))
-    (λ _ m. (refl, omega arith))
-    (λ _ _ m. absurd (omega arith))
-    (λ _ m. absurd (omega arith))
-    (λ _ m. absurd (omega arith))
-
-pub area-passed : (s : State) (c : Counts) (r : List ℕ) (p : ℕ) → c .areas ≤ p → p < countedFor (dueOf s) c r .areas → (dueOf s ≡ Area (s .layer) (s .area)) × (c .areas ≡ p)
-area-passed s c r p l =
-    by-due (λ d. p < countedFor d c r .areas → (d ≡ Area (s .layer) (s .area)) × (c .areas ≡ p)) s
-    (λ _ m. absurd (omega arith))
-    (λ _ m. absurd (omega arith))
-    (λ _ m. absurd (omega arith))
-    (λ _ m. absurd (omega arith))
-    (λ _ m. absurd (omega arith))
-    (λ _ _ m. (refl, omega arith))
-    (λ _ m. absurd (omega arith))
-    (λ _ m. absurd (omega arith))
+  pub word : recordIn x (tableOf file) (layerOf file i) (pos (suc m)) ≡ suc k
 
 -- where the file may end, each line and each area that a row says is there
-module _ (file : List ℕ) (h : mayEnd (dueOf (stateAt file (recordsOf file))) ≡ true) (i m : ℕ) (l : i < countsAt file (recordsOf file) .layers) where
-  pub line-laid : m < layerOf file i .lines → (k : ℕ) × LineAt file i m k
-  unfolding countsAt layerAt
-  line-laid a =
-      let t = tableOf file in
-      let n = recordsOf file in
-      let b : m < rowWord t i 2 = rw (is-row file i (omega arith)) at a in
-      let q = passes (λ k. countsAt file k .lines) (wordsBefore t 2 i + m) n (omega arith) (omega (arith, lines-all file h, words-more t 2 i (countsAt file n .layers) l)) in
-      let k = q .0 in
-      let c = q .1 .before in
-      let d = line-passed (stateAt file k) (countsAt file k) (recordOf file (suc k)) (wordsBefore t 2 i + m) (q .1 .above) (q .1 .below) in
-      let x = next (parts file k (omega (arith, c)) .lines) (line-due (stateAt file k) (d .0) .1) in
-      let y = only x (d .1) b in
-      let e : dueOf (stateAt file k) ≡ Line (stateAt file k .layer) m = d .0 ∙ ap (Line (stateAt file k .layer)) (y .1) in
-      let f : layerAt file t (basesIn file) k ≡ layerOf file i = ap (layerOf file) (y .0) in
-      (k, record { within = c; due = e; layer = f; word = line-named t (layerOf file i) m a ∙ rw f at (line-word file k c e) })
-
-  pub area-laid : m < layerOf file i .areas → (k : ℕ) × AreaAt file i m k
-  unfolding countsAt layerAt
-  area-laid a =
-      let t = tableOf file in
-      let n = recordsOf file in
-      let b : m < rowWord t i 3 = rw (is-row file i (omega arith)) at a in
-      let q = passes (λ k. countsAt file k .areas) (wordsBefore t 3 i + m) n (omega arith) (omega (arith, areas-all file h, words-more t 3 i (countsAt file n .layers) l)) in
-      let k = q .0 in
-      let c = q .1 .before in
-      let d = area-passed (stateAt file k) (countsAt file k) (recordOf file (suc k)) (wordsBefore t 3 i + m) (q .1 .above) (q .1 .below) in
-      let x = next (parts file k (omega (arith, c)) .areas) (area-due (stateAt file k) (d .0) .1) in
-      let y = only x (d .1) b in
-      let e : dueOf (stateAt file k) ≡ Area (stateAt file k .layer) m = d .0 ∙ ap (Area (stateAt file k .layer)) (y .1) in
-      let f : layerAt file t (basesIn file) k ≡ layerOf file i = ap (layerOf file) (y .0) in
-      (k, record { within = c; due = e; layer = f; word = area-named t (layerOf file i) m a ∙ rw f at (area-word file k c e) })
+pub laid : (x : Section) (file : List ℕ) → mayEnd (dueOf (stateAt file (recordsOf file))) ≡ true
+    → (i m : ℕ) → i < countsAt file (recordsOf file) .layers → m < manyIn x (layerOf file i) → (k : ℕ) × RecordAt x file i m k
+unfolding layerAt
+laid x file h i m l a =
+    let t = tableOf file in
+    let j = wordOf x in
+    let b : m < rowWord t i j = rw (many-is x file i (omega arith)) at a in
+    let q = nth x file (wordsBefore t j i + m) (omega (arith, b, all-came x file h, words-more t j i (countsAt file (recordsOf file) .layers) l)) in
+    let k = q .0 in
+    let s = stateAt file k in
+    let c = q .1 .within in
+    let d = number-of x file k c _ (cameIn x s) (q .1 .due) in
+    let y = only (next (parts x file k (omega (arith, c))) (d .1)) (q .1 .before) b in
+    let e : dueOf s ≡ dueNow x s m = q .1 .due ∙ ap (dueNow x s) (y .1) in
+    let f : layerAt file t (basesIn file) k ≡ layerOf file i = ap (layerOf file) (y .0) in
+    (k, record { within = c; due = e; layer = f; word = named x t (layerOf file i) m a ∙ rw f at (word-of x file k c _ m e) })

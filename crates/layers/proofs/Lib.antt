@@ -1,6 +1,8 @@
 -- Laws of names and layers. `Answers` has what the answers of `names` and `permitted::size` say, `Passing` how the layer goes on from record to
--- record, `Rows` that a row of the table is what its H says, `Laid` that the words of a layer are its records.
+-- record, `Rows` that a row of the table is what its H says, `Sections` what the lines and the areas have in common, `Laid` that the words of
+-- a layer are its records.
 pub mod Answers
 pub mod Passing
 pub mod Rows
+pub mod Sections
 pub mod Laid

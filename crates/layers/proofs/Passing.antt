@@ -21,7 +21,8 @@ use Rattle.layers.specs.Naming.{layerIn}
 use Rattle.layers.specs.Passing.{isLayer, layerAt}
 
 -- an H was due: the layer of row n - 1
-pub layer-is : (t : List ℕ) (b : Bases) (n : ℕ) (l : Layer) {d : Due} {last i : ℕ} {x : Layer} → d ≡ due.Layer last → i ≡ n - 1 → x ≡ layerIn t b i → x ≡ cond (isLayer d) (layerIn t b (n - 1)) l
+pub layer-is : (t : List ℕ) (b : Bases) (n : ℕ) (l : Layer) {d : Due} {last i : ℕ} {x : Layer} → d ≡ due.Layer last → i ≡ n - 1
+    → x ≡ layerIn t b i → x ≡ cond (isLayer d) (layerIn t b (n - 1)) l
 layer-is t b n l e f h = rw (e, ← f) h
 
 counted-layers : (d : Due) (c : Counts) (t : List ℕ) → countedFor d c t .layers ≡ c .layers + cond (isLayer d) 1 0
@@ -57,14 +58,15 @@ pub layer-start : (file t : List ℕ) (b : Bases) {l : Layer} → l ≡ layerIn 
 unfolding layerAt countsAt
 layer-start file t b h = h
 
-layer-by : (t : List ℕ) (b : Bases) (y : Bool) (n m : ℕ) {l x : Layer} → m ≡ n + cond y 1 0 → l ≡ layerIn t b (n - 1) → x ≡ cond y (layerIn t b (m - 1)) l → x ≡ layerIn t b (m - 1)
+layer-by : (t : List ℕ) (b : Bases) (y : Bool) (n m : ℕ) {l x : Layer} → m ≡ n + cond y 1 0 → l ≡ layerIn t b (n - 1)
+    → x ≡ cond y (layerIn t b (m - 1)) l → x ≡ layerIn t b (m - 1)
 layer-by t b true n m e g h = h
 layer-by t b false n m e g h =
     let z : m ≡ n = omega (arith, e) in
     rw z (h ∙ g)
 
-pub layer-next : (file t : List ℕ) (b : Bases) (k : ℕ) {s : State} {d : Due} {m : ℕ} {l x : Layer} → s ≡ stateAt file k → d ≡ dueOf s → m ≡ countsAt file (k + 1) .layers
-    → l ≡ layerAt file t b k → x ≡ cond (isLayer d) (layerIn t b (m - 1)) l → x ≡ layerAt file t b (k + 1)
+pub layer-next : (file t : List ℕ) (b : Bases) (k : ℕ) {s : State} {d : Due} {m : ℕ} {l x : Layer} → s ≡ stateAt file k → d ≡ dueOf s
+    → m ≡ countsAt file (k + 1) .layers → l ≡ layerAt file t b k → x ≡ cond (isLayer d) (layerIn t b (m - 1)) l → x ≡ layerAt file t b (k + 1)
 unfolding layerAt
 layer-next file t b k {d = d} e f h g q =
     rw (← h) (layer-by t b (isLayer d) (countsAt file k .layers) _ (h ∙ rw (counts-step file k, ← e, ← f)) g q)
@@ -74,9 +76,11 @@ layer-next file t b k {d = d} e f h g q =
 layers-passed : (file : List ℕ) (k : ℕ) {h : ℕ} {s : State} → s ≡ stateAt file k → Quiet s h → countsAt file k .layers ≡ countsAt file (k + h) .layers
 layers-passed file k {h} e q = ap (λ (c : Counts). c .layers) (passed-counts file k e q h (omega arith) refl)
 
-pub rows-passed : (file : List ℕ) (k : ℕ) {h n : ℕ} {s : State} → s ≡ stateAt file k → Quiet s h → n ≡ countsAt file k .layers → n ≡ countsAt file (k + h) .layers
+pub rows-passed : (file : List ℕ) (k : ℕ) {h n : ℕ} {s : State} → s ≡ stateAt file k → Quiet s h → n ≡ countsAt file k .layers
+    → n ≡ countsAt file (k + h) .layers
 rows-passed file k e q g = g ∙ layers-passed file k e q
 
-pub layer-passed : (file t : List ℕ) (b : Bases) (k : ℕ) {h : ℕ} {s : State} {l : Layer} → s ≡ stateAt file k → Quiet s h → l ≡ layerAt file t b k → l ≡ layerAt file t b (k + h)
+pub layer-passed : (file t : List ℕ) (b : Bases) (k : ℕ) {h : ℕ} {s : State} {l : Layer} → s ≡ stateAt file k → Quiet s h
+    → l ≡ layerAt file t b k → l ≡ layerAt file t b (k + h)
 unfolding layerAt
 layer-passed file t b k e q g = rw (← layers-passed file k e q) g

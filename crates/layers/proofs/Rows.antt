@@ -1,7 +1,7 @@
 -- The rows of a file's table: row i is what the H with i others before it says. A section is gathered record by record, so the words of a
 -- record stand behind those of the records before it. Assumes nothing.
 use mathlib.Core.Bool.{Bool, true, false, cond}
-use mathlib.Core.List.{List, [], _∷_, _++_}
+use mathlib.Core.List.{List, _++_}
 use mathlib.Core.Logic.{⊎-elim}
 use mathlib.Core.Path.{_≡_, refl, _∙_, ap, subst}
 use Prim.Native.Nat.{ℕ, zero, suc, _+_, _≤_, _<_}
@@ -23,7 +23,6 @@ use Rattle.walk.proofs.Filling.{counted}
 use Rattle.walk.proofs.Judging.{records-small}
 use Rattle.walk.proofs.Walking.{counts-small}
 use Rattle.layers.specs.declared.Bases.{Bases}
-use Rattle.layers.specs.declared.Layer.{Layer}
 use Rattle.layers.specs.Naming.{rowWord, rowLayer, layerIn}
 use Rattle.layers.specs.Passing.{isLayer, basesIn, layerOf}
 use Rattle.layers.proofs.Passing.{counts-step}
@@ -81,13 +80,21 @@ passes f p (suc n) a l = passes-by f p n (ltb p (f n)) refl l (passes f p n a)
 
 -- ---- rows
 
+-- a row that a file can have is a layer
+pub row-layer : (t : List ℕ) (b : Bases) (i : ℕ) → i ≤ 6399936 → layerIn t b i ≡ rowLayer t b i
+unfolding layerIn
+row-layer t b i l = rw (le-leb i 6399936 l)
+
 -- a file has no more layers than there may be records
 pub is-row : (file : List ℕ) (i : ℕ) → i ≤ countsAt file (recordsOf file) .layers → layerOf file i ≡ rowLayer (tableOf file) (basesIn file) i
-unfolding layerIn
-is-row file i l = rw (le-leb i 6399936 (omega (arith, counts-small file (recordsOf file) .layers, records-small file)))
+is-row file i l =
+    row-layer (tableOf file) (basesIn file) i (omega (arith, counts-small file (recordsOf file) .layers, records-small file))
 
--- an H gives a row
-head-words : (d : Due) (t : List ℕ) (r : ℕ) → isLayer d ≡ true → rowWords d t r ≡ r ∷ sizeIn t 5 5 ∷ sizeIn t 10 5 ∷ sizeIn t 15 5 ∷ []
+-- the row that an H gives, the record t with the number r
+abbrev headRow : List ℕ → ℕ → List ℕ
+headRow t r = rowWords (due.Layer 0) t r
+
+head-words : (d : Due) (t : List ℕ) (r : ℕ) → isLayer d ≡ true → rowWords d t r ≡ headRow t r
 head-words (due.Mesh last) t r e = cc
 head-words (due.Layer last) t r e = refl
 head-words (due.Node layer last) t r e = cc
@@ -108,8 +115,7 @@ pub record RowAt (file : List ℕ) (i k : ℕ) : Type 0 where
 
 module _ (file : List ℕ) (k : ℕ) (l : k < recordsOf file) (h : isLayer (dueOf (stateAt file k)) ≡ true) where
   -- word j of the row of an H
-  pub head-word : (j : ℕ) → j < 4
-      → rowWord (tableOf file) (countsAt file k .layers) j ≡ getD (suc k ∷ sizeIn (recordOf file (suc k)) 5 5 ∷ sizeIn (recordOf file (suc k)) 10 5 ∷ sizeIn (recordOf file (suc k)) 15 5 ∷ []) j 0
+  pub head-word : (j : ℕ) → j < 4 → rowWord (tableOf file) (countsAt file k .layers) j ≡ getD (headRow (recordOf file (suc k)) (suc k)) j 0
   unfolding tableOf
   head-word j m =
       let n = recordsOf file in

@@ -7,17 +7,13 @@ use Prim.Native.Nat.{ℕ, zero, suc, _+_, _-_, _*_, _/_, _%_, _≤_, _<_}
 use native.Mathlib.Nat.{add-suc, add-zero}
 use native.Mathlib.Numerals.{add-one}
 use native.Mathlib.Omega.{arith}
-use lib.Dec.{ltb, lit<}
+use lib.Dec.{ltb}
 use lib.IntN.{ℤ, pos, negsuc, natAbs, _+ℤ_, +ℤ-idl}
 use lib.Signed.{ltZ}
 use mir.Facts.{toZ-ofZ}
 use mir.Syntax.{w32, w64}
 use mir.Val.{SFits, toZ, ofZ}
 use borrow.Author.Tests.{ltb-true, ltb-false}
-use Rattle.fields.specs.Answer.{valueOf}
-use Rattle.fields.specs.Number.{numberAt}
-use Rattle.fields.specs.declared.Number as numbers
-use Rattle.fields.specs.declared.Number.the-variants as number
 use Rattle.measures.specs.Measures.{Point, cross, lineMeasure}
 use Rattle.measures.specs.Points.{pairBy, pointBy, countOf, pointCount, firstOf, pointsBy, measureBy}
 use Rattle.measures.specs.Sound.{addedUp}
@@ -25,8 +21,7 @@ use Rattle.measures.specs.Walks.{Small, Near, far, Seven, stepTo, along,
 use Rattle.measures.specs.declared.Walk.{Walk}
 use Rattle.records.specs.View.{recordOf, numberIn}
 use Rattle.records.proofs.Numbers.{number-none}
-use Rattle.fields.proofs.FieldLaws.{number-in-range}
-use Rattle.fields.proofs.Range.{holds-small}
+use Rattle.fields.proofs.FieldLaws.{number-small}
 use Rattle.glances.proofs.Remainders.{five-small}
 use Rattle.fields.proofs.Signs.{is-negative, is-natural}
 use Rattle.measures.proofs.Bounds.{mul-small, sub-small, add-small, small-le, read-back}
@@ -118,14 +113,6 @@ module _ (read : List ℕ → ℕ → ℤ) (file : List ℕ) (r : ℕ) where
 
 -- ---- the line's count
 
-number-small-by : (s : List ℕ) (c w : ℕ) (r : numbers.Number) → numberAt s c w ≡ r → natAbs (valueOf r) < 1000000
-number-small-by s c w (number.Value v) e = holds-small w v (number-in-range s c w v e)
-number-small-by s c w number.Refused e = lit< tt
-
-number-small : (file : List ℕ) (k c w : ℕ) → natAbs (numberIn file k c w) < 1000000
-unfolding numberIn
-number-small file k c w = number-small-by (recordOf file k) c w (numberAt (recordOf file k) c w) refl
-
 -- by the code's test of the number v that stands there
 module _ (file : List ℕ) (r : ℕ) (v : ℤ) (f : SFits w32 v) (e : v ≡ numberIn file r 50 6) where
   pub count-below : ltZ (toZ w32 (ofZ w32 v)) (pos 0) ≡ true → 0 ≡ pointCount file r
@@ -144,8 +131,9 @@ module _ (file : List ℕ) (r : ℕ) (v : ℤ) (f : SFits w32 v) (e : v ≡ numb
       count-size t ∙ rw (← e, n .1)
 
   pub count-small : natAbs (toZ w32 (ofZ w32 v)) ≤ 999999
+  unfolding numberIn
   count-small =
-      let h : natAbs v < 1000000 = rw e (number-small file r 50 6) in
+      let h : natAbs v < 1000000 = rw e (number-small (recordOf file r) 50 6) in
       rw (toZ-ofZ f) (omega arith)
 
 -- ---- the walk's sum is the line's measure
@@ -205,5 +193,5 @@ count-le-of (pos n) h = omega arith
 count-le-of (negsuc n) h = omega arith
 
 pub count-le : (file : List ℕ) (r : ℕ) → pointCount file r ≤ 999999
-unfolding pointCount
-count-le file r = count-le-of (numberIn file r 50 6) (number-small file r 50 6)
+unfolding pointCount numberIn
+count-le file r = count-le-of (numberIn file r 50 6) (number-small (recordOf file r) 50 6)

@@ -58,7 +58,8 @@ unfolding slotsOf
 returns-2 c =
     let l = c .before .loop in
     let n = c .before .before .loops-at .ensures in
-    let e : l .i ≡ loopsAt (now (c .before .before .before .before .before .args .file)) (c .before .before .before .before .before .args .a) = omega (arith, n .0) in
+    let a = c .before .before .before .before .before .args in
+    let e : l .i ≡ loopsAt (now (a .file)) (a .a) = omega (arith, n .0) in
     (rw (← e) (ap (λ n. 12 * n) (l .inv .1)), omega (arith, n .1))
 
 pub area-slots-spec : {M : Type 1} → statement M

@@ -14,7 +14,9 @@ size-requires c κs = search needs
 
 returns : tie.Need-returns
 unfolding countAt
-returns c = four-told (now (c .before .before .before .args .file)) (c .before .before .before .args .f) 6 (c .before .number-at .ok) (c .before .number-at .ensures) (c .size .ensures)
+returns c =
+    let a = c .before .before .before .args in
+    four-told (now (a .file)) (a .f) 6 (c .before .number-at .ok) (c .before .number-at .ensures) (c .size .ensures)
 
 pub count-at-spec : {M : Type 1} → statement M
 count-at-spec = tie.close (tie.spec number-at-requires size-requires returns)

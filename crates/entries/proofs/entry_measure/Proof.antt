@@ -15,16 +15,16 @@ natural-requires c κs = search needs
 
 returns : tie.Need-returns
 returns c =
-    let a = c .before .before .before in
-    entry-forwards _ (kept-small _ _) (a .fits .v) (c .before .before .line-measure .ensures) (own-asked natural (a .fits .v) (c .before .natural .ensures) (c .if1 .taken))
+    let f = c .before .before .before .fits .v in
+    entry-forwards _ (kept-small _ _) f (c .before .before .line-measure .ensures) (own-asked natural f (c .before .natural .ensures) (c .if1 .taken))
 
 sub-result : tie.Need-sub-result
 sub-result c = turned-fits (line-small _ (kept-small _ _) (c .before .before .before .fits .v) (c .before .before .line-measure .ensures))
 
 returns-2 : tie.Need-returns-2
 returns-2 c =
-    let a = c .before .before .before in
-    entry-backwards _ (kept-small _ _) (a .fits .v) (c .before .before .line-measure .ensures) (own-asked natural (a .fits .v) (c .before .natural .ensures) (c .if1 .left))
+    let f = c .before .before .before .fits .v in
+    entry-backwards _ (kept-small _ _) f (c .before .before .line-measure .ensures) (own-asked natural f (c .before .natural .ensures) (c .if1 .left))
 
 pub entry-measure-spec : {M : Type 1} → statement M
 entry-measure-spec =

@@ -21,7 +21,9 @@ abbrev μ-loop : tie.MeasureT-loop
 μ-loop file table l kept₀ n i₀ kept i = n - i
 
 -- there is another line, and room for its measure
-going : (c : tie.After-line-measure Inv-loop μ-loop) → (c .before .before .before .loop .i < c .before .before .before .before .before .before .before .args .l .lines) × (c .before .before .before .loop .i < length (c .before .before .before .loop .kept))
+going : (c : tie.After-line-measure Inv-loop μ-loop)
+    → (c .before .before .before .loop .i < c .before .before .before .before .before .before .before .args .l .lines)
+    × (c .before .before .before .loop .i < length (c .before .before .before .loop .kept))
 going c = room (c .before .before .before .loop .i) _ _ (c .before .before .loop-test .taken)
 
 cast-n : tie.Need-cast-n Inv-loop μ-loop
@@ -53,7 +55,8 @@ loop-again : tie.Need-loop-again Inv-loop μ-loop
 loop-again c =
     let l = c .before .before .before .loop in
     let a = c .before .before .before .before .before .before .before .args in
-    let z = toZ-ofZ {w = w64} (record { sfits = c .line-measure .ok }) ∙ c .line-measure .ensures ∙ ap (measureBy addedUp (a .file .now)) (c .before .line-word .ensures) in
+    let m = c .line-measure in
+    let z = toZ-ofZ {w = w64} (record { sfits = m .ok }) ∙ m .ensures ∙ ap (measureBy addedUp (a .file .now)) (c .before .line-word .ensures) in
     let s = walked-stored (a .file .now) (a .table .now) (a .l) (a .kept .now) (l .i) (l .inv .3) z in
     (omega (arith, going c .0), omega (arith, going c .1, l .inv .2), rw s (simp length-sets), s)
 

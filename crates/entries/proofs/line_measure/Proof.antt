@@ -18,7 +18,8 @@ names-line-requires c κs = search needs
 returns : tie.Need-returns
 returns c =
     let a = c .before .before in
-    unnamed-told (a .args .l) (now (a .args .kept)) (a .args .v) (own-asked (namesLine _) (a .fits .v) (c .before .names-line .ensures) (not-true _ (c .if1 .taken)))
+    let n = own-asked (namesLine _) (a .fits .v) (c .before .names-line .ensures) (not-true _ (c .if1 .taken)) in
+    unnamed-told (a .args .l) (now (a .args .kept)) (a .args .v) n
 
 size-requires : tie.Need-size-requires
 size-requires c κs = search needs
@@ -42,14 +43,16 @@ returns-2 c =
     let s = c .before .before .before in
     let a = s .before .before .before in
     let n = own-asked (namesLine _) (a .fits .v) (s .before .before .names-line .ensures) (not-false _ (s .before .if1 .left)) in
-    kept-told (a .args .l) (now (a .args .kept)) (a .args .v) (s .size .result - 1) n (ap (λ n. n - 1) (own-told size (a .fits .v) (s .size .ensures))) (c .before .possible-arg .given) (c .possible .ensures)
+    let e = ap (λ n. n - 1) (own-told size (a .fits .v) (s .size .ensures)) in
+    kept-told (a .args .l) (now (a .args .kept)) (a .args .v) (s .size .result - 1) n e (c .before .possible-arg .given) (c .possible .ensures)
 
 returns-3 : tie.Need-returns-3
 returns-3 c =
     let s = c .before in
     let a = s .before .before .before in
     let n = own-asked (namesLine _) (a .fits .v) (s .before .before .names-line .ensures) (not-false _ (s .before .if1 .left)) in
-    past-told (a .args .l) (now (a .args .kept)) (a .args .v) (s .size .result - 1) n (ap (λ n. n - 1) (own-told size (a .fits .v) (s .size .ensures))) (c .if2 .left)
+    let e = ap (λ n. n - 1) (own-told size (a .fits .v) (s .size .ensures)) in
+    past-told (a .args .l) (now (a .args .kept)) (a .args .v) (s .size .result - 1) n e (c .if2 .left)
 
 pub line-measure-spec : {M : Type 1} → statement M
 line-measure-spec =

@@ -20,7 +20,8 @@ use Rattle.entries.proofs.loop_measure.Statement.{statement}
 use Rattle.entries.proofs.loop_measure.Tie as tie
 
 abbrev Inv-loop : tie.InvT-loop
-Inv-loop file l kept f n sum₀ e₀ sum e = (e ≤ n) × Small (e * 200000000000000) (toZ w64 sum) × (toZ w64 sum ≡ loopMeasure (keptMeasure l kept) (entriesTo file f e))
+Inv-loop file l kept f n sum₀ e₀ sum e =
+    (e ≤ n) × Small (e * 200000000000000) (toZ w64 sum) × (toZ w64 sum ≡ loopMeasure (keptMeasure l kept) (entriesTo file f e))
 
 abbrev μ-loop : tie.MeasureT-loop
 μ-loop file l kept f n sum₀ e₀ sum e = n - e

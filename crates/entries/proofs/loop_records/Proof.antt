@@ -12,7 +12,9 @@ records-for-requires : tie.Need-records-for-requires
 records-for-requires c κs = search needs
 
 returns : tie.Need-returns
-returns c = records-told (now (c .before .before .before .args .file)) (c .before .before .before .args .f) (c .before .count-at .ensures) (c .records-for .ensures)
+returns c =
+    let a = c .before .before .before .args in
+    records-told (now (a .file)) (a .f) (c .before .count-at .ensures) (c .records-for .ensures)
 
 pub loop-records-spec : {M : Type 1} → statement M
 loop-records-spec = tie.close (tie.spec count-at-requires records-for-requires returns)

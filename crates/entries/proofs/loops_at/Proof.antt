@@ -14,7 +14,9 @@ size-requires c κs = search needs
 
 returns : tie.Need-returns
 unfolding loopsAt
-returns c = four-told (now (c .before .before .before .args .file)) (c .before .before .before .args .a) 25 (c .before .number-at .ok) (c .before .number-at .ensures) (c .size .ensures)
+returns c =
+    let a = c .before .before .before .args in
+    four-told (now (a .file)) (a .a) 25 (c .before .number-at .ok) (c .before .number-at .ensures) (c .size .ensures)
 
 pub loops-at-spec : {M : Type 1} → statement M
 loops-at-spec = tie.close (tie.spec number-at-requires size-requires returns)

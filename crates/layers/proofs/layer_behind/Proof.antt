@@ -43,7 +43,9 @@ returns : tie.Need-returns
 returns c = rw (c .enum-told .given .1)
 
 returns-2 : tie.Need-returns-2
-returns-2 c = layer-is _ _ _ (c .before .before .before .before .before .args .l) (c .before .before .enum-told2 .given .1) (back (c .before)) (c .layer-in .ensures)
+returns-2 c =
+    let a = c .before .before in
+    layer-is _ _ _ (a .before .before .before .args .l) (a .enum-told2 .given .1) (back (c .before)) (c .layer-in .ensures)
 
 returns-3 : tie.Need-returns-3
 returns-3 c = rw (c .enum-told3 .given .1)
