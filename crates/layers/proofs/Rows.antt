@@ -13,9 +13,11 @@ use lib.ListN.{length, getD, length-append, List·getD-append}
 use lib.Seq.{getD-append-add}
 use borrow.Author.Tests.{ltb-true, ltb-false, le-leb}
 use Rattle.records.specs.View.{recordOf}
+use Rattle.records.specs.Columns.{layerNodes, layerLines, layerAreas}
 use Rattle.rules.specs.declared.Due.{Due}
 use Rattle.rules.specs.declared.Due.the-variants as due
-use Rattle.walk.specs.States.{sizeIn, dueOf, stateAt, countsAt}
+use Rattle.walk.specs.Row.{rowLength, headWord, nodesWord, linesWord, areasWord}
+use Rattle.walk.specs.States.{sizeAt, dueOf, stateAt, countsAt}
 use Rattle.walk.specs.Stages.{recordsOf}
 use Rattle.walk.specs.Table.{rowWords, lineWords, areaWords, gather, tableOf}
 use Rattle.walk.proofs.Dues.{grown}
@@ -109,13 +111,13 @@ pub record RowAt (file : List ℕ) (i k : ℕ) : Type 0 where
   pub due : isLayer (dueOf (stateAt file k)) ≡ true
   pub place : countsAt file k .layers ≡ i
   pub head : layerOf file i .head ≡ suc k
-  pub nodes : layerOf file i .nodes ≡ sizeIn (recordOf file (suc k)) 5 5
-  pub lines : layerOf file i .lines ≡ sizeIn (recordOf file (suc k)) 10 5
-  pub areas : layerOf file i .areas ≡ sizeIn (recordOf file (suc k)) 15 5
+  pub nodes : layerOf file i .nodes ≡ sizeAt (recordOf file (suc k)) layerNodes
+  pub lines : layerOf file i .lines ≡ sizeAt (recordOf file (suc k)) layerLines
+  pub areas : layerOf file i .areas ≡ sizeAt (recordOf file (suc k)) layerAreas
 
 module _ (file : List ℕ) (k : ℕ) (l : k < recordsOf file) (h : isLayer (dueOf (stateAt file k)) ≡ true) where
   -- word j of the row of an H
-  pub head-word : (j : ℕ) → j < 4 → rowWord (tableOf file) (countsAt file k .layers) j ≡ getD (headRow (recordOf file (suc k)) (suc k)) j 0
+  pub head-word : (j : ℕ) → j < rowLength → rowWord (tableOf file) (countsAt file k .layers) j ≡ getD (headRow (recordOf file (suc k)) (suc k)) j 0
   unfolding tableOf
   head-word j m =
       let n = recordsOf file in
@@ -133,10 +135,10 @@ module _ (file : List ℕ) (k : ℕ) (l : k < recordsOf file) (h : isLayer (dueO
         within = l;
         due = h;
         place = refl;
-        head = rw e (head-word 0 (lit≤ tt));
-        nodes = rw e (head-word 1 (lit≤ tt));
-        lines = rw e (head-word 2 (lit≤ tt));
-        areas = rw e (head-word 3 (lit≤ tt));
+        head = rw e (head-word headWord (lit≤ tt));
+        nodes = rw e (head-word nodesWord (lit≤ tt));
+        lines = rw e (head-word linesWord (lit≤ tt));
+        areas = rw e (head-word areasWord (lit≤ tt));
       }
 
 rising : (b : Bool) {x y i : ℕ} → y ≡ x + cond b 1 0 → x ≤ i → i < y → (b ≡ true) × (x ≡ i)

@@ -11,12 +11,14 @@ use lib.ListN.{length, getD, List·getD-append}
 use lib.Seq.{getD-append-add}
 use borrow.Author.Tests.{le-leb}
 use Rattle.records.specs.View.{recordOf}
-use Rattle.rules.specs.Permitted.{within}
+use Rattle.records.specs.Columns.{layerLines, layerAreas}
+use Rattle.permitted.specs.Permitted.{within}
 use Rattle.rules.specs.declared.Due.{Due}
 use Rattle.rules.specs.declared.Due.the-variants.{Line, Area}
 use Rattle.walk.specs.declared.State.{State}
 use Rattle.walk.specs.declared.Counts.{Counts}
-use Rattle.walk.specs.States.{sizeIn, dueOf, start, nextFor, stateAt, rowLength, noCounts, countedFor, countsAt}
+use Rattle.walk.specs.Row.{rowLength, linesWord, areasWord}
+use Rattle.walk.specs.States.{sizeAt, dueOf, start, nextFor, stateAt, noCounts, countedFor, countsAt}
 use Rattle.walk.specs.Stages.{recordsOf}
 use Rattle.walk.specs.Table.{rowWords, lineWords, areaWords, gather, tableOf}
 use Rattle.walk.proofs.Dues.{Idle, by-due, opened}
@@ -37,8 +39,8 @@ pub data Section : Type 0 where
 
 -- its word of a row
 abbrev pub wordOf : Section → ℕ
-wordOf lines = 2
-wordOf areas = 3
+wordOf lines = linesWord
+wordOf areas = areasWord
 
 -- where it begins
 abbrev pub baseIn : Section → Bases → ℕ
@@ -68,8 +70,8 @@ recordIn areas t l v = areaOf t l v
 
 -- its total in an H
 abbrev pub totalIn : Section → List ℕ → ℕ
-totalIn lines t = sizeIn t 10 5
-totalIn areas t = sizeIn t 15 5
+totalIn lines t = sizeAt t layerLines
+totalIn areas t = sizeAt t layerAreas
 
 -- record m of it in a layer, counted from 0: an L or an A with the layer's code
 abbrev pub dueIn : Section → ℕ → ℕ → Due
@@ -78,7 +80,7 @@ dueIn areas code m = Area code m
 
 -- the same in the layer of a state
 abbrev pub dueNow : Section → State → ℕ → Due
-dueNow x s m = dueIn x (s .layer) m
+dueNow x s m = dueIn x (s .layer .code) m
 
 -- how many records of it came
 abbrev pub countIn : Section → Counts → ℕ
@@ -87,12 +89,12 @@ countIn areas c = c .areas
 
 -- how many records of it the last layer has, and how many of these came
 abbrev pub ownIn : Section → State → ℕ
-ownIn lines s = s .lines
-ownIn areas s = s .areas
+ownIn lines s = s .layer .lines
+ownIn areas s = s .layer .areas
 
 abbrev pub cameIn : Section → State → ℕ
-cameIn lines s = s .line
-cameIn areas s = s .area
+cameIn lines s = s .layer .line
+cameIn areas s = s .layer .area
 
 -- these numbers together, with how many rows came
 pub record Tally : Type 0 where

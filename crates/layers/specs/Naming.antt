@@ -12,12 +12,12 @@ use lib.Dec.{leb}
 use lib.IntN.{ℤ}
 use lib.ListN.{getD}
 use Rattle.permitted.specs.Permitted.{size, within}
-use Rattle.walk.specs.States.{rowLength}
+use Rattle.walk.specs.Row.{rowLength, headWord, nodesWord, linesWord, areasWord}
 use Rattle.walk.specs.Stages.{mostRecords}
 use Rattle.layers.specs.declared.Bases.{Bases}
 use Rattle.layers.specs.declared.Layer.{Layer}
 
--- RULES 8.1: word j of row i, which is four words: H record, nodes, lines, areas
+-- RULES 8.1: word j of row i
 abbrev pub rowWord : List ℕ → ℕ → ℕ → ℕ
 rowWord t i j = getD t (rowLength * i + j) 0
 
@@ -29,12 +29,12 @@ wordsBefore t j (suc i) = wordsBefore t j i + rowWord t i j
 -- RULES 8.1: the layer of row i; its lines and its areas stand behind those of the rows before it
 abbrev pub rowLayer : List ℕ → Bases → ℕ → Layer
 rowLayer t b i = record {
-  head = rowWord t i 0;
-  nodes = rowWord t i 1;
-  lines = rowWord t i 2;
-  areas = rowWord t i 3;
-  line = b .lines + wordsBefore t 2 i;
-  area = b .areas + wordsBefore t 3 i;
+  head = rowWord t i headWord;
+  nodes = rowWord t i nodesWord;
+  lines = rowWord t i linesWord;
+  areas = rowWord t i areasWord;
+  line = b .lines + wordsBefore t linesWord i;
+  area = b .areas + wordsBefore t areasWord i;
 }
 
 abbrev pub noLayer : Layer

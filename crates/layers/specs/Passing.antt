@@ -9,7 +9,8 @@ use Prim.Native.Nat.{ℕ, _+_, _*_, _-_}
 use Rattle.rules.specs.declared.Due.{Due}
 use Rattle.rules.specs.declared.Due.the-variants.{Mesh, Layer, Node, Line, Coordinates, Area, Loop}
 use Rattle.walk.specs.declared.Counts.{Counts}
-use Rattle.walk.specs.States.{rowLength, countsAt}
+use Rattle.walk.specs.Row.{rowLength}
+use Rattle.walk.specs.States.{countsAt}
 use Rattle.walk.specs.Stages.{recordsOf}
 use Rattle.walk.specs.Table.{tableOf}
 use Rattle.layers.specs.declared.Bases.{Bases}

@@ -7,6 +7,7 @@ ghost use mathlib.Core.Path.{_≡_};
 ghost use mathlib.Core.Bool.{cond};
 ghost use Prim.Native.Nat.{_+_, _-_, _*_, _≤_, _<_};
 ghost use lib.ListN.{getD};
+ghost use Rattle.walk.specs.Row.{rowLength};
 ghost use Rattle.layers.specs.Naming.{rowWord, wordsBefore, layerIn, names, namesLine, nodeOf, lineOf, areaOf};
 ghost use Rattle.layers.specs.Passing.{isLayer};
 
@@ -29,10 +30,10 @@ pub struct Layer {
 
 // Word `j` of row `i` of a table, and 0 where there is none.
 fn row_word(table: &[u32], i: usize, j: usize) -> u32
-    requires { ⌜ (i ≤ 6399936) × (j < 4) ⌝ }
+    requires { ⌜ (i ≤ 6399936) × (j < rowLength) ⌝ }
     ensures { λ r. ⌜ r ≡ rowWord (now (table .entry)) i j ⌝ }
 {
-    let at = 4 * i + j;
+    let at = walk::ROW_LENGTH * i + j;
     if at < table.len() {
         return table[at];
     }
@@ -41,7 +42,7 @@ fn row_word(table: &[u32], i: usize, j: usize) -> u32
 
 // Word `j` of the rows before row `i`, added up.
 fn words_before(table: &[u32], j: usize, i: usize) -> usize
-    requires { ⌜ (i ≤ 6399936) × (j < 4) ⌝ }
+    requires { ⌜ (i ≤ 6399936) × (j < rowLength) ⌝ }
     ensures { λ r. ⌜ (r ≡ wordsBefore (now (table .entry)) j i) × (r ≤ 4294967296 * i) ⌝ }
 {
     let mut sum: usize = 0;
@@ -68,12 +69,12 @@ pub fn layer_in(table: &[u32], b: Bases, i: usize) -> Layer
         };
     }
     Layer {
-        head: row_word(table, i, 0),
-        nodes: row_word(table, i, 1),
-        lines: row_word(table, i, 2),
-        areas: row_word(table, i, 3),
-        line: b.lines as usize + words_before(table, 2, i),
-        area: b.areas as usize + words_before(table, 3, i),
+        head: row_word(table, i, walk::HEAD_WORD),
+        nodes: row_word(table, i, walk::NODES_WORD),
+        lines: row_word(table, i, walk::LINES_WORD),
+        areas: row_word(table, i, walk::AREAS_WORD),
+        line: b.lines as usize + words_before(table, walk::LINES_WORD, i),
+        area: b.areas as usize + words_before(table, walk::AREAS_WORD, i),
     }
 }
 

@@ -13,8 +13,7 @@ use Rattle.fields.specs.Answer.{valueOf}
 use Rattle.fields.specs.Number.{numberAt}
 use Rattle.fields.specs.declared.Number as numbers
 use Rattle.fields.specs.declared.Number.the-variants as number
-use Rattle.fields.proofs.FieldLaws.{number-in-range}
-use Rattle.fields.proofs.Range.{holds-small}
+use Rattle.fields.proofs.FieldLaws.{number-small}
 use Rattle.records.specs.View.{recordOf}
 use Rattle.permitted.specs.Permitted.{size}
 use Rattle.rules.specs.declared.Due.{Due}
@@ -26,16 +25,10 @@ use Rattle.walk.specs.declared.Counts.{Counts}
 
 -- ---- a number's size
 
-size-small-by : (t : List ℕ) (c w : ℕ) (r : numbers.Number) → numberAt t c w ≡ r → size (valueOf r) ≤ 999999
-size-small-by t c w (number.Value v) e =
-    let h = holds-small w v (number-in-range t c w v e) in
-    omega (arith, h)
-size-small-by t c w number.Refused e = lit≤ tt
-
 -- it has at most 6 digits, whatever stands there
 pub size-small : (t : List ℕ) (c w : ℕ) → sizeIn t c w ≤ 999999
 unfolding sizeIn
-size-small t c w = size-small-by t c w (numberAt t c w) refl
+size-small t c w = omega (arith, number-small t c w)
 
 -- by the reader's answer a: none; the number v, as the machine has it
 module _ (t : List ℕ) (c w : ℕ) {a : numbers.Number} (e : a ≡ numberAt t c w) where
