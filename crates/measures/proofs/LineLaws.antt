@@ -9,7 +9,8 @@ use Rattle.records.specs.declared.Kind.the-variants.{Line, Coordinates}
 use Rattle.records.proofs.Layouts.{coordinate-laid}
 
 -- pair i of a coordinate record stands where the layout has its X and its Y
-pub pair-laid : (i : ℕ) → i < 7 → (getD (layoutOf Coordinates) (2 * i) End ≡ Number (1 + 10 * i) 5) × (getD (layoutOf Coordinates) (2 * i + 1) End ≡ Number (6 + 10 * i) 5)
+pub pair-laid : (i : ℕ) → i < 7
+    → (getD (layoutOf Coordinates) (2 * i) End ≡ Number (1 + 10 * i) 5) × (getD (layoutOf Coordinates) (2 * i + 1) End ≡ Number (6 + 10 * i) 5)
 unfolding layoutOf
 pair-laid i h =
     let x : 1 + 5 * (2 * i) ≡ 1 + 10 * i = omega arith in

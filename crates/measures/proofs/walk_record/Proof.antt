@@ -21,10 +21,12 @@ abbrev μ-loop : tie.MeasureT-loop
 μ-loop s count at₀ i₀ at i = count - i
 
 -- X and Y, as the machine hands them on
-x-is : (c : tie.After-coordinate Inv-loop μ-loop) → back (c .coordinate .result) ≡ addedUp (now (c .before .before .before .before .args .s)) (1 + 10 * c .before .before .loop .i)
+x-is : (c : tie.After-coordinate Inv-loop μ-loop)
+    → back (c .coordinate .result) ≡ addedUp (now (c .before .before .before .before .args .s)) (1 + 10 * c .before .before .loop .i)
 x-is c = toZ-ofZ {w = w64} (record { sfits = c .coordinate .ok }) ∙ c .coordinate .ensures
 
-y-is : (c : tie.After-coordinate2 Inv-loop μ-loop) → back (c .coordinate2 .result) ≡ addedUp (now (c .before .before .before .before .before .args .s)) (6 + 10 * c .before .before .before .loop .i)
+y-is : (c : tie.After-coordinate2 Inv-loop μ-loop)
+    → back (c .coordinate2 .result) ≡ addedUp (now (c .before .before .before .before .before .args .s)) (6 + 10 * c .before .before .before .loop .i)
 y-is c = toZ-ofZ {w = w64} (record { sfits = c .coordinate2 .ok }) ∙ c .coordinate2 .ensures
 
 loop-holds : tie.Need-loop-holds Inv-loop μ-loop
@@ -72,7 +74,8 @@ loop-again c =
     let l = c .before .before .before .before in
     let s = l .before .before in (
       omega arith,
-      c .step .ensures ∙ rw (x-is (c .before .before), y-is (c .before), l .loop .inv .1) (along-next (s .args .w) (pairBy addedUp (now (s .args .s))) (l .loop .i)),
+      c .step .ensures
+          ∙ rw (x-is (c .before .before), y-is (c .before), l .loop .inv .1) (along-next (s .args .w) (pairBy addedUp (now (s .args .s))) (l .loop .i)),
     )
 
 returns : tie.Need-returns Inv-loop μ-loop
