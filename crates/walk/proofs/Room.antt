@@ -25,7 +25,8 @@ use Rattle.rules.specs.declared.Due.{Due}
 use Rattle.rules.specs.declared.Due.the-variants.{Mesh, Layer, Node, Line, Coordinates, Area, Loop}
 use Rattle.rules.specs.Permitted.{natural, size, atLeast}
 use Rattle.rules.specs.Asks.{areaAsks, asksOf, askedOf}
-use Rattle.rules.specs.Checks.{formChecks, valueChecks, along, checksOf}
+use Rattle.rules.specs.Checks.{checksOf}
+use Rattle.rules.proofs.Asked.{number-permitted}
 use Rattle.walk.specs.declared.Counts.{Counts}
 use Rattle.walk.specs.declared.State.{State}
 use Rattle.walk.specs.States.{sizeIn, dueOf, nextFor, nextOf, stateAt, rowLength, countedFor, countsAt}
@@ -88,10 +89,10 @@ need-most file = by (firstBroken (stageOne file ++ stageTwo file)) refl
 at-least : (n : ℕ) (v : ℤ) → atLeast n v ≡ true → n ≤ size v
 at-least n v h = leb-true n (size v) (and-both (natural v) (leb n (size v)) h .1)
 
--- the check on columns 25-28 of an A
+-- an A's number 5, at columns 25-28, counts its loops
 area-loops : (layer last : ℕ) (t : List ℕ) → Holding (checksOf (Area layer last) t) → 1 ≤ sizeIn t 25 4
-unfolding layoutOf areaAsks asksOf askedOf formChecks valueChecks along checksOf sizeIn
-area-loops layer last t h = at-least 1 (valueOf (numberAt t 25 4)) (h .1 .1 .1 .1 .1 .1 .1 .1 .1 .1 .1 .1 .1 .1 .0)
+unfolding layoutOf areaAsks asksOf askedOf sizeIn
+area-loops layer last t h = at-least 1 (valueOf (numberAt t 25 4)) (number-permitted (Area layer last) t h 5 refl (atLeast 1) (λ ns. refl))
 
 -- two records for each area; but the loops of the last one may not have begun
 module _ (c : Counts) (s : State) (t : List ℕ) (k : ℕ) (o : 2 * c .areas ≤ k + (s .loops - s .begun)) where
