@@ -13,7 +13,7 @@ use borrow.Author.Tests.{eqb-true}
 use Rattle.records.specs.View.{numberIn}
 use Rattle.verdict.specs.declared.Verdict.the-variants.{Fine}
 use Rattle.verdict.specs.Rules.{firstBroken}
-use Rattle.verdict.proofs.Holding.{row-fine, Holding, all-hold, both-hold, slot-holds}
+use Rattle.verdict.proofs.Holding.{row-fine, Holding, all-hold}
 use Rattle.rules.specs.declared.Due.{Due}
 use Rattle.permitted.specs.Permitted.{size, within}
 use Rattle.permitted.proofs.Bounds.{within-most}
@@ -22,16 +22,18 @@ use Rattle.walk.specs.Stages.{recordsOf, stageTwo}
 use Rattle.walk.specs.Table.{tableOf}
 use Rattle.walk.proofs.Judging.{ended}
 use Rattle.layers.specs.declared.Layer as layers
-use Rattle.layers.specs.Naming.{layerIn, names, namesLine, lineOf, areaOf}
+use Rattle.layers.specs.Naming.{layerIn, names, lineOf, areaOf}
 use Rattle.layers.specs.Passing.{layerAt, basesIn, layerOf}
 use Rattle.layers.proofs.Sections.{lines, areas}
 use Rattle.layers.proofs.Laid.{number-of, word-of, RecordAt}
-use Rattle.links.specs.Links.{isZero, lineEndChecks, sideChecks, lineChecks, loopEntry, entryChecks, linkChecks, fifth, stageFour}
+use Rattle.links.specs.Links.{isZero, lineChecks, entryChecks, linkChecks, fifth, stageFour}
+use Rattle.links.proofs.Holds.{left-named, right-named, entry-named}
 use Rattle.entries.specs.Entries.{slotOf, loopsAt, recordsTo, slotsOf}
-use Rattle.entries.specs.Loops.{loopMeasureIn}
 use Rattle.entries.proofs.Owning.{inside, complete}
-use Rattle.loops.specs.Loops.{loopSlot, windChecks, firstRecord, areaRecord, loopChecks, areaChecks, sixth, stageFive}
+use Rattle.loops.specs.Loops.{areaRecord, loopChecks, areaChecks, sixth, stageFive}
+use Rattle.loops.proofs.Holds.{entry-once, entry-own}
 use Rattle.sides.specs.Sides.{lists, sideListed, listChecks, lineListChecks, seventh, stageSix}
+use Rattle.sides.proofs.Holds.{left-listed, right-listed}
 use Rattle.ground.specs.Layers.{leftOf, rightOf}
 use Rattle.ground.specs.Standing.{LineKept, SlotKept}
 
@@ -82,15 +84,6 @@ names-natural n (negsuc i) h = absurd (by (eqb (suc i) 0) refl h)
     by true e h = omega (arith, eqb-true (suc i) 0 e)
     by false e h = false≢true h
 
--- an L's two sides, in their places
-sides-named : (file t : List ℕ) (l : layers.Layer) (r : ℕ) → Holding (lineChecks file t l r)
-    → ((isZero (numberIn file r 35 5) || names (l .areas) (numberIn file r 35 5)) ≡ true)
-    × ((isZero (numberIn file r 45 5) || names (l .areas) (numberIn file r 45 5)) ≡ true)
-unfolding lineEndChecks sideChecks lineChecks
-sides-named file t l r h =
-    let b = h .1 .1 .1 .1 .1 .1 .1 in
-    (b .0, b .1 .1 .0)
-
 -- 18 of the side whose area, not 0, stands at column c
 side-lists : (file t : List ℕ) (l : layers.Layer) (r c : ℕ) (back : Bool) (n : ℕ)
     → (isZero (numberIn file r c 5) || names (l .areas) (numberIn file r c 5)) ≡ true → sideListed file t l r c back n ≡ true → 0 < size (numberIn file r c 5)
@@ -105,14 +98,15 @@ side-lists file t l r c back n e h a = by (numberIn file r c 5) (isZero (numberI
 
 kept-by : (file t : List ℕ) (l : layers.Layer) (r n : ℕ) → lineOf t l (pos n) ≡ r → Holding (lineChecks file t l r)
     → Holding (listChecks file t l r n) → LineKept file t l n
-unfolding leftOf rightOf listChecks
+unfolding leftOf rightOf
 kept-by file t l r n e four six =
-    let s = sides-named file t l r four in
+    let p = left-named file t l r four in
+    let q = right-named file t l r four in
     record {
-      left = rw e (names-most (l .areas) (numberIn file r 35 5) (s .0));
-      right = rw e (names-most (l .areas) (numberIn file r 45 5) (s .1));
-      leftLists = rw e (side-lists file t l r 35 true n (s .0) (six .0));
-      rightLists = rw e (side-lists file t l r 45 false n (s .1) (six .1 .0));
+      left = rw e (names-most (l .areas) (numberIn file r 35 5) p);
+      right = rw e (names-most (l .areas) (numberIn file r 45 5) q);
+      leftLists = rw e (side-lists file t l r 35 true n p (left-listed file t l r n six));
+      rightLists = rw e (side-lists file t l r 45 false n q (right-listed file t l r n six));
     }
 
 pub line-kept : (file : List ℕ) → Passed file → (i m k : ℕ) → RecordAt lines file i m k → LineKept file (tableOf file) (layerOf file i) (suc m)
@@ -125,21 +119,20 @@ line-kept file p i m k x =
 -- ---- an area's slots
 
 -- from the checks of slot i of the loop record r
-slot-by : (file t : List ℕ) (l : layers.Layer) (a x f r i e : ℕ) → r ≡ x + 1 + e / 12 → i ≡ e % 12 → areaRecord t l a ≡ x
-    → (isZero (loopEntry file r i) || namesLine (l .lines) (loopEntry file r i)) ≡ true
-    → Holding (loopSlot file t l (areaRecord t l a) a f r i) → SlotKept file t l a x e
-unfolding slotOf loopSlot
-slot-by file t l a x f r i e p q z four five =
+slot-by : (file t : List ℕ) (l : layers.Layer) (a x count left r i e : ℕ) → r ≡ x + 1 + e / 12 → i ≡ e % 12 → i < 12 → areaRecord t l a ≡ x
+    → Holding (entryChecks file l r) → Holding (loopChecks file t l a count left r) → SlotKept file t l a x e
+unfolding slotOf
+slot-by file t l a x count left r i e p q m z four five =
     let y : 12 * (r - (x + 1)) + i ≡ e = omega arith in
     record {
-      known = rw (← p, ← q) four;
-      once = rw (← p, ← q) (rw (z, y) at (five .0));
-      own = rw (← p, ← q) (five .1 .1 .0);
+      known = rw (← p, ← q) (entry-named file l r four i m);
+      once = rw (← p, ← q) (rw (z, y) at (entry-once file t l a count left r five i m));
+      own = rw (← p, ← q) (entry-own file t l a count left r five i m);
     }
 
 pub slot-kept : (file : List ℕ) → Passed file → (i a k : ℕ) → RecordAt areas file i a k → (e : ℕ) → e < slotsOf file (suc k)
     → SlotKept file (tableOf file) (layerOf file i) (suc a) (suc k) e
-unfolding slotsOf layerAt areaRecord loopChecks entryChecks
+unfolding slotsOf layerAt areaRecord
 slot-kept file p i a k x e m =
     let t = tableOf file in
     let b = basesIn file in
@@ -154,7 +147,4 @@ slot-kept file p i a k x e m =
     let five = rw (f, n) at (five-holds file p j w (v .due)) in
     let y : suc a - 1 ≡ a = omega arith in
     let z : getD t (layerOf file i .area + (suc a - 1)) 0 ≡ suc k = rw y (rw (x .layer) at (word-of areas file k (x .within) _ _ (x .due))) in
-    let g = firstRecord (j + 1) (v .count) (v .left) in
-    slot-by file t (layerOf file i) (suc a) (suc k) g (j + 1) (e % 12) e (omega arith) refl z
-    (slot-holds _ 12 four (e % 12) (omega arith) .0)
-    (slot-holds _ 12 (both-hold (windChecks file (loopMeasureIn file t (layerOf file i) (j + 1)) (j + 1) (v .left)) _ five .1) (e % 12) (omega arith))
+    slot-by file t (layerOf file i) (suc a) (suc k) (v .count) (v .left) (j + 1) (e % 12) e (omega arith) refl (omega arith) z four five

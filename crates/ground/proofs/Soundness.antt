@@ -2,24 +2,21 @@
 -- record. Behind each L its coordinate records are due, one after the other, and the file cannot end before the last of them.
 -- Assumes nothing.
 use mathlib.Core.Bool.{Bool, true, false, not, false≢true}
-use mathlib.Core.List.{List, [], _∷_, _++_}
+use mathlib.Core.List.{List, [], _∷_}
 use mathlib.Core.Path.{_≡_, refl, sym, _∙_, ap}
 use Prim.Native.Nat.{ℕ, zero, suc, _+_, _-_, _*_, _/_, _%_, _≤_, _<_}
 use native.Mathlib.Numerals.{add-one}
 use native.Mathlib.Omega.{arith}
 use lib.Dec.{ltb, eqb, lit≤}
 use lib.IntN.{ℤ, pos, negsuc}
-use lib.ListN.{length, length-set}
-use lib.Seq.{getD-set-same}
 use borrow.Author.Tests.{lt-ltb, ltb-true, ltb-false}
 use Rattle.fields.specs.Answer.{numberRefusal, valueOf}
 use Rattle.fields.specs.Number.{numberAt}
 use Rattle.fields.specs.declared.Number as numbers
 use Rattle.fields.specs.declared.Number.the-variants as number
 use Rattle.records.specs.View.{recordOf, numberIn}
-use Rattle.records.specs.Layout.{row, layoutOf}
-use Rattle.records.specs.Reading.{faultOf, zeros}
-use Rattle.records.specs.declared.Field.{Field}
+use Rattle.records.specs.Layout.{layoutOf}
+use Rattle.records.specs.Reading.{faultOf}
 use Rattle.records.specs.declared.Field.the-variants as field
 use Rattle.verdict.specs.declared.Verdict.the-variants.{Fine}
 use Rattle.verdict.specs.Rules.{firstBroken}
@@ -29,8 +26,9 @@ use Rattle.rules.specs.declared.Due.the-variants as due
 use Rattle.rules.specs.declared.Due.the-variants.{Line, Coordinates}
 use Rattle.permitted.specs.Permitted.{size, within, isPoint}
 use Rattle.permitted.proofs.Bounds.{within-most}
-use Rattle.asks.specs.Asks.{permitted, at, layerAsks, coordinateAsks}
-use Rattle.rules.specs.Checks.{asksOf, askedOf, free, formChecks, valueChecks, withNumber, along, checksOf}
+use Rattle.asks.specs.Asks.{Ask, permitted, at, layerAsks, coordinateAsks}
+use Rattle.rules.specs.Checks.{asksOf, askedOf, checksOf}
+use Rattle.rules.proofs.Asked.{row-number, number-formed, number-permitted}
 use Rattle.asks.proofs.Slots.{row-at}
 use Rattle.walk.specs.States.{sizeIn, dueOf, nextOf, stateAt, countsAt}
 use Rattle.walk.specs.Stages.{recordsOf, mayEnd, stageTwo}
@@ -49,10 +47,10 @@ use Rattle.loops.specs.Scanning.{SoundTable}
 
 -- ---- a layer's counts
 
--- the check on columns 10-14 of an H
-head-lines : (last : ℕ) (t : List ℕ) → Holding (checksOf (due.Layer last) t) → sizeIn t 10 5 ≤ 9999
-unfolding layoutOf layerAsks asksOf askedOf formChecks valueChecks along checksOf sizeIn
-head-lines last t h = within-most 0 9999 _ (h .1 .1 .1 .1 .1 .1 .1 .1 .0)
+-- an H's number 2 counts its lines
+head-lines : (last : ℕ) (t : List ℕ) → Holding (checksOf (due.Layer last) t) → sizeAt t layerLines ≤ 9999
+unfolding layoutOf layerAsks asksOf askedOf sizeIn
+head-lines last t h = within-most 0 9999 _ (number-permitted (due.Layer last) t h 2 refl (within 0 9999) (λ ns. refl))
 
 an-h : (d : Due) → isLayer d ≡ true → (last : ℕ) × (d ≡ due.Layer last)
 an-h (due.Mesh last) h = absurd (false≢true h)
@@ -70,7 +68,7 @@ lines-limit file f i l =
     let k = q .0 in
     let r = q .1 in
     let d = an-h (dueOf (stateAt file k)) (r .due) in
-    let h : sizeIn (recordOf file (k + 1)) 10 5 ≤ 9999 = head-lines (d .0) (recordOf file (k + 1)) (two-holds file f k (r .within) (d .1)) in
+    let h : sizeAt (recordOf file (k + 1)) layerLines ≤ 9999 = head-lines (d .0) (recordOf file (k + 1)) (two-holds file f k (r .within) (d .1)) in
     rw (r .lines) (rw add-one at h)
 
 -- ---- a coordinate
@@ -83,41 +81,15 @@ sound-by t c (number.Value (pos n)) e f h = record { value = n; permitted = with
 sound-by t c (number.Value (negsuc n)) e f h = absurd (false≢true h)
 sound-by t c number.Refused e f h = absurd (false≢true f)
 
-module _ (left : ℕ) (t : List ℕ) where
-  -- what holds of the field at column c, number i
-  abbrev Fits : ℕ → ℕ → Type 0
-  Fits c i = (free 5 (field.Number c 5) t ≡ true) × (isPoint (ltb (i / 2) left) (valueOf (numberAt t c 5)) ≡ true)
-
-  -- the first field of a layout
-  first-fits : (c i : ℕ) (ns : List ℤ) (L : List Field) → i < 14 → i < length ns → Holding (along (askedOf (Coordinates left)) (field.Number c 5 ∷ L) i ns t)
-      → Fits c i × Holding (along (askedOf (Coordinates left)) L (suc i) (withNumber ns i t c 5) t)
-  unfolding along formChecks valueChecks askedOf asksOf coordinateAsks
-  first-fits c i ns L l m h =
-      let a = rw (row-at (λ k. permitted (isPoint (ltb (k / 2) left) (at (withNumber ns i t c 5) k)) ∷ []) 14 i [] l) at (h .1) in
-      ((h .0, rw (getD-set-same ns i (valueOf (numberAt t c 5)) (pos 0) m) at (a .0)), a .1)
-
-  -- field j of a row of n
-  row-fits : (c i n : ℕ) (ns : List ℤ) (L : List Field) → i + n ≤ 14 → i + n ≤ length ns → Holding (along (askedOf (Coordinates left)) (row c 5 n ++ L) i ns t)
-      → (j : ℕ) → j < n → Fits (c + 5 * j) (i + j)
-  row-fits c i zero ns L l m h j p = absurd (omega arith)
-  row-fits c i (suc n) ns L l m h zero p =
-      let x : c + 5 * 0 ≡ c = omega arith in
-      let y : i + 0 ≡ i = omega arith in
-      rw (x, y) (first-fits c i ns (row (c + 5) 5 n ++ L) (omega arith) (omega arith) h .0)
-  row-fits c i (suc n) ns L l m h (suc j) p =
-      let x : c + 5 * suc j ≡ c + 5 + 5 * j = omega arith in
-      let y : i + suc j ≡ suc i + j = omega arith in
-      rw (x, y)
-      (row-fits (c + 5) (suc i) n (withNumber ns i t c 5) L (omega arith) (rw length-set (omega arith))
-      (first-fits c i ns (row (c + 5) 5 n ++ L) (omega arith) (omega arith) h .1) j (omega arith))
-
-  -- so a record's points
-  point-sound : Holding (checksOf (Coordinates left) t) → (c j : ℕ) → c ≡ 1 + 5 * j → j < 14 → j / 2 < left → SoundAt t c (coordinateIn t c)
-  unfolding checksOf layoutOf faultOf isPoint
-  point-sound h c j e l m =
-      let f = row-fits 1 0 14 zeros (field.Blank 71 2 ∷ []) (lit≤ tt) (lit≤ tt) h j l in
-      let z : 0 + j ≡ j = omega arith in
-      rw e (sound-by t (1 + 5 * j) (numberAt t (1 + 5 * j) 5) refl (f .0) (rw (z, lt-ltb (j / 2) left m) at (f .1)))
+-- number j of a coordinate record
+point-sound : (left : ℕ) (t : List ℕ) → Holding (checksOf (Coordinates left) t) → (c j : ℕ) → c ≡ 1 + 5 * j → j < 14 → j / 2 < left
+    → SoundAt t c (coordinateIn t c)
+unfolding layoutOf faultOf isPoint askedOf asksOf coordinateAsks
+point-sound left t h c j e l m =
+    let f = row-number 1 5 14 (field.Blank 71 2 ∷ []) j l in
+    let asks : List ℤ → ℕ → List Ask = λ ns k. permitted (isPoint (ltb (k / 2) left) (at ns k)) ∷ [] in
+    let p = number-permitted (Coordinates left) t h j f (isPoint (ltb (j / 2) left)) (λ ns. row-at (asks ns) 14 j [] l) in
+    rw e (sound-by t (1 + 5 * j) (numberAt t (1 + 5 * j) 5) refl (number-formed (Coordinates left) t h j f) (rw (lt-ltb (j / 2) left m) at p))
 
 -- ---- the points of a line
 

@@ -32,7 +32,8 @@ stands-each P (x ∷ es) h e s = by (stands-each P es (h .1) e) (same x e) refl 
     by rest false q s = rest s
 
 -- by 17 and 18, an entry stands in area a if that is its own, and only then
-pub listed-stands : {n : ℕ} {left right : ℕ → ℕ} {a : ℕ} {es : List Entry} → Listed n left right a es → (e : Entry) → Named n e → stands e es ≡ eqb (areaOf left right e) a
+pub listed-stands : {n : ℕ} {left right : ℕ → ℕ} {a : ℕ} {es : List Entry}
+    → Listed n left right a es → (e : Entry) → Named n e → stands e es ≡ eqb (areaOf left right e) a
 listed-stands {left = left} {right = right} {a = a} {es = es} h e n = by (stands e es) refl
   where
     by : (t : Bool) → stands e es ≡ t → t ≡ eqb (areaOf left right e) a
@@ -52,7 +53,8 @@ sides-sum n f = sum-append f (map plus (upTo n)) (map minus (upTo n)) ∙ ap₂ 
 sides-ext : (n : ℕ) (f g : Entry → ℤ) → ((e : Entry) → Named n e → f e ≡ g e) → sum f (sidesTo n) ≡ sum g (sidesTo n)
 sides-ext n f g h =
     sides-sum n f
-    ∙ ap₂ _+ℤ_ (sumTo-ext n (λ i. f (plus i)) (λ i. g (plus i)) (λ i p q. h (plus i) (p, q))) (sumTo-ext n (λ i. f (minus i)) (λ i. g (minus i)) (λ i p q. h (minus i) (p, q)))
+    ∙ ap₂ _+ℤ_ (sumTo-ext n (λ i. f (plus i)) (λ i. g (plus i)) (λ i p q. h (plus i) (p, q)))
+    (sumTo-ext n (λ i. f (minus i)) (λ i. g (minus i)) (λ i p q. h (minus i) (p, q)))
     ∙ sym (sides-sum n g)
 
 -- one entry alone
@@ -88,7 +90,8 @@ module _ (n : ℕ) (m : ℕ → ℤ) where
       ∙ sum-ext _ _ (λ x. entry-first e x es (o .0) (same e x) refl) (sidesTo n)
 
   picked-lines : (p : Entry → Bool) → picked n m p ≡ sumTo n (λ i. only (p (plus i)) (m i) +ℤ only (p (minus i)) (negℤ (m i)))
-  picked-lines p = sides-sum n (λ e. only (p e) (entryMeasure m e)) ∙ sym (sum-add (λ i. only (p (plus i)) (m i)) (λ i. only (p (minus i)) (negℤ (m i))) (upTo n))
+  picked-lines p =
+      sides-sum n (λ e. only (p e) (entryMeasure m e)) ∙ sym (sum-add (λ i. only (p (plus i)) (m i)) (λ i. only (p (minus i)) (negℤ (m i))) (upTo n))
 
   -- each line counts where it stands: forwards, backwards, or both
   pub loop-lines : (es : List Entry) → Known n es → NoRepeat es

@@ -56,7 +56,8 @@ line-backwards (p ∷ []) = line-one p ∙ rw (line-one p)
 line-backwards (p ∷ q ∷ ps) =
     ap lineMeasure (reverseAux-eq ps (q ∷ p ∷ []))
     ∙ line-more (reverse ps) q p
-    ∙ rw (← reverse-cons q ps, line-backwards (q ∷ ps), cross-turned p q, line-first p q ps, negℤ-+ℤ (cross p q)) (+ℤ-comm (negℤ (lineMeasure (q ∷ ps))) (negℤ (cross p q)))
+    ∙ rw (← reverse-cons q ps, line-backwards (q ∷ ps), cross-turned p q, line-first p q ps, negℤ-+ℤ (cross p q))
+    (+ℤ-comm (negℤ (lineMeasure (q ∷ ps))) (negℤ (cross p q)))
 
 -- ---- loops and areas
 

@@ -37,4 +37,5 @@ module _ (file : List ℕ) (r : ℕ) (s : Sound file r) where
   sound-small =
       let n = count-le file r in
       rw (← measure-is coordinateIn file r refl)
-      (small-le 200000000000000 (along-near (pointAt file r) (pointCount file r) (λ i l. (sound-few (s .east i l), sound-few (s .north i l))) (begin-near 10000) .sum) (omega arith))
+      (small-le 200000000000000
+      (along-near (pointAt file r) (pointCount file r) (λ i l. (sound-few (s .east i l), sound-few (s .north i l))) (begin-near 10000) .sum) (omega arith))

@@ -36,5 +36,6 @@ module _ {w : Walk} {x y : ℤ} (g : Near far 1000000000000000000 w) (a : Small 
   pub sum-fits : SFits w64 (back (w .sum) +ℤ back (back (back x *ℤ back (w .y)) -ℤ back (back (w .x) *ℤ back y)))
   sum-fits = rw sum-is (fits-by (add-small (g .sum) (sub-small (mul-small a (g .y)) (mul-small (g .x) b))) tt)
 
-  pub step-sum : back (back (w .sum) +ℤ back (back (back x *ℤ back (w .y)) -ℤ back (back (w .x) *ℤ back y))) ≡ w .sum +ℤ cross (standing w) (record { x = x; y = y })
+  pub step-sum : back (back (w .sum) +ℤ back (back (back x *ℤ back (w .y)) -ℤ back (back (w .x) *ℤ back y)))
+      ≡ w .sum +ℤ cross (standing w) (record { x = x; y = y })
   step-sum = toZ-ofZ sum-fits ∙ sum-is

@@ -50,7 +50,8 @@ more-near m n k = omega arith
 none-near : (m k : ℕ) → m + 0 * k ≡ m
 none-near m k = omega arith
 
-pub along-near : {b m : ℕ} {w : Walk} (f : ℕ → Point) (n : ℕ) → ((i : ℕ) → i < n → Small b (f i .x) × Small b (f i .y)) → Near b m w → Near b (m + n * (b * b + b * b)) (along w f n)
+pub along-near : {b m : ℕ} {w : Walk} (f : ℕ → Point) (n : ℕ) → ((i : ℕ) → i < n → Small b (f i .x) × Small b (f i .y))
+    → Near b m w → Near b (m + n * (b * b + b * b)) (along w f n)
 unfolding along
 along-near {b} {m} f zero h g = rw (none-near m (b * b + b * b)) g
 along-near {b} {m} f (suc n) h g =
@@ -106,7 +107,8 @@ module _ (read : List ℕ → ℕ → ℤ) (file : List ℕ) (r : ℕ) where
       rw (d, m)
 
   -- on along the next record
-  line-next : (q n : ℕ) → n ≤ 7 → along (along begin (pointBy read file r) (7 * q)) (pairBy read (recordOf file (r + 1 + q))) n ≡ along begin (pointBy read file r) (7 * q + n)
+  line-next : (q n : ℕ) → n ≤ 7
+      → along (along begin (pointBy read file r) (7 * q)) (pairBy read (recordOf file (r + 1 + q))) n ≡ along begin (pointBy read file r) (7 * q + n)
   line-next q n h =
       sym (along-more begin (pointBy read file r) (7 * q) n
       ∙ along-ext _ (λ i. pointBy read file r (7 * q + i)) (pairBy read (recordOf file (r + 1 + q))) n (λ i l. points-of q i (omega arith)))
@@ -151,7 +153,8 @@ pub measure-none : (read : List ℕ → ℕ → ℤ) (file : List ℕ) (r : ℕ)
 unfolding measureBy pointsBy pointCount firstOf
 measure-none read file r h = rw (number-none file r 50 6 h) line-none
 
-pub measure-is : (read : List ℕ → ℕ → ℤ) (file : List ℕ) (r : ℕ) {n : ℕ} → n ≡ pointCount file r → along begin (pointBy read file r) n .sum ≡ measureBy read file r
+pub measure-is : (read : List ℕ → ℕ → ℤ) (file : List ℕ) (r : ℕ) {n : ℕ}
+    → n ≡ pointCount file r → along begin (pointBy read file r) n .sum ≡ measureBy read file r
 unfolding measureBy pointsBy
 measure-is read file r e = rw e (walk-measure (pointBy read file r) (pointCount file r))
 
@@ -183,7 +186,8 @@ turn read file line n left k part a b c d e p q r =
     r ∙ rw (p, q, i, e, j) (line-next read file line (k - line) part d)
 
 -- the sum, as the machine gives it back
-pub sum-back : (file : List ℕ) (r n : ℕ) → n ≤ 999999 → {w : Walk} → w ≡ along begin (pointBy addedUp file r) n → toZ w64 (ofZ w64 (w .sum)) ≡ along begin (pointBy addedUp file r) n .sum
+pub sum-back : (file : List ℕ) (r n : ℕ) → n ≤ 999999 → {w : Walk} → w ≡ along begin (pointBy addedUp file r) n
+    → toZ w64 (ofZ w64 (w .sum)) ≡ along begin (pointBy addedUp file r) n .sum
 sum-back file r n h e = rw e (read-back w64 (small-le 60000000000000000 (line-near file r n .sum) (omega arith)) tt)
 
 -- ---- how many points a line can count, whatever stands in the file

@@ -57,22 +57,23 @@ counted-areas (Coordinates left) c t = omega arith
 counted-areas (Area layer last) c t = omega arith
 counted-areas (Loop last count left) c t = omega arith
 
-pub next-areas : (file : List ℕ) (k : ℕ) {a i : ℕ} {d : Due} → a ≡ countsAt file k .areas → d ≡ dueOf (stateAt file k) → i ≡ areaCount d → a + i ≡ countsAt file (k + 1) .areas
+pub next-areas : (file : List ℕ) (k : ℕ) {a i : ℕ} {d : Due} → a ≡ countsAt file k .areas
+    → d ≡ dueOf (stateAt file k) → i ≡ areaCount d → a + i ≡ countsAt file (k + 1) .areas
 unfolding countsAt
 next-areas file k {a} {i} {d} p q h =
     let z = counted-areas (dueOf (stateAt file k)) (countsAt file k) (recordOf file (suc k)) in
     let y : i ≡ areaCount (dueOf (stateAt file k)) = h ∙ ap areaCount q in
     rw add-one (omega (arith, z, y, p))
 
-pub next-text : (file : List ℕ) (ms : List ℤ) (k : ℕ) {a : ℕ} {s : State} {d : Due} {t : List ℕ} {m : ℤ} → s ≡ stateAt file k → a ≡ countsAt file k .areas → d ≡ dueOf (stateAt file k) → t ≡ recordOf file (k + 1) → m ≡ getD ms a (pos 0)
-    → areasText file ms k ++ recordText d s t m ≡ areasText file ms (k + 1)
+pub next-text : (file : List ℕ) (ms : List ℤ) (k : ℕ) {a : ℕ} {s : State} {d : Due} {t : List ℕ} {m : ℤ} → s ≡ stateAt file k → a ≡ countsAt file k .areas
+    → d ≡ dueOf (stateAt file k) → t ≡ recordOf file (k + 1) → m ≡ getD ms a (pos 0) → areasText file ms k ++ recordText d s t m ≡ areasText file ms (k + 1)
 unfolding areasText
 next-text file ms k e p q f g = rw (g, p, f, q, e, add-one)
 
 -- behind all of them
-pub all-areas : (file : List ℕ) (ms : List ℤ) (n k : ℕ) {a r : ℕ} {before after : List ℕ} → n ≡ recordsOf file → recordsOf file ≤ 885 → a ≡ countsAt file k .areas → k ≤ n → n ≤ k → r ≤ 135 * a
-    → Put before 0 after r (areasText file ms k)
-    → Put before 0 after r (areasText file ms (recordsOf file)) × (r ≤ 119475)
+pub all-areas : (file : List ℕ) (ms : List ℤ) (n k : ℕ) {a r : ℕ} {before after : List ℕ} → n ≡ recordsOf file
+    → recordsOf file ≤ 885 → a ≡ countsAt file k .areas → k ≤ n → n ≤ k → r ≤ 135 * a
+    → Put before 0 after r (areasText file ms k) → Put before 0 after r (areasText file ms (recordsOf file)) × (r ≤ 119475)
 all-areas file ms n k e f p l m q x =
     let z : k ≡ recordsOf file = omega arith in
     (named (ap (λ j. areasText file ms j) z) x, omega (arith, few-areas file n k e f p l, q))

@@ -67,8 +67,10 @@ asym [] (y ∷ ys) p q = clash false p refl
 asym (x ∷ xs) [] p q = clash false p refl
 asym (x ∷ xs) (y ∷ ys) p q =
     ⊎-elim
-    (λ l. ⊎-elim (λ m. omega (arith, ltb-true x y l, ltb-true y x m)) (λ m. omega (arith, ltb-true x y l, eqb-true y x (and-both (eqb y x) (before ys xs) m .0))) (or-cases _ _ q))
-    (λ l. ⊎-elim (λ m. omega (arith, ltb-true y x m, eqb-true x y (and-both (eqb x y) (before xs ys) l .0))) (λ m. asym xs ys (and-both (eqb x y) (before xs ys) l .1) (and-both (eqb y x) (before ys xs) m .1)) (or-cases _ _ q))
+    (λ l. ⊎-elim (λ m. omega (arith, ltb-true x y l, ltb-true y x m))
+    (λ m. omega (arith, ltb-true x y l, eqb-true y x (and-both (eqb y x) (before ys xs) m .0))) (or-cases _ _ q))
+    (λ l. ⊎-elim (λ m. omega (arith, ltb-true y x m, eqb-true x y (and-both (eqb x y) (before xs ys) l .0)))
+    (λ m. asym xs ys (and-both (eqb x y) (before xs ys) l .1) (and-both (eqb y x) (before ys xs) m .1)) (or-cases _ _ q))
     (or-cases _ _ p)
 
 same : (rs : List Rule) {v w : Verdict} (l : Least rs v) (m : Least rs w) → m .rule ≡ l .rule → v ≡ w

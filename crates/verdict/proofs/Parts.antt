@@ -34,7 +34,8 @@ unfolding firstBroken
 in-turn [] ys = refl
 in-turn (x ∷ xs) ys = go (x .holds) (in-turn xs ys)
   where
-    go : (t : Bool) → firstBroken (xs ++ ys) ≡ firstBroken xs orElse firstBroken ys → cond t (firstBroken (xs ++ ys)) (brokenAt x) ≡ cond t (firstBroken xs) (brokenAt x) orElse firstBroken ys
+    go : (t : Bool) → firstBroken (xs ++ ys) ≡ firstBroken xs orElse firstBroken ys
+        → cond t (firstBroken (xs ++ ys)) (brokenAt x) ≡ cond t (firstBroken xs) (brokenAt x) orElse firstBroken ys
     go true h = h
     go false h = refl
 
@@ -82,7 +83,8 @@ module _ (g : ℕ → List Rule) where
       (eq-or-lt-of-le (le-of-suc-le-suc l))
 
   -- the verdict v of turn i is broken and is returned
-  pub rows-stop : (n i : ℕ) {v : Verdict} {a b c : ℕ} → i < n → firstBroken (rows i g) ≡ Fine → v ≡ firstBroken (g i) → v ≡ Broken a b c → v ≡ firstBroken (rows n g)
+  pub rows-stop : (n i : ℕ) {v : Verdict} {a b c : ℕ} → i < n → firstBroken (rows i g) ≡ Fine
+      → v ≡ firstBroken (g i) → v ≡ Broken a b c → v ≡ firstBroken (rows n g)
   rows-stop n i {v} {a} {b} {c} l h e t = t ∙ sym (rows-hit n i a b c l h (sym e ∙ t))
 
   -- all turns were fine

@@ -15,6 +15,7 @@ use Rattle.fields.specs.Answer.{valueOf}
 use Rattle.fields.specs.Number.{numberAt}
 use Rattle.records.specs.Layout.{layoutOf}
 use Rattle.records.specs.View.{recordOf}
+use Rattle.records.specs.Columns.{areaLoops}
 use Rattle.verdict.specs.declared.Verdict.{Verdict}
 use Rattle.verdict.specs.declared.Verdict.the-variants.{Fine, Broken}
 use Rattle.verdict.specs.Rules.{firstBroken}
@@ -25,11 +26,12 @@ use Rattle.rules.specs.declared.Due.{Due}
 use Rattle.rules.specs.declared.Due.the-variants.{Mesh, Layer, Node, Line, Coordinates, Area, Loop}
 use Rattle.permitted.specs.Permitted.{natural, size, atLeast}
 use Rattle.asks.specs.Asks.{areaAsks}
-use Rattle.rules.specs.Checks.{asksOf, askedOf, formChecks, valueChecks, along, checksOf}
+use Rattle.rules.specs.Checks.{asksOf, askedOf, checksOf}
+use Rattle.rules.proofs.Asked.{number-permitted}
 use Rattle.walk.specs.declared.Counts.{Counts}
 use Rattle.walk.specs.declared.State.{State}
 use Rattle.walk.specs.Row.{rowLength}
-use Rattle.walk.specs.States.{sizeIn, dueOf, nextFor, nextOf, stateAt, countedFor, countsAt}
+use Rattle.walk.specs.States.{sizeIn, sizeAt, dueOf, nextFor, nextOf, stateAt, countedFor, countsAt}
 use Rattle.walk.specs.Stages.{recordsOf, stageOne, stageTwo, walkedBy, walkedOf, needOf}
 use Rattle.walk.specs.Table.{tableOf}
 use Rattle.walk.proofs.Dues.{by-due, idle-end, words-counted}
@@ -89,10 +91,10 @@ need-most file = by (firstBroken (stageOne file ++ stageTwo file)) refl
 at-least : (n : ℕ) (v : ℤ) → atLeast n v ≡ true → n ≤ size v
 at-least n v h = leb-true n (size v) (and-both (natural v) (leb n (size v)) h .1)
 
--- the check on columns 25-28 of an A
-area-loops : (layer last : ℕ) (t : List ℕ) → Holding (checksOf (Area layer last) t) → 1 ≤ sizeIn t 25 4
-unfolding layoutOf areaAsks asksOf askedOf formChecks valueChecks along checksOf sizeIn
-area-loops layer last t h = at-least 1 (valueOf (numberAt t 25 4)) (h .1 .1 .1 .1 .1 .1 .1 .1 .1 .1 .1 .1 .1 .1 .0)
+-- an A's number 5 counts its loops
+area-loops : (layer last : ℕ) (t : List ℕ) → Holding (checksOf (Area layer last) t) → 1 ≤ sizeAt t areaLoops
+unfolding layoutOf areaAsks asksOf askedOf sizeIn
+area-loops layer last t h = at-least 1 _ (number-permitted (Area layer last) t h 5 refl (atLeast 1) (λ ns. refl))
 
 -- two records for each area; but the loops of the last one may not have begun
 module _ (c : Counts) (s : State) (t : List ℕ) (k : ℕ) (o : 2 * c .areas ≤ k + (s .area .loops - s .area .begun)) where

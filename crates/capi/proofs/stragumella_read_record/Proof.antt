@@ -32,7 +32,9 @@ number-of-requires c κs = search needs
 
 returns-2 : tie.Need-returns-2
 returns-2 c =
-    found-a _ _ (c .before .before .before .before .before .before .before .before .before .kind-of .ensures) _ (c .before .before .before .before .before .before .before .meant .given .1) (c .before .before .before .before .before .read-record .ensures) (c .number-of .ensures)
+    let r = c .before .before .before .before .before in
+    let k = r .before .before .before .before in
+    found-a _ _ (k .kind-of .ensures) _ (r .before .before .meant .given .1) (r .read-record .ensures) (c .number-of .ensures)
 
 pub stragumella-read-record-spec : {M : Type 1} → statement M
 stragumella-read-record-spec =

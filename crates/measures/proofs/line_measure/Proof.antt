@@ -49,8 +49,11 @@ walk-record-requires : tie.Need-walk-record-requires Inv-loop μ-loop
 walk-record-requires c κs =
     let b = c .before .before .before in
     let s = b .before .before .before .before in
-    let e = b .before .point-count .ensures .1 in
-    (c .before .seven-of .ensures .few, rw (b .loop .inv .3) (near-le 900000000000000000 (line-near (now (s .args .file)) (s .args .line) (b .before .point-count .result - b .loop .left)) (omega arith)))
+    let e = b .before .point-count .ensures .1 in (
+      c .before .seven-of .ensures .few,
+      rw (b .loop .inv .3)
+          (near-le 900000000000000000 (line-near (now (s .args .file)) (s .args .line) (b .before .point-count .result - b .loop .left)) (omega arith)),
+    )
 
 sub-left : tie.Need-sub-left Inv-loop μ-loop
 sub-left c = omega (arith, c .before .before .seven-of .ensures .within)
@@ -69,7 +72,8 @@ loop-again c =
       omega (arith, s .within),
       omega arith,
       omega (arith, s .within),
-      turn addedUp _ _ _ (b .loop .left) (b .loop .k) (c .before .before .seven-of .result) (l .1) (l .0) (s .within) (s .few) e (l .3) (c .before .record-view .ensures) (c .walk-record .ensures),
+      turn addedUp _ _ _ (b .loop .left) (b .loop .k) (c .before .before .seven-of .result) (l .1)
+          (l .0) (s .within) (s .few) e (l .3) (c .before .record-view .ensures) (c .walk-record .ensures),
       λ h.
           let f = full s h in
           omega (arith, s .within),
@@ -81,7 +85,8 @@ returns-2 c =
     let s = b .before .before .before .before in
     let n = b .before .point-count .ensures in
     let z : b .before .point-count .result - b .loop .left ≡ b .before .point-count .result = omega arith in
-    sum-back (now (s .args .file)) (s .args .line) (b .before .point-count .result) (n .1) (b .loop .inv .3 ∙ rw z) ∙ measure-is addedUp (now (s .args .file)) (s .args .line) (n .0)
+    sum-back (now (s .args .file)) (s .args .line) (b .before .point-count .result) (n .1) (b .loop .inv .3 ∙ rw z)
+    ∙ measure-is addedUp (now (s .args .file)) (s .args .line) (n .0)
 
 pub line-measure-spec : {M : Type 1} → statement M
 line-measure-spec =

@@ -20,7 +20,11 @@ add-t10 c = sum-fits (c .before .before .before .pre .0) (c .before .before .bef
 
 returns : tie.Need-returns
 returns c =
-    rw (step-sum (c .before .before .before .pre .0) (c .before .before .before .pre .1) (c .before .before .before .pre .2), read-back w64 (c .before .before .before .pre .1) tt, read-back w64 (c .before .before .before .pre .2) tt)
+    rw (
+      step-sum (c .before .before .before .pre .0) (c .before .before .before .pre .1) (c .before .before .before .pre .2),
+      read-back w64 (c .before .before .before .pre .1) tt,
+      read-back w64 (c .before .before .before .pre .2) tt,
+    )
 
 pub step-spec : {M : Type 1} → statement M
 step-spec = tie.close (tie.spec mul-t7 mul-t8 sub-t9 add-t10 returns)

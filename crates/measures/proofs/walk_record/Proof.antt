@@ -74,7 +74,8 @@ loop-again c =
     let l = c .before .before .before .before .before .before in
     let s = l .before .before in (
       omega arith,
-      c .step .ensures ∙ rw (x-is (c .before .before .before), y-is (c .before), l .loop .inv .1) (along-next (s .args .w) (pairBy addedUp (now (s .args .s))) (l .loop .i)),
+      c .step .ensures
+          ∙ rw (x-is (c .before .before .before), y-is (c .before), l .loop .inv .1) (along-next (s .args .w) (pairBy addedUp (now (s .args .s))) (l .loop .i)),
     )
 
 returns : tie.Need-returns Inv-loop μ-loop

@@ -28,13 +28,21 @@ put-ok-requires : tie.Need-put-ok-requires
 put-ok-requires c κs = search needs
 
 returns-2 : tie.Need-returns-2
-returns-2 c = (named (check-ok _ (c .before .before .before .before .before .before .before .before .before .if1 .left) (omega arith) (omega arith) (c .before .before .before .before .before .before .load .ensures .0) (c .before .before .if2 .taken)) (c .put-ok .ensures .0), omega (arith, c .put-ok .ensures .1))
+returns-2 c =
+    let l = c .before .before .before .before .before .before .load .ensures .0 in
+    let i = c .before .before .before .before .before .before .before .before .before .if1 .left in
+    (named (check-ok _ i (omega arith) (omega arith) l (c .before .before .if2 .taken)) (c .put-ok .ensures .0), omega (arith, c .put-ok .ensures .1))
 
 put-refused-requires : tie.Need-put-refused-requires
 put-refused-requires c κs = search needs
 
 returns-3 : tie.Need-returns-3
-returns-3 c = (named (check-refused _ (c .before .before .before .before .before .before .before .before .before .if1 .left) (omega arith) (omega arith) (c .before .before .before .before .before .before .load .ensures .0) (c .before .before .if2 .left)) (c .put-refused .ensures .0), omega (arith, c .put-refused .ensures .1))
+returns-3 c =
+    let l = c .before .before .before .before .before .before .load .ensures .0 in
+    let i = c .before .before .before .before .before .before .before .before .before .if1 .left in (
+      named (check-refused _ i (omega arith) (omega arith) l (c .before .before .if2 .left)) (c .put-refused .ensures .0),
+      omega (arith, c .put-refused .ensures .1),
+    )
 
 pub check-text-spec : {M : Type 1} → statement M
 check-text-spec =

@@ -33,13 +33,23 @@ put-areas-requires : tie.Need-put-areas-requires
 put-areas-requires c κs = few-records _ (c .before .before .before .before .before .before .before .before .before .if1 .left)
 
 returns-2 : tie.Need-returns-2
-returns-2 c = (named (measure-ok _ (c .before .before .before .before .before .before .before .before .before .before .if1 .left) (omega arith) (omega arith) (c .before .before .before .before .before .before .before .load .ensures .0) (c .before .before .before .if2 .taken) _ refl (c .before .before .before .before .before .before .before .load .ensures .2)) (c .put-areas .ensures .0), omega (arith, c .put-areas .ensures .1))
+returns-2 c =
+    let l = c .before .before .before .before .before .before .before .load .ensures in
+    let i = c .before .before .before .before .before .before .before .before .before .before .if1 .left in (
+      named (measure-ok _ i (omega arith) (omega arith) (l .0) (c .before .before .before .if2 .taken) _ refl (l .2)) (c .put-areas .ensures .0),
+      omega (arith, c .put-areas .ensures .1),
+    )
 
 put-refused-requires : tie.Need-put-refused-requires
 put-refused-requires c κs = search needs
 
 returns-3 : tie.Need-returns-3
-returns-3 c = (named (measure-refused _ (c .before .before .before .before .before .before .before .before .before .if1 .left) (omega arith) (omega arith) (c .before .before .before .before .before .before .load .ensures .0) (c .before .before .if2 .left)) (c .put-refused .ensures .0), omega (arith, c .put-refused .ensures .1))
+returns-3 c =
+    let l = c .before .before .before .before .before .before .load .ensures .0 in
+    let i = c .before .before .before .before .before .before .before .before .before .if1 .left in (
+      named (measure-refused _ i (omega arith) (omega arith) l (c .before .before .if2 .left)) (c .put-refused .ensures .0),
+      omega (arith, c .put-refused .ensures .1),
+    )
 
 pub measure-text-spec : {M : Type 1} → statement M
 measure-text-spec =

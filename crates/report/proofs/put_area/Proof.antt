@@ -50,7 +50,30 @@ put-requires-2 c κs = search needs
 
 returns : tie.Need-returns
 unfolding areaText
-returns c = (then (c .before .before .before .before .before .before .before .before .before .before .before .before .before .before .before .before .before .put-named .ensures .0) (then (c .before .before .before .before .before .before .before .before .before .before .before .before .before .before .put-named2 .ensures .0) (then (c .before .before .before .before .before .before .before .before .before .before .before .put-named3 .ensures .0) (then (c .before .before .before .before .before .before .before .before .put-named4 .ensures .0) (then (c .before .before .before .before .before .put .ensures) (then (named (ap signed (toZ-ofZ w64 (c .before .before .before .before .before .before .before .before .before .before .before .before .before .before .before .before .before .before .before .before .args .m) (c .before .before .before .before .before .before .before .before .before .before .before .before .before .before .before .before .before .before .before .before .fits .m))) (c .before .before .before .put-signed .ensures .0)) (c .put2 .ensures)))))), omega (arith, c .before .before .before .before .before .before .before .before .before .before .before .before .before .before .before .before .before .put-named .ensures .1, c .before .before .before .before .before .before .before .before .before .before .before .before .before .before .put-named2 .ensures .1, c .before .before .before .before .before .before .before .before .before .before .before .put-named3 .ensures .1, c .before .before .before .before .before .before .before .before .put-named4 .ensures .1, c .before .before .before .before .before .put .ensures .behind, c .before .before .before .put-signed .ensures .1, c .put2 .ensures .behind))
+returns c =
+    let p = c .before .before .before in
+    let u = p .before .before in
+    let n = u .before .before .before in
+    let t = n .before .before .before in
+    let a = t .before .before .before in
+    let m = a .before .before .before in
+    let r = m .before .before .before in (
+      then (m .put-named .ensures .0)
+          (then (a .put-named2 .ensures .0)
+          (then (t .put-named3 .ensures .0)
+          (then (n .put-named4 .ensures .0)
+          (then (u .put .ensures) (then (named (ap signed (toZ-ofZ w64 (r .args .m) (r .fits .m))) (p .put-signed .ensures .0)) (c .put2 .ensures)))))),
+      omega (
+        arith,
+        m .put-named .ensures .1,
+        a .put-named2 .ensures .1,
+        t .put-named3 .ensures .1,
+        n .put-named4 .ensures .1,
+        u .put .ensures .behind,
+        p .put-signed .ensures .1,
+        c .put2 .ensures .behind,
+      ),
+    )
 
 pub put-area-spec : {M : Type 1} → statement M
 put-area-spec =

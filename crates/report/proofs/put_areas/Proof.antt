@@ -45,22 +45,28 @@ measure-at-requires c κs = search needs
 
 put-record-requires : tie.Need-put-record-requires Inv-loop μ-loop
 put-record-requires c κs =
+    let r = c .before .before .before .before .before .before .before in
     let l = c .before .before .before .before .before .loop .inv in
-    room-left _ _ _ (c .before .before .before .before .before .before .before .records-of .ensures .0) (c .before .before .before .before .before .before .before .before .before .pre) (l .2) (c .before .before .before .before .loop-test .taken) (l .3)
+    room-left _ _ _ (r .records-of .ensures .0) (r .before .before .pre) (l .2) (c .before .before .before .before .loop-test .taken) (l .3)
 
 area-count-requires : tie.Need-area-count-requires Inv-loop μ-loop
 area-count-requires c κs = search needs
 
 add-a : tie.Need-add-a Inv-loop μ-loop
 add-a c =
+    let r = c .before .before .before .before .before .before .before .before .before .records-of .ensures .0 in
+    let p = c .before .before .before .before .before .before .before .before .before .before .before .pre in
     let l = c .before .before .before .before .before .before .before .loop .inv in
-    omega (arith, few-areas _ _ _ (c .before .before .before .before .before .before .before .before .before .records-of .ensures .0) (c .before .before .before .before .before .before .before .before .before .before .before .pre) (l .2) (l .0), area-small (c .before .before .before .before .due .result), c .area-count .ensures)
+    omega (arith, few-areas _ _ _ r p (l .2) (l .0), area-small (c .before .before .before .before .due .result), c .area-count .ensures)
 
 next-requires : tie.Need-next-requires Inv-loop μ-loop
 next-requires c κs = search needs
 
 add-k : tie.Need-add-k Inv-loop μ-loop
-add-k c = omega (arith, c .before .before .before .before .before .before .before .loop-test .taken, c .before .before .before .before .before .before .before .before .before .before .records-of .ensures .1)
+add-k c =
+    let l = c .before .before .before .before .before .before .before .loop-test .taken in
+    let r = c .before .before .before .before .before .before .before .before .before .before .records-of .ensures .1 in
+    omega (arith, l, r)
 
 loop-less : tie.Need-loop-less Inv-loop μ-loop
 loop-less c = search needs
@@ -76,13 +82,18 @@ loop-again c =
       next-state _ _ (l .1) (rw t at (c .next .ensures)),
       next-areas _ _ (l .2) d a,
       omega (arith, l .3, p .1, a),
-      named (next-text _ _ _ (l .1) (l .2) d t (toZ-ofZ w64 (c .before .before .before .measure-at .result) (record { sfits = c .before .before .before .measure-at .ok }) ∙ c .before .before .before .measure-at .ensures)) (then (l .4) (p .0)),
+      named
+          (next-text _ _ _ (l .1) (l .2) d t
+          (toZ-ofZ w64 (c .before .before .before .measure-at .result) (record { sfits = c .before .before .before .measure-at .ok })
+          ∙ c .before .before .before .measure-at .ensures))
+          (then (l .4) (p .0)),
     )
 
 returns : tie.Need-returns Inv-loop μ-loop
 returns c =
+    let p = c .before .before .before .before .before in
     let l = c .before .loop .inv in
-    all-areas _ _ _ _ (c .before .before .before .records-of .ensures .0) (c .before .before .before .before .before .pre) (l .2) (l .0) (c .loop-test .left) (l .3) (l .4)
+    all-areas _ _ _ _ (c .before .before .before .records-of .ensures .0) (p .pre) (l .2) (l .0) (c .loop-test .left) (l .3) (l .4)
 
 pub put-areas-spec : {M : Type 1} → statement M
 put-areas-spec =

@@ -15,7 +15,10 @@ put-requires : tie.Need-put-requires
 put-requires c κs = search needs
 
 returns : tie.Need-returns
-returns c = (then (c .before .before .before .put-named .ensures .0) (c .put .ensures), omega (arith, c .before .before .before .put-named .ensures .1, c .put .ensures .behind))
+returns c = (
+  then (c .before .before .before .put-named .ensures .0) (c .put .ensures),
+  omega (arith, c .before .before .before .put-named .ensures .1, c .put .ensures .behind),
+)
 
 pub put-line-spec : {M : Type 1} → statement M
 put-line-spec = tie.close (tie.spec put-named-requires slice-aggregate-put put-requires returns)

@@ -12,7 +12,10 @@ put-number-requires : tie.Need-put-number-requires
 put-number-requires c κs = search needs
 
 returns : tie.Need-returns
-returns c = (then (c .before .before .put .ensures) (c .put-number .ensures .0), omega (arith, c .before .before .put .ensures .behind, c .put-number .ensures .1))
+returns c = (
+  then (c .before .before .put .ensures) (c .put-number .ensures .0),
+  omega (arith, c .before .before .put .ensures .behind, c .put-number .ensures .1),
+)
 
 pub put-named-spec : {M : Type 1} → statement M
 put-named-spec = tie.close (tie.spec put-requires put-number-requires returns)

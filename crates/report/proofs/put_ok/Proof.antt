@@ -50,7 +50,28 @@ put-line-requires-6 c κs = search needs
 
 returns : tie.Need-returns
 unfolding okText
-returns c = (then (c .before .before .before .before .before .before .before .before .before .before .before .before .before .before .before .before .before .before .put .ensures) (then (c .before .before .before .before .before .before .before .before .before .before .before .before .before .before .before .put-line .ensures .0) (then (c .before .before .before .before .before .before .before .before .before .before .before .before .put-line2 .ensures .0) (then (c .before .before .before .before .before .before .before .before .before .put-line3 .ensures .0) (then (c .before .before .before .before .before .before .put-line4 .ensures .0) (then (c .before .before .before .put-line5 .ensures .0) (c .put-line6 .ensures .0)))))), omega (arith, c .before .before .before .before .before .before .before .before .before .before .before .before .before .before .before .before .before .before .put .ensures .behind, c .before .before .before .before .before .before .before .before .before .before .before .before .before .before .before .put-line .ensures .1, c .before .before .before .before .before .before .before .before .before .before .before .before .put-line2 .ensures .1, c .before .before .before .before .before .before .before .before .before .put-line3 .ensures .1, c .before .before .before .before .before .before .put-line4 .ensures .1, c .before .before .before .put-line5 .ensures .1, c .put-line6 .ensures .1))
+returns c =
+    let p = c .before .before .before in
+    let l = p .before .before .before in
+    let u = l .before .before .before in
+    let t = u .before .before .before in
+    let i = t .before .before .before in
+    let d = i .before .before .before in (
+      then (d .put .ensures)
+          (then (i .put-line .ensures .0)
+          (then (t .put-line2 .ensures .0)
+          (then (u .put-line3 .ensures .0) (then (l .put-line4 .ensures .0) (then (p .put-line5 .ensures .0) (c .put-line6 .ensures .0)))))),
+      omega (
+        arith,
+        d .put .ensures .behind,
+        i .put-line .ensures .1,
+        t .put-line2 .ensures .1,
+        u .put-line3 .ensures .1,
+        l .put-line4 .ensures .1,
+        p .put-line5 .ensures .1,
+        c .put-line6 .ensures .1,
+      ),
+    )
 
 pub put-ok-spec : {M : Type 1} → statement M
 put-ok-spec =

@@ -58,7 +58,11 @@ returns-5 c = rw (c .enum-told5 .given .1) (nothing _ _, omega arith)
 
 returns-6 : tie.Need-returns-6
 unfolding recordText
-returns-6 c = rw (c .before .before .before .enum-told6 .given .1) (area-named (c .before .shown-of .ensures) (toZ-ofZ w64 (c .before .before .before .before .before .before .args .m) (c .before .before .before .before .before .before .fits .m)) (c .put-area .ensures .0), omega (arith, c .put-area .ensures .1))
+returns-6 c =
+    let a = c .before .before .before .before .before .before .args .m in
+    let f = c .before .before .before .before .before .before .fits .m in
+    rw (c .before .before .before .enum-told6 .given .1)
+    (area-named (c .before .shown-of .ensures) (toZ-ofZ w64 a f) (c .put-area .ensures .0), omega (arith, c .put-area .ensures .1))
 
 returns-7 : tie.Need-returns-7
 unfolding recordText

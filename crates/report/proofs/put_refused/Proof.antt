@@ -32,7 +32,12 @@ put-line-requires-3 c κs = search needs
 
 returns : tie.Need-returns
 unfolding refusedText
-returns c = (then (c .before .before .before .before .before .before .before .before .before .put .ensures) (then (c .before .before .before .before .before .before .put-line .ensures .0) (then (c .before .before .before .put-line2 .ensures .0) (c .put-line3 .ensures .0))), omega (arith, c .before .before .before .before .before .before .before .before .before .put .ensures .behind, c .before .before .before .before .before .before .put-line .ensures .1, c .before .before .before .put-line2 .ensures .1, c .put-line3 .ensures .1))
+returns c =
+    let p = c .before .before .before .before .before .before .put-line .ensures in
+    let u = c .before .before .before .before .before .before .before .before .before .put .ensures in (
+      then u (then (p .0) (then (c .before .before .before .put-line2 .ensures .0) (c .put-line3 .ensures .0))),
+      omega (arith, u .behind, p .1, c .before .before .before .put-line2 .ensures .1, c .put-line3 .ensures .1),
+    )
 
 pub put-refused-spec : {M : Type 1} → statement M
 put-refused-spec =

@@ -25,7 +25,9 @@ cast-below c =
 
 add-put-number : tie.Need-add-put-number
 add-put-number c =
-    let b = negative (c .before .before .before .before .before .args .v) (c .before .before .before .before .before .fits .v) (c .before .before .before .before .if1 .taken) in
+    let a = c .before .before .before .before .before .args .v in
+    let f = c .before .before .before .before .before .fits .v in
+    let b = negative a f (c .before .before .before .before .if1 .taken) in
     record { fits = omega (arith, b .room) }
 
 put-number-requires : tie.Need-put-number-requires
@@ -33,8 +35,13 @@ put-number-requires c κs = search needs
 
 returns : tie.Need-returns
 returns c =
-    let b = negative (c .before .before .before .before .before .before .args .v) (c .before .before .before .before .before .before .fits .v) (c .before .before .before .before .before .if1 .taken) in
-    (named (b .spelled) (then (c .before .before .put .ensures) (c .put-number .ensures .0)), omega (arith, c .before .before .put .ensures .behind, c .put-number .ensures .1))
+    let i = c .before .before .before .before .before .if1 .taken in
+    let a = c .before .before .before .before .before .before .args .v in
+    let f = c .before .before .before .before .before .before .fits .v in
+    let b = negative a f i in (
+      named (b .spelled) (then (c .before .before .put .ensures) (c .put-number .ensures .0)),
+      omega (arith, c .before .before .put .ensures .behind, c .put-number .ensures .1),
+    )
 
 cast-put-number : tie.Need-cast-put-number
 cast-put-number c =
