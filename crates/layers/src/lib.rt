@@ -1,15 +1,19 @@
 // What a number names (RULES 2.7, 6.7): the layers of a table (RULES 8.1), and the records of their
 // nodes, lines and areas. Every public function takes every input.
 //
-// The contracts cite `specs/`: `Naming` says what a number names, `Passing` the layer of a record.
+// The contracts cite `specs/`: `Naming` says what a number names, `Passing` the layer of a record, `Standing`
+// where a walk over the records stands.
 use rules::Due;
+use walk::State;
 ghost use mathlib.Core.Path.{_≡_};
 ghost use mathlib.Core.Bool.{cond};
-ghost use Prim.Native.Nat.{_+_, _-_, _*_, _≤_, _<_};
+ghost use mathlib.Core.List.{List};
+ghost use Prim.Native.Nat.{ℕ, _+_, _-_, _*_, _≤_, _<_, min};
 ghost use lib.ListN.{getD};
 ghost use Rattle.walk.specs.Row.{rowLength};
 ghost use Rattle.layers.specs.Naming.{rowWord, wordsBefore, layerIn, names, namesLine, nodeOf, lineOf, areaOf};
 ghost use Rattle.layers.specs.Passing.{isLayer};
+ghost use Rattle.layers.specs.Standing.{standingAt, Goes, quietIn, pastBy};
 
 // Where the lines and the areas of all layers begin in the table.
 pub struct Bases {
@@ -152,27 +156,6 @@ pub fn area_word(table: &[u32], l: Layer, i: usize) -> usize
 
 // ---- from record to record
 
-// The layer behind a record that was due as `d`: another one behind an H. `rows` H records came.
-pub fn layer_behind(d: Due, table: &[u32], b: Bases, rows: usize, l: Layer) -> Layer
-    ensures { λ x. ⌜ x ≡ cond (isLayer d) (layerIn (now (table .entry)) b (rows - 1)) l ⌝ }
-{
-    match d {
-        Due::Mesh(_) => l,
-        Due::Layer(_) => {
-            let mut i: usize = 0;
-            if 0 < rows {
-                i = rows - 1;
-            }
-            layer_in(table, b, i)
-        }
-        Due::Node(_, _) => l,
-        Due::Line(_, _) => l,
-        Due::Coordinates(_) => l,
-        Due::Area(_, _) => l,
-        Due::Loop(_, _, _) => l,
-    }
-}
-
 // 1 for an H.
 pub fn rows_of(d: Due) -> usize
     ensures { λ x. ⌜ x ≡ cond (isLayer d) 1 0 ⌝ }
@@ -185,5 +168,92 @@ pub fn rows_of(d: Due) -> usize
         Due::Coordinates(_) => 0,
         Due::Area(_, _) => 0,
         Due::Loop(_, _, _) => 0,
+    }
+}
+
+// Where a walk stands behind its first `records` records: the state; how many layers came; and the layer
+// in which the numbers of the next record name records.
+pub struct Standing {
+    pub state: State,
+    pub rows: usize,
+    pub layer: Layer,
+    pub records: usize,
+}
+
+// Before the first record.
+pub fn at_first(table: &[u32], b: Bases) -> Standing
+    ensures { λ r. ⌜ ((file : List ℕ) → r ≡ standingAt file (now (table .entry)) b 0) ⌝ }
+{
+    let state = walk::at_start();
+    let layer = layer_in(table, b, 0);
+    Standing {
+        state,
+        rows: 0,
+        layer,
+        records: 0,
+    }
+}
+
+// Behind the next record, if the file has one: behind an H in another layer.
+pub fn behind(file: &[u8], table: &[u32], b: Bases, x: Standing) -> Standing
+    ensures { λ r. ⌜ Goes (now (file .entry)) (now (table .entry)) b x r ⌝ }
+{
+    let n = walk::records_of(file);
+    let k = x.records;
+    let rows = x.rows;
+    if n <= k {
+        return x;
+    }
+    if n <= rows {
+        return x;
+    }
+    let s = x.state;
+    let state = walk::next(s, records::record_view(file, k + 1));
+    if rows_of(walk::due(s)) == 0 {
+        let layer = x.layer;
+        return Standing {
+            state,
+            rows,
+            layer,
+            records: k + 1,
+        };
+    }
+    let layer = layer_in(table, b, rows);
+    Standing {
+        state,
+        rows: rows + 1,
+        layer,
+        records: k + 1,
+    }
+}
+
+// The lesser of two numbers.
+fn lesser(a: usize, b: usize) -> usize
+    ensures { λ r. ⌜ r ≡ min a b ⌝ }
+{
+    if a < b {
+        return a;
+    }
+    b
+}
+
+// Behind the quiet records that come next: those that the file has, and no more than `most`.
+pub fn past_quiet(file: &[u8], x: Standing, most: usize) -> Standing
+    ensures { λ r. ⌜ r ≡ pastBy x (quietIn (now (file .entry)) most x) ⌝ }
+{
+    let n = walk::records_of(file);
+    let k = x.records;
+    if n <= k {
+        return x;
+    }
+    let s = x.state;
+    let p = walk::pass_quiet(s, lesser(most, n - k));
+    let state = p.state;
+    let layer = x.layer;
+    Standing {
+        state,
+        rows: x.rows,
+        layer,
+        records: k + p.records,
     }
 }

@@ -14,16 +14,16 @@ use lib.Dec.{eqb, leb, ltb}
 use lib.IntN.{ℤ}
 use lib.ListN.{getD}
 use Rattle.records.specs.View.{numberIn}
-use Rattle.verdict.specs.Rules.{Rule, Check, check, block, rows, spread}
+use Rattle.verdict.specs.Rules.{Rule, Check, check, spread}
 use Rattle.permitted.specs.Permitted.{natural, size, same}
 use Rattle.rules.specs.declared.Due.{Due}
 use Rattle.rules.specs.declared.Due.the-variants.{Mesh, Layer, Node, Line, Coordinates, Area, Loop}
-use Rattle.walk.specs.States.{dueOf, stateAt}
-use Rattle.walk.specs.Stages.{recordsOf}
+use Rattle.walk.specs.States.{dueOf}
 use Rattle.layers.specs.declared.Bases.{Bases}
 use Rattle.layers.specs.declared.Layer as layers
+use Rattle.layers.specs.declared.Standing.{Standing}
 use Rattle.layers.specs.Naming.{names, namesLine, nodeOf, lineOf, areaOf}
-use Rattle.layers.specs.Passing.{layerAt}
+use Rattle.layers.specs.Standing.{stageOf}
 
 -- ---- numbers
 
@@ -166,7 +166,10 @@ linkChecks (Loop last count left) file t l line r = entryChecks file l r
 abbrev pub fifth : ℕ
 fifth = 5
 
+-- RULES 6.7: the record that comes next where the walk stands at x
+abbrev pub linksAt : List ℕ → List ℕ → Standing → List Check
+linksAt file t x = linkChecks (dueOf (x .state)) file t (x .layer) (x .state .line) (x .records + 1)
+
 -- RULES 6.7: the whole stage, record by record
 unfoldable pub stageFour : List ℕ → List ℕ → Bases → List Rule
-stageFour file t b =
-    rows (recordsOf file) (λ k. block fifth (k + 1) (linkChecks (dueOf (stateAt file k)) file t (layerAt file t b k) (stateAt file k .line) (k + 1)))
+stageFour file t b = stageOf fifth (linksAt file t) file t b

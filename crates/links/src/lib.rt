@@ -421,28 +421,16 @@ fn between(file: &[u8], table: &[u32], l: Layer, s: State) -> usize
     (s.points - 1) / 7
 }
 
-// The lesser of two numbers.
-fn lesser(a: usize, b: usize) -> usize
-    ensures { λ r. ⌜ (r ≤ a) × (r ≤ b) ⌝ }
-{
-    if a < b {
-        return a;
-    }
-    b
-}
-
 // Stage 4: every record by what it names.
 pub fn stage_four(file: &[u8], table: &[u32], b: Bases) -> Verdict
     ensures { λ r. ⌜ r ≡ firstBroken (stageFour (now (file .entry)) (now (table .entry)) b) ⌝ }
 {
     let n = walk::records_of(file);
-    let mut s = walk::at_start();
-    let mut rows: usize = 0;
-    let mut l = layers::layer_in(table, b, 0);
-    let mut k: usize = 0;
-    while k < n {
-        let d = walk::due(s);
-        let v = judge_record(d, file, table, l, s.line, k + 1);
+    let mut x = layers::at_first(table, b);
+    while x.records < n {
+        let s = x.state;
+        let l = x.layer;
+        let v = judge_record(walk::due(s), file, table, l, s.line, x.records + 1);
         if let Verdict::Broken {
             number: _,
             record: _,
@@ -450,13 +438,10 @@ pub fn stage_four(file: &[u8], table: &[u32], b: Bases) -> Verdict
         } = v {
             return v;
         }
-        rows += layers::rows_of(d);
-        l = layers::layer_behind(d, table, b, rows, l);
-        s = walk::next(s, records::record_view(file, k + 1));
-        k += 1;
-        let p = walk::pass_quiet(s, lesser(between(file, table, l, s), n - k));
-        s = p.state;
-        k += p.records;
+        x = layers::behind(file, table, b, x);
+        let next = x.state;
+        let layer = x.layer;
+        x = layers::past_quiet(file, x, between(file, table, layer, next));
     }
     Verdict::Fine
 }

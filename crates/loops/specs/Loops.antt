@@ -14,16 +14,16 @@ use lib.IntN.{ℤ, pos}
 use lib.ListN.{getD}
 use lib.Signed.{ltZ}
 use Rattle.records.specs.View.{numberIn}
-use Rattle.verdict.specs.Rules.{Rule, Check, check, block, rows, spread}
+use Rattle.verdict.specs.Rules.{Rule, Check, check, spread}
 use Rattle.permitted.specs.Permitted.{natural, is}
 use Rattle.rules.specs.declared.Due.{Due}
 use Rattle.rules.specs.declared.Due.the-variants.{Mesh, Layer, Node, Line, Coordinates, Area, Loop}
-use Rattle.walk.specs.States.{dueOf, stateAt}
-use Rattle.walk.specs.Stages.{recordsOf}
+use Rattle.walk.specs.States.{dueOf}
 use Rattle.layers.specs.declared.Bases.{Bases}
 use Rattle.layers.specs.declared.Layer as layers
+use Rattle.layers.specs.declared.Standing.{Standing}
 use Rattle.layers.specs.Naming.{lineOf}
-use Rattle.layers.specs.Passing.{layerAt}
+use Rattle.layers.specs.Standing.{stageOf}
 use Rattle.links.specs.Links.{isZero, equal, some, endNode, loopEntry}
 use Rattle.entries.specs.Entries.{slotOf, countAt}
 use Rattle.entries.specs.Loops.{loopMeasureIn}
@@ -100,7 +100,10 @@ areaChecks (Loop last count left) file t l area r = loopChecks file t l area cou
 abbrev pub sixth : ℕ
 sixth = 6
 
+-- RULES 6.8: the record that comes next where the walk stands at x
+abbrev pub areasAt : List ℕ → List ℕ → Standing → List Check
+areasAt file t x = areaChecks (dueOf (x .state)) file t (x .layer) (x .state .area) (x .records + 1)
+
 -- RULES 6.8: the whole stage, record by record
 unfoldable pub stageFive : List ℕ → List ℕ → Bases → List Rule
-stageFive file t b =
-    rows (recordsOf file) (λ k. block sixth (k + 1) (areaChecks (dueOf (stateAt file k)) file t (layerAt file t b k) (stateAt file k .area) (k + 1)))
+stageFive file t b = stageOf sixth (areasAt file t) file t b

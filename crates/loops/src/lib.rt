@@ -410,13 +410,21 @@ pub fn stage_five(file: &[u8], table: &[u32], b: Bases) -> Verdict
     let mut marks = [0usize; 20000];
     let mut have: usize = 0;
     let mut known: usize = 0;
-    let mut s = walk::at_start();
-    let mut rows: usize = 0;
-    let mut l = layers::layer_in(table, b, 0);
-    let mut k: usize = 0;
-    while k < n {
+    let mut x = layers::at_first(table, b);
+    while x.records < n {
+        let s = x.state;
+        let l = x.layer;
         let d = walk::due(s);
-        let v = judge_record(d, file, table, l, &kept[..have], s.area, known, k + 1);
+        let v = judge_record(
+            d,
+            file,
+            table,
+            l,
+            &kept[..have],
+            s.area,
+            known,
+            x.records + 1,
+        );
         if let Verdict::Broken {
             number: _,
             record: _,
@@ -425,14 +433,10 @@ pub fn stage_five(file: &[u8], table: &[u32], b: Bases) -> Verdict
             return v;
         }
         known = known_behind(d, file, table, l, s.area, known, &mut marks);
-        rows += layers::rows_of(d);
-        l = layers::layer_behind(d, table, b, rows, l);
-        have = kept_behind(d, file, table, l, have, &mut kept);
-        s = walk::next(s, records::record_view(file, k + 1));
-        k += 1;
-        let p = walk::pass_quiet(s, n - k);
-        s = p.state;
-        k += p.records;
+        x = layers::behind(file, table, b, x);
+        let layer = x.layer;
+        have = kept_behind(d, file, table, layer, have, &mut kept);
+        x = layers::past_quiet(file, x, n);
     }
     Verdict::Fine
 }

@@ -8,15 +8,15 @@ use mathlib.Core.Bool.{Bool, true, false, _||_}
 use mathlib.Core.List.{List, [], _∷_}
 use Prim.Native.Nat.{ℕ, _+_}
 use Rattle.records.specs.View.{numberIn}
-use Rattle.verdict.specs.Rules.{Rule, Check, check, block, rows}
+use Rattle.verdict.specs.Rules.{Rule, Check, check}
 use Rattle.rules.specs.declared.Due.{Due}
 use Rattle.rules.specs.declared.Due.the-variants.{Mesh, Layer, Node, Line, Coordinates, Area, Loop}
-use Rattle.walk.specs.States.{dueOf, stateAt}
-use Rattle.walk.specs.Stages.{recordsOf}
+use Rattle.walk.specs.States.{dueOf}
 use Rattle.layers.specs.declared.Bases.{Bases}
 use Rattle.layers.specs.declared.Layer as layers
+use Rattle.layers.specs.declared.Standing.{Standing}
 use Rattle.layers.specs.Naming.{areaOf}
-use Rattle.layers.specs.Passing.{layerAt}
+use Rattle.layers.specs.Standing.{stageOf}
 use Rattle.links.specs.Links.{isZero, entryIs, some}
 use Rattle.entries.specs.Entries.{slotOf, slotsOf}
 
@@ -49,7 +49,10 @@ lineListChecks (Loop last count left) file t l r = []
 abbrev pub seventh : ℕ
 seventh = 7
 
+-- RULES 6.9: the record that comes next where the walk stands at x
+abbrev pub sidesAt : List ℕ → List ℕ → Standing → List Check
+sidesAt file t x = lineListChecks (dueOf (x .state)) file t (x .layer) (x .records + 1)
+
 -- RULES 6.9: the whole stage, record by record
 unfoldable pub stageSix : List ℕ → List ℕ → Bases → List Rule
-stageSix file t b =
-    rows (recordsOf file) (λ k. block seventh (k + 1) (lineListChecks (dueOf (stateAt file k)) file t (layerAt file t b k) (k + 1)))
+stageSix file t b = stageOf seventh (sidesAt file t) file t b

@@ -186,13 +186,12 @@ pub fn stage_six(file: &[u8], table: &[u32], b: Bases) -> Verdict
 {
     let n = walk::records_of(file);
     let mut marks = [0usize; 20000];
-    let mut s = walk::at_start();
-    let mut rows: usize = 0;
-    let mut l = layers::layer_in(table, b, 0);
-    let mut k: usize = 0;
-    while k < n {
+    let mut x = layers::at_first(table, b);
+    while x.records < n {
+        let s = x.state;
+        let l = x.layer;
         let d = walk::due(s);
-        let v = judge_record(d, file, table, l, k + 1, &marks);
+        let v = judge_record(d, file, table, l, x.records + 1, &marks);
         if let Verdict::Broken {
             number: _,
             record: _,
@@ -200,14 +199,10 @@ pub fn stage_six(file: &[u8], table: &[u32], b: Bases) -> Verdict
         } = v {
             return v;
         }
-        rows += layers::rows_of(d);
-        l = layers::layer_behind(d, table, b, rows, l);
-        mark_behind(d, file, table, l, &mut marks);
-        s = walk::next(s, records::record_view(file, k + 1));
-        k += 1;
-        let p = walk::pass_quiet(s, n - k);
-        s = p.state;
-        k += p.records;
+        x = layers::behind(file, table, b, x);
+        let layer = x.layer;
+        mark_behind(d, file, table, layer, &mut marks);
+        x = layers::past_quiet(file, x, n);
     }
     Verdict::Fine
 }

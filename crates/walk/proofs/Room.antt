@@ -15,7 +15,7 @@ use Rattle.fields.specs.Answer.{valueOf}
 use Rattle.fields.specs.Number.{numberAt}
 use Rattle.records.specs.Layout.{layoutOf}
 use Rattle.records.specs.View.{recordOf}
-use Rattle.records.specs.Columns.{areaLoops}
+use Rattle.records.specs.Columns.{spanOf, areaLoops}
 use Rattle.verdict.specs.declared.Verdict.{Verdict}
 use Rattle.verdict.specs.declared.Verdict.the-variants.{Fine, Broken}
 use Rattle.verdict.specs.Rules.{firstBroken}
@@ -94,7 +94,7 @@ at-least n v h = leb-true n (size v) (and-both (natural v) (leb n (size v)) h .1
 -- an A's number 5 counts its loops
 area-loops : (layer last : ℕ) (t : List ℕ) → Holding (checksOf (Area layer last) t) → 1 ≤ sizeAt t areaLoops
 unfolding layoutOf areaAsks asksOf askedOf sizeIn
-area-loops layer last t h = at-least 1 _ (number-permitted (Area layer last) t h 5 refl (atLeast 1) (λ ns. refl))
+area-loops layer last t h = at-least 1 (valueOf (numberAt t (spanOf areaLoops .start) (spanOf areaLoops .width))) (number-permitted (Area layer last) t h 5 refl (atLeast 1) (λ ns. refl))
 
 -- two records for each area; but the loops of the last one may not have begun
 module _ (c : Counts) (s : State) (t : List ℕ) (k : ℕ) (o : 2 * c .areas ≤ k + (s .area .loops - s .area .begun)) where

@@ -1,37 +1,29 @@
--- `links::stage_four` meets its contract: the loop leaves at the first broken rule, passes records that break none, and carries the layer of
--- the next record. Assumes nothing.
-use mathlib.Core.Path.{_≡_, _∙_}
-use Prim.Native.Nat.{_-_, _≤_}
-use native.Mathlib.Nat.{le-refl}
+-- `links::stage_four` meets its contract: the loop leaves at the first broken rule, and passes records that break none. Assumes nothing.
 use native.Mathlib.Omega.{arith}
-use Rattle.verdict.proofs.Parts.{rows-none, rows-pass}
-use Rattle.walk.specs.States.{stateAt, countsAt}
-use Rattle.walk.proofs.Walking.{at-none, next-state}
-use Rattle.walk.proofs.Passing.{pass-most, pass-are-quiet, passed-state}
-use Rattle.layers.specs.Passing.{layerAt}
-use Rattle.layers.proofs.Passing.{rows-start, rows-more, rows-small, layer-start, layer-next, rows-passed, layer-passed}
-use Rattle.links.proofs.StageLaws.{Kept, rule-is, four-passes, four-stops, four-done}
+use mathlib.Core.Path.{_≡_}
 use borrow.Author.Needs.{needs}
+use Prim.Native.Nat.{_-_}
+use Rattle.layers.proofs.Walks.{Stands, stands, records-are, quiet-most, are-quiet, stands-behind, stands-past, records-past}
+use Rattle.layers.proofs.Stages.{Passed, passed-first, passed-more, passed-past, stage-stops, stage-done}
+use Rattle.links.specs.Links.{linksAt, fifth, stageFour}
+use Rattle.links.proofs.StageLaws.{between-fine}
 use Rattle.links.proofs.stage_four.Statement.{statement}
 use Rattle.links.proofs.stage_four.Tie as tie
 
 abbrev Inv-loop : tie.InvT-loop
-Inv-loop file table b n s₀ rows₀ l₀ k₀ s rows l k = (k ≤ n) × (s ≡ stateAt file k) × (rows ≡ countsAt file k .layers) × (l ≡ layerAt file table b k) × Kept file table b k
+Inv-loop file table b n x₀ x = Stands file table b x × Passed fifth (linksAt file table) file table b x
 
 abbrev μ-loop : tie.MeasureT-loop
-μ-loop file table b n s₀ rows₀ l₀ k₀ s rows l k = n - k
+μ-loop file table b n x₀ x = n - x .records
 
 records-of-requires : tie.Need-records-of-requires Inv-loop μ-loop
 records-of-requires c κs = search needs
 
-at-start-requires : tie.Need-at-start-requires Inv-loop μ-loop
-at-start-requires c κs = search needs
-
-layer-in-requires : tie.Need-layer-in-requires Inv-loop μ-loop
-layer-in-requires c κs = search needs
+at-first-requires : tie.Need-at-first-requires Inv-loop μ-loop
+at-first-requires c κs = search needs
 
 loop-holds : tie.Need-loop-holds Inv-loop μ-loop
-loop-holds c = (search needs, c .before .at-start .ensures ∙ at-none _, rows-start _, layer-start _ _ _ (c .layer-in .ensures), rows-none _)
+loop-holds c = (stands _ _ _ (c .at-first .ensures _) (omega arith), passed-first fifth (linksAt _ _) _ _ _ (c .at-first .ensures _))
 
 due-requires : tie.Need-due-requires Inv-loop μ-loop
 due-requires c κs = search needs
@@ -40,89 +32,66 @@ add-judge-record : tie.Need-add-judge-record Inv-loop μ-loop
 add-judge-record c = search needs
 
 judge-record-requires : tie.Need-judge-record-requires Inv-loop μ-loop
-judge-record-requires c κs = omega (arith, c .before .before .before .before .before .records-of .ensures .1, c .before .loop-test .taken)
+judge-record-requires c κs = search needs
 
 enum-told : tie.Need-enum-told Inv-loop μ-loop
 enum-told c = search needs
 
 returns : tie.Need-returns Inv-loop μ-loop
-returns c = four-stops _ _ _ (c .before .before .before .before .before .before .before .before .records-of .ensures .0) _ (c .enum-told .given .1) (rule-is _ _ _ _ (c .before .before .before .before .before .loop .inv .1) (c .before .before .before .due .ensures) (c .before .before .before .before .before .loop .inv .3) (c .before .before .judge-record .ensures)) (c .before .before .before .before .before .loop .inv .4) (c .before .before .before .before .loop-test .taken)
+unfolding stageFour
+returns c =
+    let v = c .before .before in
+    let d = v .before .before in
+    let t = d .before .before .before in
+    let l = t .before .before in
+    let n = l .before .before in
+    let h = rw (d .due .ensures) at (v .judge-record .ensures) in
+    stage-stops fifth (linksAt _ _) _ _ _ (l .loop .inv .0 .here) (n .records-of .ensures .0) (t .if1 .taken) h (c .enum-told .given .1) (l .loop .inv .1)
 
 enum-told-2 : tie.Need-enum-told-2 Inv-loop μ-loop
 enum-told-2 c = search needs
 
-rows-of-requires : tie.Need-rows-of-requires Inv-loop μ-loop
-rows-of-requires c κs = search needs
-
-add-rows : tie.Need-add-rows Inv-loop μ-loop
-add-rows c = omega (arith, rows-small _ _ (c .before .before .before .before .due .result) (c .before .before .before .before .before .before .loop .inv .2) (c .rows-of .ensures), c .before .before .before .before .before .before .before .before .before .records-of .ensures .1, c .before .before .before .before .before .loop-test .taken)
-
-layer-behind-requires : tie.Need-layer-behind-requires Inv-loop μ-loop
-layer-behind-requires c κs = search needs
-
-add-record-view : tie.Need-add-record-view Inv-loop μ-loop
-add-record-view c = search needs
-
-record-view-requires : tie.Need-record-view-requires Inv-loop μ-loop
-record-view-requires c κs = search needs
-
-next-requires : tie.Need-next-requires Inv-loop μ-loop
-next-requires c κs = search needs
-
-add-k : tie.Need-add-k Inv-loop μ-loop
-add-k c = omega (arith, c .before .before .before .before .before .before .before .before .before .before .before .before .records-of .ensures .1, c .before .before .before .before .before .before .before .before .loop-test .taken)
+behind-requires : tie.Need-behind-requires Inv-loop μ-loop
+behind-requires c κs = search needs
 
 between-requires : tie.Need-between-requires Inv-loop μ-loop
 between-requires c κs = search needs
 
-sub-lesser : tie.Need-sub-lesser Inv-loop μ-loop
-sub-lesser c = search needs
-
-lesser-requires : tie.Need-lesser-requires Inv-loop μ-loop
-lesser-requires c κs = search needs
-
-pass-quiet-requires : tie.Need-pass-quiet-requires Inv-loop μ-loop
-pass-quiet-requires c κs = search needs
-
-add-k-2 : tie.Need-add-k-2 Inv-loop μ-loop
-add-k-2 c =
-    let p = c .before .before in
-    let m = p .before in
-    let t = m .before .before .before .before .before .before .before .before .before .before in
-    let n = t .before .before .before .before in
-    omega (arith, n .records-of .ensures .1, t .loop-test .taken, pass-most _ _ (p .pass-quiet .ensures .0), m .lesser .ensures .1)
+past-quiet-requires : tie.Need-past-quiet-requires Inv-loop μ-loop
+past-quiet-requires c κs = search needs
 
 loop-less : tie.Need-loop-less Inv-loop μ-loop
-loop-less c = omega (arith, c .before .before .before .before .before .before .before .before .before .before .before .before .before .loop-test .taken)
+loop-less c =
+    let w = c .before .before .before .before in
+    let t = w .before .before .before .before .before .before .before .before in
+    let l = t .before .before in
+    let n = l .before .before in
+    let y = w .behind .ensures (l .loop .inv .0 .here) (rw (n .records-of .ensures .0) at (t .if1 .taken)) in
+    omega (arith, t .if1 .taken, records-are _ _ _ y, records-past _ _ (c .past-quiet .ensures))
 
 loop-again : tie.Need-loop-again Inv-loop μ-loop
 loop-again c =
-    let p = c .before .before in
-    let m = p .before in
-    let w = m .before in
-    let x = w .before in
-    let y = x .before in
-    let b = y .before in
-    let o = b .before in
-    let u = o .before in
-    let v = u .before .before in
-    let d = v .before in
-    let t = d .before in
-    let l = t .before in
-    let q = pass-are-quiet _ _ (p .pass-quiet .ensures .0) in
-    let e = next-state _ _ {u = x .next .result} (l .loop .inv .1) (rw (← y .record-view .ensures) (x .next .ensures)) in
-    let r = rows-more _ _ (l .loop .inv .1) (d .due .ensures) (o .rows-of .ensures) (l .loop .inv .2) in
-    let g = layer-next _ _ _ _ (l .loop .inv .1) (d .due .ensures) r (l .loop .inv .3) (b .layer-behind .ensures) in
-    let f = rows-pass _ _ (l .loop .inv .4) (rule-is _ _ _ _ (l .loop .inv .1) (d .due .ensures) (l .loop .inv .3) (v .judge-record .ensures)) (u .enum-told2 .given .1) in (
-      omega (arith, t .loop-test .taken, pass-most _ _ (p .pass-quiet .ensures .0), m .lesser .ensures .1),
-      p .pass-quiet .ensures .1 ∙ passed-state _ _ e q _ (le-refl _),
-      rows-passed _ _ e q r,
-      layer-passed _ _ _ _ e q g,
-      four-passes _ _ _ _ e q g (w .between .ensures) (omega (arith, pass-most _ _ (p .pass-quiet .ensures .0), m .lesser .ensures .0)) f,
+    let w = c .before .before .before .before in
+    let v = w .before .before .before in
+    let d = v .before .before in
+    let t = d .before .before .before in
+    let l = t .before .before in
+    let n = l .before .before in
+    let k = rw (n .records-of .ensures .0) at (t .if1 .taken) in
+    let y = w .behind .ensures (l .loop .inv .0 .here) k in
+    let p = stands-behind _ _ _ (l .loop .inv .0) k y in
+    let h = rw (d .due .ensures) at (v .judge-record .ensures) in
+    let f = passed-more fifth (linksAt _ _) _ _ _ (l .loop .inv .0 .here) y h (w .before .enum-told2 .given .1) (l .loop .inv .1) in (
+      stands-past _ _ _ p _ (c .past-quiet .ensures),
+      passed-past fifth (linksAt _ _) _ _ _ (p .here) _ (c .past-quiet .ensures)
+          (between-fine _ _ (w .behind .result) (c .before .between .ensures) (quiet-most _ _ _) (are-quiet _ _ _)) f,
     )
 
 returns-2 : tie.Need-returns-2 Inv-loop μ-loop
-returns-2 c = four-done _ _ _ (c .before .before .before .before .records-of .ensures .0) _ (c .before .loop .inv .4) (c .before .loop .inv .0) (c .loop-test .left)
+unfolding stageFour
+returns-2 c =
+    let l = c .before .before in
+    stage-done fifth (linksAt _ _) _ _ _ (l .loop .inv .0) (l .before .before .records-of .ensures .0) (c .if1 .left) (l .loop .inv .1)
 
 pub stage-four-spec : {M : Type 1} → statement M
 stage-four-spec =
@@ -131,8 +100,7 @@ stage-four-spec =
     Inv-loop
     μ-loop
     records-of-requires
-    at-start-requires
-    layer-in-requires
+    at-first-requires
     loop-holds
     due-requires
     add-judge-record
@@ -140,18 +108,9 @@ stage-four-spec =
     enum-told
     returns
     enum-told-2
-    rows-of-requires
-    add-rows
-    layer-behind-requires
-    add-record-view
-    record-view-requires
-    next-requires
-    add-k
+    behind-requires
     between-requires
-    sub-lesser
-    lesser-requires
-    pass-quiet-requires
-    add-k-2
+    past-quiet-requires
     loop-less
     loop-again
     returns-2)

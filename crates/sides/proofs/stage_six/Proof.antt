@@ -1,40 +1,41 @@
--- `sides::stage_six` meets its contract: the loop leaves at the first broken rule, and carries the layer of the next record and marks that are
--- true. Quiet records have no rule, and leave the layer as it is. Assumes nothing.
+-- `sides::stage_six` meets its contract: the loop leaves at the first broken rule, and keeps marks that are true. Assumes nothing.
 use mathlib.Core.Path.{_≡_, sym, _∙_}
-use Prim.Native.Nat.{ℕ, _-_, _≤_}
-use native.Mathlib.Nat.{le-refl}
+use Prim.Native.Nat.{ℕ, _-_}
 use native.Mathlib.Omega.{arith}
 use lib.ListN.{length, length-replicate}
-use Rattle.verdict.proofs.Parts.{rows-none, rows-pass}
-use Rattle.walk.specs.States.{stateAt, countsAt}
-use Rattle.walk.proofs.Walking.{at-none, next-state}
-use Rattle.walk.proofs.Passing.{pass-most, pass-are-quiet, passed-state}
-use Rattle.layers.specs.Passing.{layerAt}
-use Rattle.layers.proofs.Passing.{rows-start, rows-more, rows-small, rows-passed, layer-start, layer-next, layer-passed}
+use borrow.Author.Needs.{needs}
+use Rattle.layers.proofs.Walks.{Stands, stands, records-are, state-is, stands-behind, stands-past, records-past}
+use Rattle.layers.proofs.Stages.{Passed, passed-first, passed-more, passed-quiet, stage-stops, stage-done}
+use Rattle.sides.specs.Sides.{sidesAt, seventh, stageSix}
 use Rattle.sides.specs.Marking.{Marks}
 use Rattle.sides.proofs.Marked.{no-marks}
-use Rattle.sides.proofs.StageLaws.{due-countable, Kept, six-quiet, rule-is, six-stops, six-done}
-use borrow.Author.Needs.{needs}
+use Rattle.sides.proofs.StageLaws.{due-countable, quiet-none}
 use Rattle.sides.proofs.stage_six.Statement.{statement}
 use Rattle.sides.proofs.stage_six.Tie as tie
 
 abbrev Inv-loop : tie.InvT-loop
-Inv-loop file table b n marks₀ s₀ rows₀ l₀ k₀ marks s rows l k = (k ≤ n) × (s ≡ stateAt file k) × (rows ≡ countsAt file k .layers) × (l ≡ layerAt file table b k) × Kept file table b k × Marks file marks × (length marks ≡ 20000)
+Inv-loop file table b n marks₀ x₀ marks x =
+    Stands file table b x
+    × Passed seventh (sidesAt file table) file table b x
+    × Marks file marks
+    × (length marks ≡ 20000)
 
 abbrev μ-loop : tie.MeasureT-loop
-μ-loop file table b n marks₀ s₀ rows₀ l₀ k₀ marks s rows l k = n - k
+μ-loop file table b n marks₀ x₀ marks x = n - x .records
 
 records-of-requires : tie.Need-records-of-requires Inv-loop μ-loop
 records-of-requires c κs = search needs
 
-at-start-requires : tie.Need-at-start-requires Inv-loop μ-loop
-at-start-requires c κs = search needs
-
-layer-in-requires : tie.Need-layer-in-requires Inv-loop μ-loop
-layer-in-requires c κs = search needs
+at-first-requires : tie.Need-at-first-requires Inv-loop μ-loop
+at-first-requires c κs = search needs
 
 loop-holds : tie.Need-loop-holds Inv-loop μ-loop
-loop-holds c = (search needs, c .before .at-start .ensures ∙ at-none _, rows-start _, layer-start _ _ _ (c .layer-in .ensures), rows-none _, no-marks _ 20000, length-replicate {A = ℕ} 20000 0)
+loop-holds c = (
+  stands _ _ _ (c .at-first .ensures _) (omega arith),
+  passed-first seventh (sidesAt _ _) _ _ _ (c .at-first .ensures _),
+  no-marks _ 20000,
+  length-replicate {A = ℕ} 20000 0,
+)
 
 due-requires : tie.Need-due-requires Inv-loop μ-loop
 due-requires c κs = search needs
@@ -43,75 +44,87 @@ add-judge-record : tie.Need-add-judge-record Inv-loop μ-loop
 add-judge-record c = search needs
 
 slice-aggregate-judge-record : tie.Need-slice-aggregate-judge-record Inv-loop μ-loop
-slice-aggregate-judge-record c = sym (c .before .before .before .loop .inv .6)
+slice-aggregate-judge-record c =
+    let l = c .before .before .before .before .before .before .before in
+    sym (l .loop .inv .3)
 
 judge-record-requires : tie.Need-judge-record-requires Inv-loop μ-loop
-judge-record-requires c κs = (omega (arith, c .before .before .before .before .before .before .records-of .ensures .1, c .before .before .loop-test .taken), due-countable _ _ (c .before .before .before .loop .inv .1) (c .before .due .ensures), c .before .before .before .loop .inv .5)
+judge-record-requires c κs =
+    let d = c .before .before in
+    let t = d .before .before .before in
+    let l = t .before .before in
+    let n = l .before .before in
+    (omega (arith, n .records-of .ensures .1, t .if1 .taken), due-countable _ _ (state-is _ _ _ (l .loop .inv .0 .here)) (d .due .ensures), l .loop .inv .2)
 
 enum-told : tie.Need-enum-told Inv-loop μ-loop
 enum-told c = search needs
 
 returns : tie.Need-returns Inv-loop μ-loop
-returns c = six-stops _ _ _ (c .before .before .before .before .before .before .before .before .before .records-of .ensures .0) _ (c .enum-told .given .1) (rule-is _ _ _ _ (c .before .before .before .before .before .before .loop .inv .1) (c .before .before .before .before .due .ensures) (c .before .before .before .before .before .before .loop .inv .3) (c .before .before .judge-record .ensures)) (c .before .before .before .before .before .before .loop .inv .4) (c .before .before .before .before .before .loop-test .taken)
+unfolding stageSix
+returns c =
+    let v = c .before .before in
+    let d = v .before .before .before in
+    let t = d .before .before .before in
+    let l = t .before .before in
+    let n = l .before .before in
+    let h = rw (d .due .ensures) at (v .judge-record .ensures) in
+    stage-stops seventh (sidesAt _ _) _ _ _ (l .loop .inv .0 .here) (n .records-of .ensures .0) (t .if1 .taken) h (c .enum-told .given .1) (l .loop .inv .1)
 
 enum-told-2 : tie.Need-enum-told-2 Inv-loop μ-loop
 enum-told-2 c = search needs
 
-rows-of-requires : tie.Need-rows-of-requires Inv-loop μ-loop
-rows-of-requires c κs = search needs
-
-add-rows : tie.Need-add-rows Inv-loop μ-loop
-add-rows c = omega (arith, rows-small _ _ (c .before .before .before .before .before .due .result) (c .before .before .before .before .before .before .before .loop .inv .2) (c .rows-of .ensures), c .before .before .before .before .before .before .before .before .before .before .records-of .ensures .1, c .before .before .before .before .before .before .loop-test .taken)
-
-layer-behind-requires : tie.Need-layer-behind-requires Inv-loop μ-loop
-layer-behind-requires c κs = search needs
+behind-requires : tie.Need-behind-requires Inv-loop μ-loop
+behind-requires c κs = search needs
 
 slice-aggregate-mark-behind : tie.Need-slice-aggregate-mark-behind Inv-loop μ-loop
-slice-aggregate-mark-behind c = sym (c .before .before .before .before .before .before .before .before .before .loop .inv .6)
+slice-aggregate-mark-behind c =
+    let l = c .before .before .before .before .before .before .before .before .before .before .before .before .before in
+    sym (l .loop .inv .3)
 
 mark-behind-requires : tie.Need-mark-behind-requires Inv-loop μ-loop
-mark-behind-requires c κs = c .before .before .before .before .before .before .before .before .before .loop .inv .5
+mark-behind-requires c κs =
+    let l = c .before .before .before .before .before .before .before .before .before .before .before .before .before in
+    l .loop .inv .2
 
-add-record-view : tie.Need-add-record-view Inv-loop μ-loop
-add-record-view c = search needs
-
-record-view-requires : tie.Need-record-view-requires Inv-loop μ-loop
-record-view-requires c κs = search needs
-
-next-requires : tie.Need-next-requires Inv-loop μ-loop
-next-requires c κs = search needs
-
-add-k : tie.Need-add-k Inv-loop μ-loop
-add-k c = omega (arith, c .before .before .before .before .before .before .before .before .before .before .before .before .before .before .before .before .records-of .ensures .1, c .before .before .before .before .before .before .before .before .before .before .before .before .loop-test .taken)
-
-sub-pass-quiet : tie.Need-sub-pass-quiet Inv-loop μ-loop
-sub-pass-quiet c = search needs
-
-pass-quiet-requires : tie.Need-pass-quiet-requires Inv-loop μ-loop
-pass-quiet-requires c κs = search needs
-
-add-k-2 : tie.Need-add-k-2 Inv-loop μ-loop
-add-k-2 c = record { fits = omega (arith, pass-most _ _ (c .before .before .pass-quiet .ensures .0), c .before .before .before .before .before .before .before .before .before .before .before .before .before .before .before .loop-test .taken, c .before .before .before .before .before .before .before .before .before .before .before .before .before .before .before .before .before .before .before .records-of .ensures .1) }
+past-quiet-requires : tie.Need-past-quiet-requires Inv-loop μ-loop
+past-quiet-requires c κs = search needs
 
 loop-less : tie.Need-loop-less Inv-loop μ-loop
-loop-less c = omega (arith, pass-most _ _ (c .before .before .pass-quiet .ensures .0), c .before .before .before .before .before .before .before .before .before .before .before .before .before .before .before .loop-test .taken)
+loop-less c =
+    let w = c .before .before .before .before .before in
+    let t = w .before .before .before .before .before .before .before .before .before in
+    let l = t .before .before in
+    let n = l .before .before in
+    let y = w .behind .ensures (l .loop .inv .0 .here) (rw (n .records-of .ensures .0) at (t .if1 .taken)) in
+    omega (arith, t .if1 .taken, records-are _ _ _ y, records-past _ _ (c .past-quiet .ensures))
 
 loop-again : tie.Need-loop-again Inv-loop μ-loop
 loop-again c =
-    let e = next-state _ _ (c .before .before .before .before .before .before .before .before .before .before .before .before .before .before .before .before .loop .inv .1) (rw (c .before .before .before .before .record-view .ensures) at (c .before .before .before .next .ensures)) in
-    let q = pass-are-quiet _ _ (c .before .before .pass-quiet .ensures .0) in
-    let m = rows-more _ _ (c .before .before .before .before .before .before .before .before .before .before .before .before .before .before .before .before .loop .inv .1) (c .before .before .before .before .before .before .before .before .before .before .before .before .before .before .due .ensures) (c .before .before .before .before .before .before .before .before .before .rows-of .ensures) (c .before .before .before .before .before .before .before .before .before .before .before .before .before .before .before .before .loop .inv .2) in (
-      omega (arith, pass-most _ _ (c .before .before .pass-quiet .ensures .0), c .before .before .before .before .before .before .before .before .before .before .before .before .before .before .before .loop-test .taken),
-      c .before .before .pass-quiet .ensures .1 ∙ passed-state _ _ e q _ (le-refl _),
-      rows-passed _ _ e q m,
-      layer-passed _ _ _ _ e q (layer-next _ _ _ _ (c .before .before .before .before .before .before .before .before .before .before .before .before .before .before .before .before .loop .inv .1) (c .before .before .before .before .before .before .before .before .before .before .before .before .before .before .due .ensures) m (c .before .before .before .before .before .before .before .before .before .before .before .before .before .before .before .before .loop .inv .3) (c .before .before .before .before .before .before .before .before .layer-behind .ensures)),
-      six-quiet _ _ _ _ e q (rows-pass _ _ (c .before .before .before .before .before .before .before .before .before .before .before .before .before .before .before .before .loop .inv .4) (rule-is _ _ _ _ (c .before .before .before .before .before .before .before .before .before .before .before .before .before .before .before .before .loop .inv .1) (c .before .before .before .before .before .before .before .before .before .before .before .before .before .before .due .ensures) (c .before .before .before .before .before .before .before .before .before .before .before .before .before .before .before .before .loop .inv .3) (c .before .before .before .before .before .before .before .before .before .before .before .before .judge-record .ensures)) (c .before .before .before .before .before .before .before .before .before .before .enum-told2 .given .1)),
-      c .before .before .before .before .before .before .mark-behind .ensures,
-      c .before .before .before .before .before .before .mark-behind .kept .1 .1 .1 .1 .0 ∙ c .before .before .before .before .before .before .before .before .before .before .before .before .before .before .before .before .loop .inv .6,
+    let m = c .before .before in
+    let w = m .before .before .before in
+    let e = w .before in
+    let v = e .before .before in
+    let d = v .before .before .before in
+    let t = d .before .before .before in
+    let l = t .before .before in
+    let n = l .before .before in
+    let k = rw (n .records-of .ensures .0) at (t .if1 .taken) in
+    let y = w .behind .ensures (l .loop .inv .0 .here) k in
+    let p = stands-behind _ _ _ (l .loop .inv .0) k y in
+    let h = rw (d .due .ensures) at (v .judge-record .ensures) in
+    let f = passed-more seventh (sidesAt _ _) _ _ _ (l .loop .inv .0 .here) y h (e .enum-told2 .given .1) (l .loop .inv .1) in (
+      stands-past _ _ _ p _ (c .past-quiet .ensures),
+      passed-quiet seventh (sidesAt _ _) _ _ _ (p .here) _ (c .past-quiet .ensures) (quiet-none _ _) f,
+      m .mark-behind .ensures,
+      m .mark-behind .kept .1 .1 .1 .1 .0 ∙ l .loop .inv .3,
     )
 
 returns-2 : tie.Need-returns-2 Inv-loop μ-loop
-returns-2 c = six-done _ _ _ (c .before .before .before .before .records-of .ensures .0) _ (c .before .loop .inv .4) (c .before .loop .inv .0) (c .loop-test .left)
+unfolding stageSix
+returns-2 c =
+    let l = c .before .before in
+    let n = l .before .before in
+    stage-done seventh (sidesAt _ _) _ _ _ (l .loop .inv .0) (n .records-of .ensures .0) (c .if1 .left) (l .loop .inv .1)
 
 pub stage-six-spec : {M : Type 1} → statement M
 stage-six-spec =
@@ -120,8 +133,7 @@ stage-six-spec =
     Inv-loop
     μ-loop
     records-of-requires
-    at-start-requires
-    layer-in-requires
+    at-first-requires
     loop-holds
     due-requires
     add-judge-record
@@ -130,18 +142,10 @@ stage-six-spec =
     enum-told
     returns
     enum-told-2
-    rows-of-requires
-    add-rows
-    layer-behind-requires
+    behind-requires
     slice-aggregate-mark-behind
     mark-behind-requires
-    add-record-view
-    record-view-requires
-    next-requires
-    add-k
-    sub-pass-quiet
-    pass-quiet-requires
-    add-k-2
+    past-quiet-requires
     loop-less
     loop-again
     returns-2)
