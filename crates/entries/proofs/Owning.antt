@@ -23,7 +23,7 @@ pub record Inside (file : List ℕ) (k q : ℕ) : Type 0 where
   pub count : ℕ
   pub left : ℕ
   pub due : dueOf (stateAt file (suc k + q)) ≡ Loop last count left
-  pub area : stateAt file (suc k + q) .area ≡ suc (stateAt file k .area)
+  pub area : stateAt file (suc k + q) .layer .area ≡ suc (stateAt file k .layer .area)
   pub layers : countsAt file (suc k + q) .layers ≡ countsAt file k .layers
 
 -- no file ends there
@@ -33,21 +33,21 @@ not-ended v = rw (v .due)
 -- ---- what is due
 
 -- no points are left before an A
-no-points : (s : State) {layer a : ℕ} → dueOf s ≡ Area layer a → s .points ≡ 0
+no-points : (s : State) {layer a : ℕ} → dueOf s ≡ Area layer a → s .line .points ≡ 0
 unfolding dueOf
-no-points s {layer} {a} h = by (ltb 0 (s .points)) refl
+no-points s {layer} {a} h = by (ltb 0 (s .line .points)) refl
   where
-    by : (t : Bool) → ltb 0 (s .points) ≡ t → s .points ≡ 0
-    by true e = let z : Coordinates (s .points) ≡ Area layer a = rw e at h in cc
-    by false e = omega (arith, ltb-false 0 (s .points) e)
+    by : (t : Bool) → ltb 0 (s .line .points) ≡ t → s .line .points ≡ 0
+    by true e = let z : Coordinates (s .line .points) ≡ Area layer a = rw e at h in cc
+    by false e = omega (arith, ltb-false 0 (s .line .points) e)
 
-due-first : (s : State) → s .points ≡ 0 → s .entries ≡ 0 → s .begun < s .loops → dueOf s ≡ Loop (s .begun) (s .count) 0
+due-first : (s : State) → s .line .points ≡ 0 → s .area .entries ≡ 0 → s .area .begun < s .area .loops → dueOf s ≡ Loop (s .area .begun) (s .area .count) 0
 unfolding dueOf
-due-first s p e l = rw (le-ltb 0 (s .points) (omega arith), le-ltb 0 (s .entries) (omega arith), lt-ltb (s .begun) (s .loops) l)
+due-first s p e l = rw (le-ltb 0 (s .line .points) (omega arith), le-ltb 0 (s .area .entries) (omega arith), lt-ltb (s .area .begun) (s .area .loops) l)
 
-due-further : (s : State) → s .points ≡ 0 → 0 < s .entries → dueOf s ≡ Loop (s .begun) (s .count) (s .entries)
+due-further : (s : State) → s .line .points ≡ 0 → 0 < s .area .entries → dueOf s ≡ Loop (s .area .begun) (s .area .count) (s .area .entries)
 unfolding dueOf
-due-further s p l = rw (le-ltb 0 (s .points) (omega arith), lt-ltb 0 (s .entries) l)
+due-further s p l = rw (le-ltb 0 (s .line .points) (omega arith), lt-ltb 0 (s .area .entries) l)
 
 module _ (file : List ℕ) where
   -- behind a record that was due as d
@@ -62,11 +62,11 @@ module _ (file : List ℕ) where
   module _ (k : ℕ) where
     -- behind p records the walk is in the area of record k + 1, and has begun so many loops; of the last so many entries are left
     record Within (p begun left : ℕ) : Type 0 where
-      points : stateAt file p .points ≡ 0
-      loops : stateAt file p .loops ≡ loopsAt file (suc k)
-      begun-is : stateAt file p .begun ≡ begun
-      left-is : stateAt file p .entries ≡ left
-      area : stateAt file p .area ≡ suc (stateAt file k .area)
+      points : stateAt file p .line .points ≡ 0
+      loops : stateAt file p .area .loops ≡ loopsAt file (suc k)
+      begun-is : stateAt file p .area .begun ≡ begun
+      left-is : stateAt file p .area .entries ≡ left
+      area : stateAt file p .layer .area ≡ suc (stateAt file k .layer .area)
       layers : countsAt file p .layers ≡ countsAt file k .layers
 
     moved : {p r b c e f : ℕ} → p ≡ r → b ≡ c → e ≡ f → Within p b e → Within r c f
@@ -85,10 +85,10 @@ module _ (file : List ℕ) where
           layers = next-layers k h;
         }
 
-    first-due : {p b : ℕ} → Within p b 0 → b < loopsAt file (suc k) → dueOf (stateAt file p) ≡ Loop (stateAt file p .begun) (stateAt file p .count) 0
+    first-due : {p b : ℕ} → Within p b 0 → b < loopsAt file (suc k) → dueOf (stateAt file p) ≡ Loop (stateAt file p .area .begun) (stateAt file p .area .count) 0
     first-due {p} w l = due-first (stateAt file p) (w .points) (w .left-is) (omega (arith, w .begun-is, w .loops))
 
-    further-due : {p b e : ℕ} → Within p b e → 0 < e → dueOf (stateAt file p) ≡ Loop (stateAt file p .begun) (stateAt file p .count) (stateAt file p .entries)
+    further-due : {p b e : ℕ} → Within p b e → 0 < e → dueOf (stateAt file p) ≡ Loop (stateAt file p .area .begun) (stateAt file p .area .count) (stateAt file p .area .entries)
     further-due {p} w l = due-further (stateAt file p) (w .points) (omega (arith, w .left-is))
 
     to-first : (p b : ℕ) → Within p b 0 → b < loopsAt file (suc k) → Within (suc p) (suc b) (countAt file (suc p) - 12)

@@ -51,11 +51,11 @@ module _ (file : List ℕ) (p : Passed file) (k : ℕ) (l : k < recordsOf file) 
   abbrev here : layers.Layer
   here = layerAt file (tableOf file) (basesIn file) k
 
-  four-holds : Holding (linkChecks d file (tableOf file) here (stateAt file k .line) (k + 1))
+  four-holds : Holding (linkChecks d file (tableOf file) here (stateAt file k .layer .line) (k + 1))
   unfolding stageFour
   four-holds = rw (← e) (all-hold fifth (k + 1) _ (row-fine _ (recordsOf file) (p .four) k l))
 
-  five-holds : Holding (areaChecks d file (tableOf file) here (stateAt file k .area) (k + 1))
+  five-holds : Holding (areaChecks d file (tableOf file) here (stateAt file k .layer .area) (k + 1))
   unfolding stageFive
   five-holds = rw (← e) (all-hold sixth (k + 1) _ (row-fine _ (recordsOf file) (p .five) k l))
 
@@ -141,7 +141,7 @@ slot-kept file p i a k x e m =
     let o : q < recordsTo file (suc k) (loopsAt file (suc k)) = omega arith in
     let v = inside file k (x .due) q o in
     let w = complete file k (recordsOf file) (x .within) (ended file (p .two)) (x .due) q o in
-    let n : stateAt file j .area ≡ suc a = omega (arith, v .area, number-of areas file k (x .within) _ _ (x .due) .0) in
+    let n : stateAt file j .layer .area ≡ suc a = omega (arith, v .area, number-of areas file k (x .within) _ _ (x .due) .0) in
     let f : layerAt file t b j ≡ layerOf file i = ap (λ (c : ℕ). layerIn t b (c - 1)) (v .layers) ∙ x .layer in
     let four = rw f at (four-holds file p j w (v .due)) in
     let five = rw (f, n) at (five-holds file p j w (v .due)) in

@@ -15,6 +15,7 @@ use Rattle.fields.specs.Number.{numberAt}
 use Rattle.fields.specs.declared.Number as numbers
 use Rattle.fields.specs.declared.Number.the-variants as number
 use Rattle.records.specs.View.{recordOf, numberIn}
+use Rattle.records.specs.Columns.{layerLines}
 use Rattle.records.specs.Layout.{layoutOf}
 use Rattle.records.specs.Reading.{faultOf}
 use Rattle.records.specs.declared.Field.the-variants as field
@@ -30,7 +31,7 @@ use Rattle.asks.specs.Asks.{Ask, permitted, at, layerAsks, coordinateAsks}
 use Rattle.rules.specs.Checks.{asksOf, askedOf, checksOf}
 use Rattle.rules.proofs.Asked.{row-number, number-formed, number-permitted}
 use Rattle.asks.proofs.Slots.{row-at}
-use Rattle.walk.specs.States.{sizeIn, dueOf, nextOf, stateAt, countsAt}
+use Rattle.walk.specs.States.{sizeIn, sizeAt, dueOf, nextOf, stateAt, countsAt}
 use Rattle.walk.specs.Stages.{recordsOf, mayEnd, stageTwo}
 use Rattle.walk.specs.Table.{tableOf}
 use Rattle.walk.specs.Quiet.{Quiet}
@@ -100,14 +101,14 @@ count-most (negsuc n) = omega arith
 
 -- behind the first k records there are points left
 module _ (file : List ℕ) (h : firstBroken (stageTwo file) ≡ Fine) (k : ℕ) (l : k ≤ recordsOf file) where
-  points-quiet : (q : ℕ) → 7 * q < stateAt file k .points → Quiet (stateAt file k) (q + 1)
+  points-quiet : (q : ℕ) → 7 * q < stateAt file k .line .points → Quiet (stateAt file k) (q + 1)
   points-quiet q m = quiet-points (stateAt file k) (q + 1) (omega arith) (omega arith)
 
-  points-due : (q : ℕ) → 7 * q < stateAt file k .points → (j : ℕ) → j ≤ q → dueOf (stateAt file (k + j)) ≡ Coordinates (stateAt file k .points - 7 * j)
-  points-due q m j i = passed-due file k refl (points-quiet q m) j (omega arith) ∙ rw (lt-ltb 0 (stateAt file k .points) (omega arith))
+  points-due : (q : ℕ) → 7 * q < stateAt file k .line .points → (j : ℕ) → j ≤ q → dueOf (stateAt file (k + j)) ≡ Coordinates (stateAt file k .line .points - 7 * j)
+  points-due q m j i = passed-due file k refl (points-quiet q m) j (omega arith) ∙ rw (lt-ltb 0 (stateAt file k .line .points) (omega arith))
 
   -- their records are there
-  points-there : (q : ℕ) → 7 * q < stateAt file k .points → k + q < recordsOf file
+  points-there : (q : ℕ) → 7 * q < stateAt file k .line .points → k + q < recordsOf file
   points-there q m = by (ltb (k + q) (recordsOf file)) refl
     where
       by : (b : Bool) → ltb (k + q) (recordsOf file) ≡ b → k + q < recordsOf file
@@ -118,12 +119,12 @@ module _ (file : List ℕ) (h : firstBroken (stageTwo file) ≡ Fine) (k : ℕ) 
           absurd (false≢true (sym (ap mayEnd (points-due q m (recordsOf file - k) (omega arith))) ∙ rw n (ended file h)))
 
   -- what stands at place j of the record of point i, counted from 0
-  place-sound : (i j c : ℕ) → i < stateAt file k .points → c ≡ 1 + 5 * j → j / 2 ≡ i % 7 → j < 14 → SoundAt (recordOf file (k + 1 + i / 7)) c (coordinateIn (recordOf file (k + 1 + i / 7)) c)
+  place-sound : (i j c : ℕ) → i < stateAt file k .line .points → c ≡ 1 + 5 * j → j / 2 ≡ i % 7 → j < 14 → SoundAt (recordOf file (k + 1 + i / 7)) c (coordinateIn (recordOf file (k + 1 + i / 7)) c)
   place-sound i j c a e f g =
       let q = i / 7 in
       let z : k + 1 + q ≡ k + q + 1 = omega arith in
       rw z
-      (point-sound (stateAt file k .points - 7 * q) (recordOf file (k + q + 1))
+      (point-sound (stateAt file k .line .points - 7 * q) (recordOf file (k + q + 1))
       (two-holds file h (k + q) (points-there q (omega arith)) (points-due q (omega arith) q (omega arith)))
       c j e g (omega arith))
 

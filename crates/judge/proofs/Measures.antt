@@ -85,7 +85,7 @@ measure-place file k l {last = m} e =
 -- the measure in place n is that of the A before which n others stand: the record behind the first k
 pub record MeasureAt (file : List ℕ) (n k : ℕ) : Type 0 where
   pub within : k < recordsOf file
-  pub due : dueOf (stateAt file k) ≡ Area (stateAt file k .layer) (stateAt file k .area)
+  pub due : dueOf (stateAt file k) ≡ Area (stateAt file k .layer .code) (stateAt file k .layer .area)
   pub before : countsAt file k .areas ≡ n
   pub measure : getD (measuresOf file) n (pos 0) ≡ areaMeasureIn file (tableOf file) (layerAt file (tableOf file) (basesIn file) k) (k + 1)
 

@@ -65,7 +65,7 @@ link-orderly (due.Loop last count left) file t l line r = entry-orderly file l r
 -- ---- the stage
 
 at-orderly : (file t : List ℕ) (x : Standing) → Orderly (linksAt file t x)
-at-orderly file t x = link-orderly (dueOf (x .state)) file t (x .layer) (x .state .line) (x .records + 1)
+at-orderly file t x = link-orderly (dueOf (x .state)) file t (x .layer) (x .state .layer .line) (x .records + 1)
 
 module _ (file t : List ℕ) (b : Bases) where
   pub four-sorted : Sorted (stageFour file t b)

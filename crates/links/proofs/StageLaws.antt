@@ -40,12 +40,12 @@ module _ (file t : List ℕ) (l : Layer) (s : State) where
   between-none = record { fine = λ j r i. absurd (omega arith) }
 
   -- n is the line's number of points: fewer are left, and more than seven before each of the records
-  pub between-some : {q n : ℕ} {z : ℤ} → 7 < s .points → s .points < n → q ≡ getD t (l .line + (s .line - 1)) 0
-      → Small z → z ≡ numberIn file q 50 6 → n ≡ size (passed z) → Between file t l s ((s .points - 1) / 7)
+  pub between-some : {q n : ℕ} {z : ℤ} → 7 < s .line .points → s .line .points < n → q ≡ getD t (l .line + (s .layer .line - 1)) 0
+      → Small z → z ≡ numberIn file q 50 6 → n ≡ size (passed z) → Between file t l s ((s .line .points - 1) / 7)
   between-some p u f ok e g = record {
     fine = λ j r i.
-        let d : quietDue s j ≡ due.Coordinates (s .points - 7 * j) = rw (lt-ltb 0 (s .points) (omega arith)) in
-        sym (points-arm file t l (s .line) r d f (points-later file l _ r (s .points - 7 * j) r (omega arith) (omega arith) ok e g));
+        let d : quietDue s j ≡ due.Coordinates (s .line .points - 7 * j) = rw (lt-ltb 0 (s .line .points) (omega arith)) in
+        sym (points-arm file t l (s .layer .line) r d f (points-later file l _ r (s .line .points - 7 * j) r (omega arith) (omega arith) ok e g));
   }
 
 -- ---- records that are passed

@@ -168,7 +168,7 @@ fifth = 5
 
 -- RULES 6.7: the record that comes next where the walk stands at x
 abbrev pub linksAt : List ℕ → List ℕ → Standing → List Check
-linksAt file t x = linkChecks (dueOf (x .state)) file t (x .layer) (x .state .line) (x .records + 1)
+linksAt file t x = linkChecks (dueOf (x .state)) file t (x .layer) (x .state .layer .line) (x .records + 1)
 
 -- RULES 6.7: the whole stage, record by record
 unfoldable pub stageFour : List ℕ → List ℕ → Bases → List Rule

@@ -22,4 +22,4 @@ pub record FirstRepeat (file : List ℕ) (r x : ℕ) : Type 0 where
 
 -- the next h records, where they are quiet, have no broken check: they hold neither the first nor the last point of their line
 pub record Between (file t : List ℕ) (l : Layer) (s : State) (h : ℕ) : Type 0 where
-  pub fine : (j r : ℕ) → j < h → firstBroken (block fifth r (linkChecks (quietDue s j) file t l (s .line) r)) ≡ Fine
+  pub fine : (j r : ℕ) → j < h → firstBroken (block fifth r (linkChecks (quietDue s j) file t l (s .layer .line) r)) ≡ Fine

@@ -411,14 +411,14 @@ fn judge_record(d: Due, file: &[u8], table: &[u32], l: Layer, line: usize, r: us
 fn between(file: &[u8], table: &[u32], l: Layer, s: State) -> usize
     ensures { λ r. ⌜ Between (now (file .entry)) (now (table .entry)) l s r ⌝ }
 {
-    if s.points <= 7 {
+    if s.line.points <= 7 {
         return 0;
     }
-    let q = current_line(table, l, s.line);
-    if permitted::size(records::number_at(file, q, 50, 6)) <= s.points {
+    let q = current_line(table, l, s.layer.line);
+    if permitted::size(records::number_at(file, q, 50, 6)) <= s.line.points {
         return 0;
     }
-    (s.points - 1) / 7
+    (s.line.points - 1) / 7
 }
 
 // Stage 4: every record by what it names.
@@ -430,7 +430,7 @@ pub fn stage_four(file: &[u8], table: &[u32], b: Bases) -> Verdict
     while x.records < n {
         let s = x.state;
         let l = x.layer;
-        let v = judge_record(walk::due(s), file, table, l, s.line, x.records + 1);
+        let v = judge_record(walk::due(s), file, table, l, s.layer.line, x.records + 1);
         if let Verdict::Broken {
             number: _,
             record: _,

@@ -44,7 +44,7 @@ area-orderly (due.Loop last count left) file t l area r = loop-orderly file t l 
 -- ---- the stage
 
 at-orderly : (file t : List ℕ) (x : Standing) → Orderly (areasAt file t x)
-at-orderly file t x = area-orderly (dueOf (x .state)) file t (x .layer) (x .state .area) (x .records + 1)
+at-orderly file t x = area-orderly (dueOf (x .state)) file t (x .layer) (x .state .layer .area) (x .records + 1)
 
 module _ (file t : List ℕ) (b : Bases) where
   pub five-sorted : Sorted (stageFive file t b)

@@ -55,34 +55,34 @@ module _ (file t : List ℕ) (l : Layer) (have : ℕ) (ms : List ℤ) where
 -- ---- before the first H nothing but an M or an H is due
 
 record Bare (s : State) : Type 0 where
-  points : s .points ≡ 0
-  entries : s .entries ≡ 0
-  loops : s .loops ≡ 0
-  nodes : s .nodes ≡ 0
-  lines : s .lines ≡ 0
-  areas : s .areas ≡ 0
+  points : s .line .points ≡ 0
+  entries : s .area .entries ≡ 0
+  loops : s .area .loops ≡ 0
+  nodes : s .layer .nodes ≡ 0
+  lines : s .layer .lines ≡ 0
+  areas : s .layer .areas ≡ 0
 
-bare-due : (s : State) → Bare s → dueOf s ≡ cond (ltb 0 (s .layers)) (due.Layer (s .layer)) (due.Mesh (s .mesh))
+bare-due : (s : State) → Bare s → dueOf s ≡ cond (ltb 0 (s .mesh .layers)) (due.Layer (s .layer .code)) (due.Mesh (s .mesh .code))
 unfolding dueOf
 bare-due s h =
     rw (
-      le-ltb 0 (s .points) (omega (arith, h .points)),
-      le-ltb 0 (s .entries) (omega (arith, h .entries)),
-      le-ltb (s .begun) (s .loops) (omega (arith, h .loops)),
-      le-ltb (s .node) (s .nodes) (omega (arith, h .nodes)),
-      le-ltb (s .line) (s .lines) (omega (arith, h .lines)),
-      le-ltb (s .area) (s .areas) (omega (arith, h .areas)),
+      le-ltb 0 (s .line .points) (omega (arith, h .points)),
+      le-ltb 0 (s .area .entries) (omega (arith, h .entries)),
+      le-ltb (s .area .begun) (s .area .loops) (omega (arith, h .loops)),
+      le-ltb (s .layer .node) (s .layer .nodes) (omega (arith, h .nodes)),
+      le-ltb (s .layer .line) (s .layer .lines) (omega (arith, h .lines)),
+      le-ltb (s .layer .area) (s .layer .areas) (omega (arith, h .areas)),
     )
 
 module _ (file : List ℕ) where
-  bare-next : (k : ℕ) → Bare (stateAt file k) → countsAt file (suc k) .layers ≡ 0 → (b : Bool) → ltb 0 (stateAt file k .layers) ≡ b
+  bare-next : (k : ℕ) → Bare (stateAt file k) → countsAt file (suc k) .layers ≡ 0 → (b : Bool) → ltb 0 (stateAt file k .mesh .layers) ≡ b
       → Bare (stateAt file (suc k))
   unfolding stateAt nextOf countsAt
   bare-next k h c true e =
-      let d : dueOf (stateAt file k) ≡ due.Layer (stateAt file k .layer) = bare-due (stateAt file k) h ∙ rw e in
+      let d : dueOf (stateAt file k) ≡ due.Layer (stateAt file k .layer .code) = bare-due (stateAt file k) h ∙ rw e in
       absurd (omega (arith, rw d at c))
   bare-next k h c false e =
-      let d : dueOf (stateAt file k) ≡ due.Mesh (stateAt file k .mesh) = bare-due (stateAt file k) h ∙ rw e in
+      let d : dueOf (stateAt file k) ≡ due.Mesh (stateAt file k .mesh .code) = bare-due (stateAt file k) h ∙ rw e in
       rw d (record { points = refl; entries = refl; loops = refl; nodes = refl; lines = refl; areas = refl })
 
   bare-at : (k : ℕ) → countsAt file k .layers ≡ 0 → Bare (stateAt file k)
@@ -90,7 +90,7 @@ module _ (file : List ℕ) where
   bare-at zero c = record { points = refl; entries = refl; loops = refl; nodes = refl; lines = refl; areas = refl }
   bare-at (suc k) c =
       let u = rw (← add-one k) at c in
-      bare-next k (bare-at k (omega (arith, counts-step file k, u))) c (ltb 0 (stateAt file k .layers)) refl
+      bare-next k (bare-at k (omega (arith, counts-step file k, u))) c (ltb 0 (stateAt file k .mesh .layers)) refl
 
 module _ (file t : List ℕ) (l : Layer) (ms : List ℤ) where
   any-kept : (d : Due) → Kept file t l ms → KeptFor d file t l ms
@@ -116,7 +116,7 @@ kept-for file t b {x} e {d} f ms h = by (ltb 0 (x .rows)) refl
     by false q =
         let z = bare-due (stateAt file (x .records)) (bare-at file (x .records) (omega (arith, rows-are file t b e, ltb-false 0 (x .rows) q))) in
         rw (f, state-is file t b e, z)
-        (none-kept file t (x .layer) ms (ltb 0 (stateAt file (x .records) .layers)) (stateAt file (x .records) .layer) (stateAt file (x .records) .mesh))
+        (none-kept file t (x .layer) ms (ltb 0 (stateAt file (x .records) .mesh .layers)) (stateAt file (x .records) .layer .code) (stateAt file (x .records) .mesh .code))
 
 -- ---- slots that repeat none
 
@@ -133,7 +133,7 @@ module _ (file t : List ℕ) (l y : Layer) (s : State) (w : List ℕ) where
   none-known a h = rw h (unrepeated-none file a)
 
   -- case by case: another layer than l begins behind an H only, and an A alone raises the count of areas
-  known-by : (d : Due) {n : ℕ} → KnownBehind d file t l (s .area) n → Unrepeated file (areaRecord t (cond (isLayer d) y l) (nextFor d s w .area)) n
+  known-by : (d : Due) {n : ℕ} → KnownBehind d file t l (s .layer .area) n → Unrepeated file (areaRecord t (cond (isLayer d) y l) (nextFor d s w .layer .area)) n
   known-by (due.Mesh last) h = none-known _ h
   known-by (due.Layer last) h = none-known _ h
   known-by (due.Node layer last) h = none-known _ h
@@ -171,7 +171,7 @@ module _ (file t : List ℕ) (b : Bases) {x : Standing} (e : x ≡ standingAt fi
   kept-next k r l s = kept-by (isLayer d) k r (layer-sound l s) (rw f (rows-behind file t b e q)) (rw f (layer-behind file t b e q))
 
   -- the slots that are known are those of its area
-  pub known-next : {n : ℕ} → KnownBehind d file t (x .layer) (x .state .area) n → Unrepeated file (areaRecord t (y .layer) (y .state .area)) n
+  pub known-next : {n : ℕ} → KnownBehind d file t (x .layer) (x .state .layer .area) n → Unrepeated file (areaRecord t (y .layer) (y .state .layer .area)) n
   unfolding nextOf
   known-next h =
       rw (state-behind file t b e q, layer-behind file t b e q, ← f)
@@ -181,4 +181,4 @@ module _ (file t : List ℕ) (b : Bases) {x : Standing} (e : x ≡ standingAt fi
 
 pub quiet-none : (file t : List ℕ) (x : Standing) → isQuiet (dueOf (x .state)) ≡ true → areasAt file t x ≡ []
 quiet-none file t x =
-    by-quiet (λ d. areaChecks d file t (x .layer) (x .state .area) (x .records + 1) ≡ []) (λ layer last. refl) (λ left. refl) (dueOf (x .state))
+    by-quiet (λ d. areaChecks d file t (x .layer) (x .state .layer .area) (x .records + 1) ≡ []) (λ layer last. refl) (λ left. refl) (dueOf (x .state))

@@ -102,7 +102,7 @@ sixth = 6
 
 -- RULES 6.8: the record that comes next where the walk stands at x
 abbrev pub areasAt : List ℕ → List ℕ → Standing → List Check
-areasAt file t x = areaChecks (dueOf (x .state)) file t (x .layer) (x .state .area) (x .records + 1)
+areasAt file t x = areaChecks (dueOf (x .state)) file t (x .layer) (x .state .layer .area) (x .records + 1)
 
 -- RULES 6.8: the whole stage, record by record
 unfoldable pub stageFive : List ℕ → List ℕ → Bases → List Rule

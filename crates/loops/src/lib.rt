@@ -421,7 +421,7 @@ pub fn stage_five(file: &[u8], table: &[u32], b: Bases) -> Verdict
             table,
             l,
             &kept[..have],
-            s.area,
+            s.layer.area,
             known,
             x.records + 1,
         );
@@ -432,7 +432,7 @@ pub fn stage_five(file: &[u8], table: &[u32], b: Bases) -> Verdict
         } = v {
             return v;
         }
-        known = known_behind(d, file, table, l, s.area, known, &mut marks);
+        known = known_behind(d, file, table, l, s.layer.area, known, &mut marks);
         x = layers::behind(file, table, b, x);
         let layer = x.layer;
         have = kept_behind(d, file, table, layer, have, &mut kept);

@@ -146,7 +146,7 @@ areaText x m =
 
 -- RULES 12.2: of the A record t, due in the state s: its code at 5, its serial at 10 (RULES 4.6); layer is the layer code
 unfoldable pub shownIn : State → List ℕ → Shown
-shownIn s t = record { mesh = s .mesh; layer = s .layer; area = sizeIn t 10 5; code = sizeIn t 5 5 }
+shownIn s t = record { mesh = s .mesh .code; layer = s .layer .code; area = sizeIn t 10 5; code = sizeIn t 5 5 }
 
 -- RULES 12.2: of the record t, due as d, where m is the measure: only an A has a line
 unfoldable pub recordText : Due → State → List ℕ → ℤ → List ℕ

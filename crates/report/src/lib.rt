@@ -112,8 +112,8 @@ fn shown_of(s: State, t: &[u8]) -> Shown
     ensures { λ r. ⌜ r ≡ shownIn s (now (t .entry)) ⌝ }
 {
     Shown {
-        mesh: s.mesh,
-        layer: s.layer,
+        mesh: s.mesh.code,
+        layer: s.layer.code,
         area: walk::size_in(t, 10, 5),
         code: walk::size_in(t, 5, 5),
     }

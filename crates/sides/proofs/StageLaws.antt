@@ -60,7 +60,7 @@ module _ (file t : List ℕ) (l : Layer) (r n : ℕ) {a : Bool} (p : a ≡ sideL
 
 -- ---- a line can be counted, since an H's number of lines has at most 6 digits
 
-lines-next : (d : Due) (s : State) (t : List ℕ) → s .lines ≤ 999999 → nextFor d s t .lines ≤ 999999
+lines-next : (d : Due) (s : State) (t : List ℕ) → s .layer .lines ≤ 999999 → nextFor d s t .layer .lines ≤ 999999
 lines-next (due.Mesh last) s t h = lit≤ tt
 lines-next (due.Layer last) s t h = size-small t 10 5
 lines-next (due.Node layer last) s t h = h
@@ -70,12 +70,12 @@ lines-next (due.Area layer last) s t h = h
 lines-next (due.Loop last count zero) s t h = h
 lines-next (due.Loop last count (suc left)) s t h = h
 
-lines-small : (file : List ℕ) (k : ℕ) → stateAt file k .lines ≤ 999999
+lines-small : (file : List ℕ) (k : ℕ) → stateAt file k .layer .lines ≤ 999999
 unfolding stateAt nextOf
 lines-small file zero = lit≤ tt
 lines-small file (suc k) = lines-next (dueOf (stateAt file k)) (stateAt file k) (recordOf file (suc k)) (lines-small file k)
 
-state-countable : (s : State) → s .lines ≤ 999999 → Countable (dueOf s)
+state-countable : (s : State) → s .layer .lines ≤ 999999 → Countable (dueOf s)
 state-countable s h = by-due Countable s (λ _. tt) (λ _. tt) (λ _. tt) (λ _. tt) (λ l. omega arith) (λ _ _. tt) (λ _. tt) (λ _. tt)
 
 pub due-countable : (file : List ℕ) (k : ℕ) {s : State} {d : Due} → s ≡ stateAt file k → d ≡ dueOf s → Countable d

@@ -25,7 +25,7 @@ Inv-loop file table b n kept₀ marks₀ have₀ known₀ x₀ kept marks have k
     × (length kept ≡ 9999)
     × (length marks ≡ 20000)
     × (SoundTable file table b → 0 < x .rows → Kept file table (x .layer) (take have kept))
-    × Unrepeated file (areaRecord table (x .layer) (x .state .area)) known
+    × Unrepeated file (areaRecord table (x .layer) (x .state .layer .area)) known
 
 abbrev μ-loop : tie.MeasureT-loop
 μ-loop file table b n kept₀ marks₀ have₀ known₀ x₀ kept marks have known x = n - x .records
