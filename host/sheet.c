@@ -34,20 +34,23 @@ void sheet_free(Sheet *sheet)
     free(sheet->measures);
 }
 
+/* A row of the table (stragumella.h): how many words it has, and which word is what. */
+enum { HEADER_WORD, NODES_WORD, LINES_WORD, AREAS_WORD, ROW_WORDS };
+
 Row sheet_row(const Sheet *sheet, size_t layer)
 {
-    const uint32_t *w = sheet->table + 4 * layer;
-    return (Row){.header = w[0], .nodes = w[1], .lines = w[2], .areas = w[3]};
+    const uint32_t *w = sheet->table + ROW_WORDS * layer;
+    return (Row){.header = w[HEADER_WORD], .nodes = w[NODES_WORD], .lines = w[LINES_WORD], .areas = w[AREAS_WORD]};
 }
 
-/* The words of a table are 4 + lines + areas for each row, so the rows end where they add up. */
+/* The words of a table are a row, the lines and the areas of each layer, so the rows end where these add up. */
 size_t sheet_rows(const Sheet *sheet)
 {
     size_t rows = 0;
     size_t words = 0;
     while (words < sheet->words) {
         Row row = sheet_row(sheet, rows);
-        words += (size_t)4 + row.lines + row.areas;
+        words += (size_t)ROW_WORDS + row.lines + row.areas;
         rows++;
     }
     return rows;
@@ -55,7 +58,7 @@ size_t sheet_rows(const Sheet *sheet)
 
 const uint32_t *sheet_lines(const Sheet *sheet)
 {
-    return sheet->table + 4 * sheet_rows(sheet);
+    return sheet->table + ROW_WORDS * sheet_rows(sheet);
 }
 
 /* A record that the file's end cuts is handed over as it is; the library refuses it. */

@@ -11,6 +11,7 @@ use lib.IntN.{ℤ, pos, negsuc}
 use lib.ListN.{getD}
 use borrow.Author.Tests.{eqb-true}
 use Rattle.records.specs.View.{numberIn}
+use Rattle.records.specs.Columns.{leftArea, rightArea, valueAt}
 use Rattle.verdict.specs.declared.Verdict.the-variants.{Fine}
 use Rattle.verdict.specs.Rules.{firstBroken}
 use Rattle.verdict.proofs.Holding.{row-fine, Holding, all-hold}
@@ -103,8 +104,8 @@ kept-by file t l r n e four six =
     let p = left-named file t l r four in
     let q = right-named file t l r four in
     record {
-      left = rw e (names-most (l .areas) (numberIn file r 35 5) p);
-      right = rw e (names-most (l .areas) (numberIn file r 45 5) q);
+      left = rw e (names-most (l .areas) (valueAt file r leftArea) p);
+      right = rw e (names-most (l .areas) (valueAt file r rightArea) q);
       leftLists = rw e (side-lists file t l r 35 true n p (left-listed file t l r n six));
       rightLists = rw e (side-lists file t l r 45 false n q (right-listed file t l r n six));
     }

@@ -8,7 +8,7 @@
 use mathlib.Core.List.{List, [], _++_}
 use Prim.Native.Nat.{ℕ, zero, suc}
 use lib.IntN.{ℤ, pos}
-use Rattle.records.specs.View.{numberIn}
+use Rattle.records.specs.Columns.{leftArea, rightArea, valueAt}
 use Rattle.permitted.specs.Permitted.{size}
 use Rattle.measures.specs.Sum.{sumTo}
 use Rattle.measures.specs.Measures.{outside}
@@ -26,12 +26,12 @@ areaOfLayer file t l a = areaMeasureIn file t l (areaOf t l (pos a))
 unfoldable pub areasSum : List ℕ → List ℕ → Layer → ℤ
 areasSum file t l = sumTo (l .areas) (areaOfLayer file t l)
 
--- RULES 4.4: line n's left area at 35, its right area at 45
+-- RULES 4.4: line n's left area, its right area
 unfoldable pub leftOf : List ℕ → List ℕ → Layer → ℕ → ℕ
-leftOf file t l n = size (numberIn file (lineOf t l (pos n)) 35 5)
+leftOf file t l n = size (valueAt file (lineOf t l (pos n)) leftArea)
 
 unfoldable pub rightOf : List ℕ → List ℕ → Layer → ℕ → ℕ
-rightOf file t l n = size (numberIn file (lineOf t l (pos n)) 45 5)
+rightOf file t l n = size (valueAt file (lineOf t l (pos n)) rightArea)
 
 -- RULES 7.4: the outside sum adds the measure of each line whose left area is 0 and whose right area is not, and takes away that of each
 -- line whose right area is 0 and whose left area is not

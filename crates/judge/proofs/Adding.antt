@@ -16,8 +16,9 @@ use lib.Signed.{mag}
 use mir.Facts.{toZ-ofZ, toZ-pos}
 use mir.Syntax.{w32, w64}
 use mir.Val.{SFits, toZ, ofZ, hbits}
-use Rattle.records.specs.View.{numberIn}
+use Rattle.records.specs.Columns.{leftArea, rightArea, valueAt}
 use Rattle.permitted.specs.Permitted.{size, same}
+use Rattle.walk.specs.Row.{areasWord}
 use Rattle.walk.proofs.Stores.{more-filled, filled-length}
 use Rattle.links.specs.Links.{isZero}
 use Rattle.links.proofs.Numbers.{told}
@@ -133,13 +134,13 @@ module _ (file t : List ℕ) (l : Layer) where
     pub left : a ≡ eqb (leftOf file t l n) 0
     pub right : b ≡ eqb (rightOf file t l n) 0
 
-  pub sided : (n : ℕ) {r : ℕ} {x y : ℤ} {a b : Bool} → n ≤ 9999 → r ≡ lineOf t l (toZ w32 n) → mag x < 2 ^ hbits w32 → x ≡ numberIn file r 35 5 → a ≡ isZero (toZ w32 (ofZ w32 x))
-      → mag y < 2 ^ hbits w32 → y ≡ numberIn file r 45 5 → b ≡ isZero (toZ w32 (ofZ w32 y))
+  pub sided : (n : ℕ) {r : ℕ} {x y : ℤ} {a b : Bool} → n ≤ 9999 → r ≡ lineOf t l (toZ w32 n) → mag x < 2 ^ hbits w32 → x ≡ valueAt file r leftArea → a ≡ isZero (toZ w32 (ofZ w32 x))
+      → mag y < 2 ^ hbits w32 → y ≡ valueAt file r rightArea → b ≡ isZero (toZ w32 (ofZ w32 y))
       → Sided n a b
   unfolding leftOf rightOf
   sided n h e f p u g q v =
       let w = e ∙ ap (lineOf t l) (toZ-pos w32 {n = n} (omega arith)) in
-      record { left = told isZero f (p ∙ ap (λ r. numberIn file r 35 5) w) u; right = told isZero g (q ∙ ap (λ r. numberIn file r 45 5) w) v }
+      record { left = told isZero f (p ∙ ap (λ r. valueAt file r leftArea) w) u; right = told isZero g (q ∙ ap (λ r. valueAt file r rightArea) w) v }
 
   -- the answer s says whether both are 0, or neither
   module _ (n : ℕ) {a b s : Bool} (d : Sided n a b) (e : s ≡ same a b) where
@@ -175,30 +176,30 @@ module _ (file t : List ℕ) (l : Layer) where
 -- ---- layers
 
 module _ (t : List ℕ) (b : Bases) where
-  row-areas : (i : ℕ) → i ≤ 6399936 → layerIn t b i .areas ≡ rowWord t i 3
+  row-areas : (i : ℕ) → i ≤ 6399936 → layerIn t b i .areas ≡ rowWord t i areasWord
   row-areas i h = ap (λ (l : Layer). l .areas) (row-layer t b i h)
 
   -- the areas of the layers before row i and its own are some of those of n rows
-  pub areas-more : (i n : ℕ) → i < n → n ≤ 6399936 → wordsBefore t 3 i + layerIn t b i .areas ≤ wordsBefore t 3 n
-  areas-more i n h f = rw (row-areas i (omega arith)) (words-more t 3 i n h)
+  pub areas-more : (i n : ℕ) → i < n → n ≤ 6399936 → wordsBefore t areasWord i + layerIn t b i .areas ≤ wordsBefore t areasWord n
+  areas-more i n h f = rw (row-areas i (omega arith)) (words-more t areasWord i n h)
 
-  words-up : (i n : ℕ) → i ≤ n → n ≤ 6399936 → wordsBefore t 3 i ≤ wordsBefore t 3 n
+  words-up : (i n : ℕ) → i ≤ n → n ≤ 6399936 → wordsBefore t areasWord i ≤ wordsBefore t areasWord n
   words-up i n h f = ⊎-elim (λ e. rw e (omega arith)) (λ l. omega (arith, areas-more i n l f)) (eq-or-lt-of-le h)
 
   module _ (file : List ℕ) where
     -- as many measures as areas
-    pub measures-many : (n : ℕ) → n ≤ 6399936 → length (measuresTo file t b n) ≡ wordsBefore t 3 n
+    pub measures-many : (n : ℕ) → n ≤ 6399936 → length (measuresTo file t b n) ≡ wordsBefore t areasWord n
     unfolding measuresTo wordsBefore
     measures-many zero h = refl
     measures-many (suc n) h = rw (length-append, measures-many n (omega arith), first-many, row-areas n (omega arith))
 
-    filled-many : (n : ℕ) (ms : List ℤ) → n ≤ 6399936 → wordsBefore t 3 n ≤ length ms → length (filledTo file t b n ms) ≡ length ms
+    filled-many : (n : ℕ) (ms : List ℤ) → n ≤ 6399936 → wordsBefore t areasWord n ≤ length ms → length (filledTo file t b n ms) ≡ length ms
     unfolding filledTo
     filled-many n ms h f = filled-length (measuresTo file t b n) ms (rw (measures-many n h) f)
 
     -- a layer's measures behind those of the layers before it
-    layer-filled : (i : ℕ) (ms : List ℤ) → i < 6399936 → wordsBefore t 3 i + layerIn t b i .areas ≤ length ms
-        → sets (filledTo file t b i ms) (wordsBefore t 3 i) (firstOf (λ a. areaOfLayer file t (layerIn t b i) (suc a)) (layerIn t b i .areas)) ≡ filledTo file t b (i + 1) ms
+    layer-filled : (i : ℕ) (ms : List ℤ) → i < 6399936 → wordsBefore t areasWord i + layerIn t b i .areas ≤ length ms
+        → sets (filledTo file t b i ms) (wordsBefore t areasWord i) (firstOf (λ a. areaOfLayer file t (layerIn t b i) (suc a)) (layerIn t b i .areas)) ≡ filledTo file t b (i + 1) ms
     unfolding filledTo measuresTo
     layer-filled i ms h f =
         rw (add-one, ← measures-many i (omega arith))
@@ -210,7 +211,7 @@ module _ (t : List ℕ) (b : Bases) where
     none-filled ms = refl
 
     -- the first i of n layers are filled into what held `entry`; l is the next one
-    module _ (n i : ℕ) (entry : List ℤ) {at : ℕ} {ms : List ℤ} (f : Fillable file t b n (length entry)) (p : at ≡ wordsBefore t 3 i) (q : ms ≡ filledTo file t b i entry) where
+    module _ (n i : ℕ) (entry : List ℤ) {at : ℕ} {ms : List ℤ} (f : Fillable file t b n (length entry)) (p : at ≡ wordsBefore t areasWord i) (q : ms ≡ filledTo file t b i entry) where
       pub same-many : i ≤ n → length ms ≡ length entry
       same-many h = rw q (filled-many i entry (omega (arith, f .few)) (omega (arith, words-up i n h (f .few), f .places)))
 
@@ -221,7 +222,7 @@ module _ (t : List ℕ) (b : Bases) where
         pub layer-summable : Summable file t l
         layer-summable = rw e (f .sums i h)
 
-        pub at-more : at + l .areas ≡ wordsBefore t 3 (i + 1)
+        pub at-more : at + l .areas ≡ wordsBefore t areasWord (i + 1)
         unfolding wordsBefore
         at-more = rw (add-one, p, e, row-areas i (omega (arith, f .few)))
 

@@ -13,6 +13,7 @@ use lib.Seq.{getD-append-add}
 use Rattle.verdict.specs.declared.Verdict.the-variants.{Fine}
 use Rattle.verdict.proofs.Parts.{both-fine}
 use Rattle.rules.specs.declared.Due.the-variants.{Area}
+use Rattle.walk.specs.Row.{areasWord}
 use Rattle.walk.specs.States.{dueOf, stateAt, countsAt}
 use Rattle.walk.specs.Stages.{recordsOf}
 use Rattle.walk.specs.Table.{tableOf}
@@ -40,23 +41,23 @@ module _ (t : List ℕ) (b : Bases) (file : List ℕ) where
 
   -- area m of the last layer, and of one before it
   last-measure : (i m : ℕ) → i ≤ 6399936 → m < layerIn t b i .areas
-      → getD (measuresTo file t b (suc i)) (wordsBefore t 3 i + m) (pos 0) ≡ areaOfLayer file t (layerIn t b i) (suc m)
+      → getD (measuresTo file t b (suc i)) (wordsBefore t areasWord i + m) (pos 0) ≡ areaOfLayer file t (layerIn t b i) (suc m)
   unfolding measuresTo
   last-measure i m f a =
       rw (← measures-many t b file i f)
       (getD-append-add (measuresTo file t b i) (ofLayer i) m (pos 0) ∙ first-at (λ a. areaOfLayer file t (layerIn t b i) (suc a)) (pos 0) (layerIn t b i .areas) m a)
 
   layer-measure : (n i m : ℕ) → n ≤ 6399936 → i < n → m < layerIn t b i .areas
-      → getD (measuresTo file t b n) (wordsBefore t 3 i + m) (pos 0) ≡ areaOfLayer file t (layerIn t b i) (suc m)
+      → getD (measuresTo file t b n) (wordsBefore t areasWord i + m) (pos 0) ≡ areaOfLayer file t (layerIn t b i) (suc m)
   unfolding measuresTo
   layer-measure zero i m f l a = absurd (omega arith)
   layer-measure (suc n) i m f l a =
       ⊎-elim
       (λ e.
-      subst (λ (j : ℕ). getD (measuresTo file t b (suc j)) (wordsBefore t 3 i + m) (pos 0) ≡ areaOfLayer file t (layerIn t b i) (suc m)) e
+      subst (λ (j : ℕ). getD (measuresTo file t b (suc j)) (wordsBefore t areasWord i + m) (pos 0) ≡ areaOfLayer file t (layerIn t b i) (suc m)) e
       (last-measure i m (omega arith) a))
       (λ u.
-      List·getD-append (measuresTo file t b n) (ofLayer n) (pos 0) (wordsBefore t 3 i + m)
+      List·getD-append (measuresTo file t b n) (ofLayer n) (pos 0) (wordsBefore t areasWord i + m)
       (rw (measures-many t b file n (omega arith)) (omega (arith, areas-more t b i n u (omega arith))))
       ∙ layer-measure n i m (omega arith) u a)
       (eq-or-lt-of-le (le-of-suc-le-suc l))

@@ -2,6 +2,7 @@
 use mathlib.Core.List.{List}
 use Prim.Native.Nat.{ℕ, _≤_, _<_}
 use lib.IntN.{ℤ, pos}
+use Rattle.walk.specs.Row.{areasWord}
 use Rattle.walk.specs.Table.{filled}
 use Rattle.measures.specs.Measures.{areaMeasure, outside}
 use Rattle.measures.specs.Sum.{sumTo}
@@ -41,7 +42,7 @@ pub record Summable (file t : List ℕ) (l : Layer) : Type 0 where
 pub record Fillable (file t : List ℕ) (b : Bases) (n room : ℕ) : Type 0 where
   pub few : n ≤ 6399936
   pub sums : (i : ℕ) → i < n → Summable file t (layerIn t b i)
-  pub places : wordsBefore t 3 n ≤ room
+  pub places : wordsBefore t areasWord n ≤ room
 
 -- the measures of the first n layers in front, and what stood in ms behind them
 unfoldable pub filledTo : List ℕ → List ℕ → Bases → ℕ → List ℤ → List ℤ

@@ -62,7 +62,7 @@ fn bases_of(c: Counts) -> Bases
     requires { ⌜ (c .layers ≤ 6399936) × (c .lines ≤ 6399936) ⌝ }
     ensures { λ r. ⌜ r ≡ basesOf c ⌝ }
 {
-    let rows = 4 * c.layers;
+    let rows = walk::ROW_LENGTH * c.layers;
     Bases {
         lines: rows as u32,
         areas: (rows + c.lines) as u32,
@@ -194,8 +194,8 @@ fn outside_at(file: &[u8], table: &[u32], l: Layer, kept: &[i64], n: usize) -> i
 {
     let v = n as i32;
     let r = layers::line_of(table, l, v);
-    let left = links::is_zero(records::number_at(file, r, 35, 5));
-    let right = links::is_zero(records::number_at(file, r, 45, 5));
+    let left = links::is_zero(records::value_at(file, r, records::LEFT_AREA));
+    let right = links::is_zero(records::value_at(file, r, records::RIGHT_AREA));
     if permitted::same(left, right) {
         return 0;
     }

@@ -6,6 +6,7 @@ use Prim.Native.Nat.{ℕ, suc, _+_, _<_}
 use lib.IntN.{pos}
 use lib.ListN.{getD}
 use Rattle.records.specs.View.{recordOf, numberIn}
+use Rattle.records.specs.Columns.{areaCode, areaSerial, valueAt}
 use Rattle.permitted.specs.Permitted.{size}
 use Rattle.rules.specs.declared.Due.the-variants.{Area}
 use Rattle.walk.specs.declared.State.{State}
@@ -19,11 +20,11 @@ use Rattle.judge.proofs.Measures.{measure-place}
 use Rattle.report.specs.Texts.{shownIn, areaText, recordText}
 
 -- RULES 4.6: an A's serial at 10, its code at 5
-pub serial-told : (file : List ℕ) (s : State) (k : ℕ) → shownIn s (recordOf file k) .area ≡ size (numberIn file k 10 5)
+pub serial-told : (file : List ℕ) (s : State) (k : ℕ) → shownIn s (recordOf file k) .area ≡ size (valueAt file k areaSerial)
 unfolding shownIn sizeIn numberIn
 serial-told file s k = refl
 
-pub code-told : (file : List ℕ) (s : State) (k : ℕ) → shownIn s (recordOf file k) .code ≡ size (numberIn file k 5 5)
+pub code-told : (file : List ℕ) (s : State) (k : ℕ) → shownIn s (recordOf file k) .code ≡ size (valueAt file k areaCode)
 unfolding shownIn sizeIn numberIn
 code-told file s k = refl
 

@@ -27,7 +27,7 @@ unfolding measureText
 measure-long input h = rw (lt-ltb mostBytes (length input) (omega arith))
 
 -- the answer o, with room enough
-module _ (input : List ℕ) (h : length input ≤ 65490) {room places : ℕ} (a : 3540 ≤ room) (b : 442 ≤ places) {o : Outcome}
+module _ (input : List ℕ) (h : length input ≤ 65490) {room places : ℕ} (a : rowLength * 885 ≤ room) (b : 442 ≤ places) {o : Outcome}
     (e : o ≡ outcomeOf input room places) where
   told : o ≡ answerTo input
   told = e ∙ lent-answer input h a b

@@ -18,7 +18,7 @@ use Rattle.report.proofs.Areas.{few-records}
 pub answer-roomy : (file : List ℕ) → (answerTo file .number ≡ 9 → ⊥) × (answerTo file .number ≡ 19 → ⊥)
 answer-roomy file = (room-enough file (needOf file) (needOf file) (le-refl _), places-enough file (needOf file) (needOf file) (le-refl _))
 
-module _ (file : List ℕ) (h : length file ≤ 65490) {room places : ℕ} (a : 3540 ≤ room) (b : 442 ≤ places) where
+module _ (file : List ℕ) (h : length file ≤ 65490) {room places : ℕ} (a : rowLength * 885 ≤ room) (b : 442 ≤ places) where
   enough : Enough file room places
   enough =
       let n = few-records file h in

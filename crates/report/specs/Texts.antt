@@ -12,10 +12,11 @@ use lib.Dec.{eqb, ltb}
 use lib.IntN.{ℤ, pos, negsuc}
 use lib.ListN.{length, getD}
 use Rattle.records.specs.View.{recordOf}
+use Rattle.records.specs.Columns.{areaCode, areaSerial}
 use Rattle.rules.specs.declared.Due.{Due}
 use Rattle.rules.specs.declared.Due.the-variants.{Mesh, Layer, Node, Line, Coordinates, Area, Loop}
 use Rattle.walk.specs.declared.State.{State}
-use Rattle.walk.specs.States.{sizeIn, dueOf, stateAt, countsAt}
+use Rattle.walk.specs.States.{sizeAt, dueOf, stateAt, countsAt}
 use Rattle.walk.specs.Stages.{recordsOf, needOf}
 use Rattle.judge.specs.declared.Outcome.{Outcome}
 use Rattle.judge.specs.Outcomes.{outcomeOf, measuresOf}
@@ -146,7 +147,7 @@ areaText x m =
 
 -- RULES 12.2: of the A record t, due in the state s: its code at 5, its serial at 10 (RULES 4.6); layer is the layer code
 unfoldable pub shownIn : State → List ℕ → Shown
-shownIn s t = record { mesh = s .mesh .code; layer = s .layer .code; area = sizeIn t 10 5; code = sizeIn t 5 5 }
+shownIn s t = record { mesh = s .mesh .code; layer = s .layer .code; area = sizeAt t areaSerial; code = sizeAt t areaCode }
 
 -- RULES 12.2: of the record t, due as d, where m is the measure: only an A has a line
 unfoldable pub recordText : Due → State → List ℕ → ℤ → List ℕ

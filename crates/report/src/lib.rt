@@ -114,8 +114,8 @@ fn shown_of(s: State, t: &[u8]) -> Shown
     Shown {
         mesh: s.mesh.code,
         layer: s.layer.code,
-        area: walk::size_in(t, 10, 5),
-        code: walk::size_in(t, 5, 5),
+        area: walk::size_at(t, records::AREA_SERIAL),
+        code: walk::size_at(t, records::AREA_CODE),
     }
 }
 
@@ -200,9 +200,9 @@ fn put_areas(out: &mut [u8; 120000], file: &[u8], measures: &[i64]) -> usize
 // The bytes that are taken at most: 885 records.
 const MOST: usize = 65490;
 
-// What the judge is lent for up to 885 records: a record gives the table at most four words, and behind
-// each A stands a loop record at least.
-const WORDS: usize = 3540;
+// What the judge is lent for up to 885 records: a record gives the table at most a row, and behind each A
+// stands a loop record at least.
+const WORDS: usize = walk::ROW_LENGTH * 885;
 
 const PLACES: usize = 443;
 

@@ -10,7 +10,7 @@ use Rattle.judge.proofs.outside_at.Tie as tie
 sides : (c : tie.After-same) → Sided (now (c .before .before .before .before .before .before .before .before .args .file)) (now (c .before .before .before .before .before .before .before .before .args .table)) (c .before .before .before .before .before .before .before .before .args .l) (c .before .before .before .before .before .before .before .before .args .n) (c .before .before .before .is-zero .result) (c .before .is-zero2 .result)
 sides c =
     let s = c .before .before .before .before in
-    sided _ _ _ _ (c .before .before .before .before .before .before .before .before .pre .0) (s .before .line-of .ensures) (s .number-at .ok) (s .number-at .ensures) (c .before .before .before .is-zero .ensures) (c .before .before .number-at2 .ok) (c .before .before .number-at2 .ensures) (c .before .is-zero2 .ensures)
+    sided _ _ _ _ (c .before .before .before .before .before .before .before .before .pre .0) (s .before .line-of .ensures) (s .value-at .ok) (s .value-at .ensures) (c .before .before .before .is-zero .ensures) (c .before .before .value-at2 .ok) (c .before .before .value-at2 .ensures) (c .before .is-zero2 .ensures)
 
 cast-v : tie.Need-cast-v
 cast-v c = search needs
@@ -18,14 +18,14 @@ cast-v c = search needs
 line-of-requires : tie.Need-line-of-requires
 line-of-requires c κs = search needs
 
-number-at-requires : tie.Need-number-at-requires
-number-at-requires c κs = search needs
+value-at-requires : tie.Need-value-at-requires
+value-at-requires c κs = search needs
 
 is-zero-requires : tie.Need-is-zero-requires
 is-zero-requires c κs = search needs
 
-number-at-requires-2 : tie.Need-number-at-requires-2
-number-at-requires-2 c κs = search needs
+value-at-requires-2 : tie.Need-value-at-requires-2
+value-at-requires-2 c κs = search needs
 
 is-zero-requires-2 : tie.Need-is-zero-requires-2
 is-zero-requires-2 c κs = search needs
@@ -54,9 +54,9 @@ outside-at-spec =
     (tie.spec
     cast-v
     line-of-requires
-    number-at-requires
+    value-at-requires
     is-zero-requires
-    number-at-requires-2
+    value-at-requires-2
     is-zero-requires-2
     same-requires
     returns

@@ -4,15 +4,15 @@ use borrow.Author.Needs.{needs}
 use Rattle.report.proofs.shown_of.Statement.{statement}
 use Rattle.report.proofs.shown_of.Tie as tie
 
-size-in-requires : tie.Need-size-in-requires
-size-in-requires c κs = search needs
+size-at-requires : tie.Need-size-at-requires
+size-at-requires c κs = search needs
 
-size-in-requires-2 : tie.Need-size-in-requires-2
-size-in-requires-2 c κs = search needs
+size-at-requires-2 : tie.Need-size-at-requires-2
+size-at-requires-2 c κs = search needs
 
 returns : tie.Need-returns
 unfolding shownIn
-returns c = simp (c .before .size-in .ensures .0, c .size-in2 .ensures .0)
+returns c = simp (c .before .size-at .ensures .0, c .size-at2 .ensures .0)
 
 pub shown-of-spec : {M : Type 1} → statement M
-shown-of-spec = tie.close (tie.spec size-in-requires size-in-requires-2 returns)
+shown-of-spec = tie.close (tie.spec size-at-requires size-at-requires-2 returns)
