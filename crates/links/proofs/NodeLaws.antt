@@ -15,7 +15,8 @@ use Rattle.verdict.specs.declared.Verdict.{Verdict}
 use Rattle.verdict.specs.declared.Verdict.the-variants.{Fine, Broken}
 use Rattle.verdict.specs.Rules.{Rule, check, firstBroken, block, rows}
 use Rattle.verdict.proofs.Parts.{fine-broken, check-kept, check-broken, spread-rows, rows-stop, rows-done}
-use Rattle.links.specs.Links.{isZero, some, nodeEntry, meets, repeatsNode, nodeSlot, nodeChecks, fifth, equal}
+use Rattle.links.specs.Links.{some, nodeEntry, meets, repeatsNode, nodeSlot, nodeChecks, fifth, equal}
+use Rattle.permitted.specs.Permitted.{isZero}
 use Rattle.links.specs.Scanning.{clean, FirstRepeat}
 
 -- ---- some of the first n

@@ -8,7 +8,8 @@ use Rattle.verdict.specs.Rules.{firstBroken, block}
 use Rattle.walk.specs.declared.State.{State}
 use Rattle.walk.specs.Quiet.{quietDue}
 use Rattle.layers.specs.declared.Layer.{Layer}
-use Rattle.links.specs.Links.{isZero, nodeEntry, repeatsNode, linkChecks, fifth}
+use Rattle.links.specs.Links.{nodeEntry, repeatsNode, linkChecks, fifth}
+use Rattle.permitted.specs.Permitted.{isZero}
 
 -- slot i of the N at record r is no entry, or repeats none
 unfoldable pub clean : List ℕ → ℕ → ℕ → Bool

@@ -4,9 +4,9 @@ use mathlib.Core.List.{List}
 use mathlib.Core.Path.{_≡_}
 use Prim.Native.Nat.{ℕ, _+_, _-_, _*_, _<_}
 use Rattle.verdict.proofs.Holding.{Holding, both-hold, slot-holds}
-use Rattle.permitted.specs.Permitted.{is}
+use Rattle.permitted.specs.Permitted.{is, isZero}
 use Rattle.layers.specs.declared.Layer.{Layer}
-use Rattle.links.specs.Links.{isZero, loopEntry}
+use Rattle.links.specs.Links.{loopEntry}
 use Rattle.entries.specs.Loops.{loopMeasureIn}
 use Rattle.loops.specs.Loops.{repeatsArea, rightArea, loopSlot, windChecks, firstRecord, areaRecord, loopChecks}
 

@@ -12,7 +12,8 @@ use lib.Seq.{getD-set-same, getD-set-other}
 use borrow.Author.Count.{below-none, below-more}
 use borrow.Author.Tests.{ltb-true, leb-true, eqb-true}
 use Rattle.verdict.proofs.Orders.{and-both}
-use Rattle.links.specs.Links.{isZero, equal, some, loopEntry}
+use Rattle.links.specs.Links.{equal, some, loopEntry}
+use Rattle.permitted.specs.Permitted.{isZero}
 use Rattle.links.proofs.NodeLaws.{none-before, one-before}
 use Rattle.entries.specs.Entries.{slotOf}
 use Rattle.loops.specs.Loops.{repeatsArea}

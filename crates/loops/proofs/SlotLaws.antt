@@ -20,9 +20,9 @@ use Rattle.verdict.specs.declared.Verdict.{Verdict}
 use Rattle.verdict.specs.declared.Verdict.the-variants.{Fine, Broken}
 use Rattle.verdict.specs.Rules.{Rule, Check, check, firstBroken, block, rows, spread}
 use Rattle.verdict.proofs.Parts.{fine-broken, stands, goes-on, block-append, check-none, check-kept, check-broken, spread-rows, rows-stop, rows-done}
-use Rattle.permitted.specs.Permitted.{is}
+use Rattle.permitted.specs.Permitted.{is, isZero}
 use Rattle.layers.specs.declared.Layer.{Layer}
-use Rattle.links.specs.Links.{isZero, loopEntry}
+use Rattle.links.specs.Links.{loopEntry}
 use Rattle.links.proofs.Numbers.{told, asked}
 use Rattle.links.proofs.LineLaws.{Small, passed}
 use Rattle.entries.specs.Loops.{loopMeasureIn}

@@ -15,7 +15,7 @@ use lib.ListN.{getD}
 use lib.Signed.{ltZ}
 use Rattle.records.specs.View.{numberIn}
 use Rattle.verdict.specs.Rules.{Rule, Check, check, spread}
-use Rattle.permitted.specs.Permitted.{natural, is}
+use Rattle.permitted.specs.Permitted.{natural, is, isZero}
 use Rattle.rules.specs.declared.Due.{Due}
 use Rattle.rules.specs.declared.Due.the-variants.{Mesh, Layer, Node, Line, Coordinates, Area, Loop}
 use Rattle.walk.specs.States.{dueOf}
@@ -24,7 +24,7 @@ use Rattle.layers.specs.declared.Layer as layers
 use Rattle.layers.specs.declared.Standing.{Standing}
 use Rattle.layers.specs.Naming.{lineOf}
 use Rattle.layers.specs.Standing.{stageOf}
-use Rattle.links.specs.Links.{isZero, equal, some, endNode, loopEntry}
+use Rattle.links.specs.Links.{equal, some, endNode, loopEntry}
 use Rattle.entries.specs.Entries.{slotOf, countAt}
 use Rattle.entries.specs.Loops.{loopMeasureIn}
 

@@ -14,7 +14,8 @@ ghost use lib.ListN.{length};
 ghost use Rattle.verdict.specs.declared.Verdict.the-variants.{Broken};
 ghost use Rattle.verdict.specs.Rules.{firstBroken, block, spread};
 ghost use Rattle.layers.specs.Passing.{isLayer};
-ghost use Rattle.links.specs.Links.{isZero, loopEntry};
+ghost use Rattle.links.specs.Links.{loopEntry};
+ghost use Rattle.permitted.specs.Permitted.{isZero};
 ghost use Rattle.entries.specs.Keeping.{keptLoop, Kept};
 ghost use Rattle.loops.specs.Loops.{lastNode, entryBefore, joins, rightArea, loopSlot, winds, windChecks, firstRecord, areaRecord, loopChecks, areaChecks, sixth, stageFive};
 ghost use Rattle.loops.specs.Scanning.{clean, FirstRepeat, markOf, Unrepeated, Marking, KeptFor, KeptBehind, SoundTable, KnownBehind};
@@ -56,7 +57,7 @@ fn mark_of(v: i32) -> usize
 fn mark(marks: &mut [usize], v: i32, a: usize) -> bool
     ensures { λ r. ⌜ Marking (now (marks .entry)) v a r (now (marks .exit)) ⌝ }
 {
-    if links::is_zero(v) {
+    if permitted::is_zero(v) {
         return true;
     }
     let i = mark_of(v);
@@ -92,7 +93,7 @@ fn unrepeated(file: &[u8], a: usize, marks: &mut [usize]) -> usize
 fn earlier(v: i32, e: usize) -> usize
     ensures { λ x. ⌜ x ≡ cond (isZero v) 0 e ⌝ }
 {
-    if links::is_zero(v) {
+    if permitted::is_zero(v) {
         return 0;
     }
     e
@@ -207,7 +208,7 @@ fn judge_slot(
     ensures { λ x. ⌜ x ≡ firstBroken (block sixth r (loopSlot (now (file .entry)) (now (table .entry)) l a area f r i)) ⌝ }
 {
     let v = loop_entry(file, r, i);
-    if links::is_zero(v) {
+    if permitted::is_zero(v) {
         return Verdict::Fine;
     }
     if again {

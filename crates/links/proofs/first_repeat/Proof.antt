@@ -7,7 +7,8 @@ use native.Mathlib.Omega.{arith}
 use mir.Syntax.{w32}
 use mir.Val.{toZ, ofZ}
 use borrow.Author.Needs.{needs}
-use Rattle.links.specs.Links.{isZero, equal, some, nodeEntry}
+use Rattle.links.specs.Links.{equal, some, nodeEntry}
+use Rattle.permitted.specs.Permitted.{isZero}
 use Rattle.links.specs.Scanning.{clean}
 use Rattle.links.proofs.Numbers.{told, compared}
 use Rattle.links.proofs.NodeLaws.{some-none, some-more, earlier-less, clean-passed, clean-not, clean-below}

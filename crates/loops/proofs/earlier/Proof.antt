@@ -1,6 +1,6 @@
 -- `loops::earlier` meets its contract: 0 where the number is 0, else e. Assumes nothing.
 use borrow.Author.Needs.{needs}
-use Rattle.links.specs.Links.{isZero}
+use Rattle.permitted.specs.Permitted.{isZero}
 use Rattle.permitted.proofs.Signs.{own-asked}
 use Rattle.loops.proofs.earlier.Statement.{statement}
 use Rattle.loops.proofs.earlier.Tie as tie

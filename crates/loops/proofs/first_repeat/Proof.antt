@@ -6,7 +6,8 @@ use Prim.Native.Nat.{ℕ, _+_, _*_, _-_, _≤_, _<_}
 use native.Mathlib.Omega.{arith}
 use borrow.Author.Count.{below-none, below-more}
 use borrow.Author.Needs.{needs}
-use Rattle.links.specs.Links.{isZero, equal, some}
+use Rattle.links.specs.Links.{equal, some}
+use Rattle.permitted.specs.Permitted.{isZero}
 use Rattle.links.proofs.Numbers.{told, compared}
 use Rattle.links.proofs.NodeLaws.{some-none, some-more}
 use Rattle.entries.specs.Entries.{slotOf}
