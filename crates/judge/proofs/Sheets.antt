@@ -21,7 +21,7 @@ use Rattle.walk.specs.States.{sizeIn, dueOf, nextOf, stateAt, layerWords, count
 use Rattle.walk.specs.Stages.{recordsOf, endChecks, lengthChecks, stageOne, lastChecks, stageTwo, walkedOf, needOf, wordsOf, roomRule, early}
 use Rattle.walk.specs.Table.{gather, tableOf}
 use Rattle.totals.specs.Totals.{sumsFrom, sumsBehind, meshTotals, layerTotals, areaTotals, stageThree}
-use Rattle.layers.specs.Naming.{wordsBefore, layerIn, names, namesLine, nodeOf, recordBytes as lineNamed, areaOf}
+use Rattle.layers.specs.Naming.{wordsBefore, layerIn, names, namesLine, nodeOf, lineOf, areaOf}
 use Rattle.links.specs.Links.{equal, entryIs, some, nodeEntry, endNode, meets, repeatsNode, nodeSlot, nodeChecks, listed, linkFits, lineEndChecks, sideChecks, lineChecks, atNode, firstPointChecks, lastPointChecks, pointChecks, loopEntry, entryChecks, stageFour}
 use Rattle.layers.specs.Passing.{basesOf, layerAt}
 use Rattle.measures.specs.Sum.{sum, upTo}
@@ -51,7 +51,7 @@ walking = tt
 
 -- the rules
 judging : Unit {0}
-unfolding walking isName isBlanks textAt layoutOf faultOf within isMeshCode followsMesh isLayerCode followsLayer isDate isNodeItem isFrame isLineItem isLineKind isLink isCode isSide isAreaCode isSlot isPoint isNext isLoopSerial from meshAsks layerAsks nodeAsks lineAsks coordinateAsks areaAsks loopAsks asksOf askedOf formChecks valueChecks along checksOf firstBroken block rows endChecks lengthChecks stageOne lastChecks stageTwo wordsOf roomRule early sumsFrom sumsBehind meshTotals layerTotals areaTotals stageThree gather tableOf numberIn spread wordsBefore layerIn names namesLine nodeOf lineNamed areaOf equal entryIs some nodeEntry endNode meets repeatsNode nodeSlot nodeChecks listed linkFits lineEndChecks sideChecks lineChecks atNode firstPointChecks lastPointChecks pointChecks loopEntry entryChecks layerAt stageFour coordinateIn pairBy pointBy pointCount firstOf pointsBy measureBy sum steps lineMeasure loopMeasure slotOf entriesTo recordsFor countAt loopsAt recordsTo slotsOf loopAt measureOf loopMeasureIn repeatsArea lastNode entryBefore joins rightArea loopSlot winds windChecks firstRecord areaRecord loopChecks stageFive lists sideListed listChecks stageSix basesOf late rulesOf measureRule verdictOf
+unfolding walking isName isBlanks textAt layoutOf faultOf within isMeshCode followsMesh isLayerCode followsLayer isDate isNodeItem isFrame isLineItem isLineKind isLink isCode isSide isAreaCode isSlot isPoint isNext isLoopSerial from meshAsks layerAsks nodeAsks lineAsks coordinateAsks areaAsks loopAsks asksOf askedOf formChecks valueChecks along checksOf firstBroken block rows endChecks lengthChecks stageOne lastChecks stageTwo wordsOf roomRule early sumsFrom sumsBehind meshTotals layerTotals areaTotals stageThree gather tableOf numberIn spread wordsBefore layerIn names namesLine nodeOf lineOf areaOf equal entryIs some nodeEntry endNode meets repeatsNode nodeSlot nodeChecks listed linkFits lineEndChecks sideChecks lineChecks atNode firstPointChecks lastPointChecks pointChecks loopEntry entryChecks layerAt stageFour coordinateIn pairBy pointBy pointCount firstOf pointsBy measureBy sum steps lineMeasure loopMeasure slotOf entriesTo recordsFor countAt loopsAt recordsTo slotsOf loopAt measureOf loopMeasureIn repeatsArea lastNode entryBefore joins rightArea loopSlot winds windChecks firstRecord areaRecord loopChecks stageFive lists sideListed listChecks stageSix basesOf late rulesOf measureRule verdictOf
 judging = tt
 
 -- the figures
