@@ -6,7 +6,8 @@ use Prim.Native.Nat.{ℕ, _+_, _-_, _*_, _<_}
 use native.Mathlib.Omega.{arith}
 use lib.Dec.{eqb, leb, ltb}
 use borrow.Author.Tests.{lt-ltb, ltb-true}
-use Rattle.records.specs.View.{numberIn}
+use Rattle.records.specs.Columns.{valueAt}
+use Rattle.records.specs.Columns as column
 use Rattle.verdict.specs.Rules.{check, spread}
 use Rattle.verdict.specs.Order.{Sorted}
 use Rattle.verdict.proofs.Numbers.{tenTo18, Numbered}
@@ -49,9 +50,9 @@ two-orderly left false false x y h = (refl, refl)
 point-orderly : (file : List ℕ) (l : Layer) (q r left : ℕ) → Orderly (pointChecks file l q r left)
 unfolding pointChecks firstPointChecks lastPointChecks
 point-orderly file l q r left =
-    two-orderly left (ltb 1 left && eqb left (size (numberIn file q 50 6))) (ltb 0 left && leb left 7)
-    (atNode file l (numberIn file q 18 5) r 0) (atNode file l (numberIn file q 24 5) r (left - 1))
-    (λ h. ltb-true 1 left (and-both (ltb 1 left) (eqb left (size (numberIn file q 50 6))) h .0))
+    two-orderly left (ltb 1 left && eqb left (size (valueAt file q column.linePoints))) (ltb 0 left && leb left 7)
+    (atNode file l (valueAt file q column.startNode) r 0) (atNode file l (valueAt file q column.endNode) r (left - 1))
+    (λ h. ltb-true 1 left (and-both (ltb 1 left) (eqb left (size (valueAt file q column.linePoints))) h .0))
 
 link-orderly : (d : Due) (file t : List ℕ) (l : Layer) (line r : ℕ) → Orderly (linkChecks d file t l line r)
 link-orderly (due.Mesh last) file t l line r = (refl, refl)

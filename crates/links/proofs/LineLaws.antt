@@ -9,7 +9,8 @@ use lib.Signed.{mag}
 use mir.Syntax.{w32}
 use mir.Val.{toZ, ofZ, hbits}
 use borrow.Author.Tests.{not-true, not-false, lt-ltb, le-ltb, le-leb, lt-leb, eq-eqb, ne-eqb}
-use Rattle.records.specs.View.{numberIn}
+use Rattle.records.specs.Columns.{Span, numberOn, valueAt, slotColumn, slotAt}
+use Rattle.records.specs.Columns as column
 use Rattle.verdict.specs.declared.Verdict.{Verdict}
 use Rattle.verdict.specs.declared.Verdict.the-variants.{Fine, Broken}
 use Rattle.verdict.specs.Rules.{Check, check, firstBroken, block, rows}
@@ -93,33 +94,33 @@ module _ (file : List ℕ) (r : ℕ) (back : Bool) (n : ℕ) where
 -- ---- one end of a line
 
 -- z is its node number, and a says whether it names a node
-module _ (file : List ℕ) (l : Layer) (r c k : ℕ) (back : Bool) (row : ℕ) {z : ℤ} (ok : Small z) (e : z ≡ numberIn file r c 5) where
+module _ (file : List ℕ) (l : Layer) (r : ℕ) (c k : Span) (back : Bool) (row : ℕ) {z : ℤ} (ok : Small z) (e : z ≡ numberOn file r c) where
   module _ {a : Bool} (n : a ≡ names (l .nodes) (passed z)) where
-    named : not a ≡ false → names (l .nodes) (numberIn file r c 5) ≡ true
+    named : not a ≡ false → names (l .nodes) (numberOn file r c) ≡ true
     named t = told (names (l .nodes)) ok e n ∙ not-false a t
 
-    pub end-unnamed : {x : Verdict} → not a ≡ true → x ≡ Broken 11 row c → x ≡ firstBroken (block fifth row (lineEndChecks file l r c k back))
+    pub end-unnamed : {x : Verdict} → not a ≡ true → x ≡ Broken 11 row (c .start) → x ≡ firstBroken (block fifth row (lineEndChecks file l r c k back))
     unfolding lineEndChecks
     end-unnamed t v = broke _ _ _ _ _ (told (names (l .nodes)) ok e n ∙ not-true a t) v
 
   -- m is the node's record, s the line's serial, and b says whether the node lists it
-  module _ {m s : ℕ} {b : Bool} (f : m ≡ nodeOf l (passed z)) (g : s ≡ serialIn file r) (q : b ≡ listed file m back s) where
-    lists : listed file (nodeOf l (numberIn file r c 5)) back (serialIn file r) ≡ b
+  module _ {m s : ℕ} {b : Bool} (f : m ≡ nodeOf l (passed z)) (g : s ≡ serialIn file r column.lineSerial) (q : b ≡ listed file m back s) where
+    lists : listed file (nodeOf l (numberOn file r c)) back (serialIn file r column.lineSerial) ≡ b
     lists = rw (told (nodeOf l) ok e f, ← g) (sym q)
 
-    pub end-unlisted : {x : Verdict} {a : Bool} → a ≡ names (l .nodes) (passed z) → not a ≡ false → not b ≡ true → x ≡ Broken 14 row c
+    pub end-unlisted : {x : Verdict} {a : Bool} → a ≡ names (l .nodes) (passed z) → not a ≡ false → not b ≡ true → x ≡ Broken 14 row (c .start)
         → x ≡ firstBroken (block fifth row (lineEndChecks file l r c k back))
     unfolding lineEndChecks
     end-unlisted n t u v = kept _ _ _ _ _ (named n t) (broke _ _ _ _ _ (waits _ _ (named n t) (lists ∙ not-true b u)) v)
 
   -- y is its link, w the node's frame, and d says whether they fit
-  module _ {m : ℕ} {y w : ℤ} {d : Bool} (f : m ≡ nodeOf l (passed z)) (oky : Small y) (ey : y ≡ numberIn file r k 1) (okw : Small w) (ew : w ≡ numberIn file m 22 2)
+  module _ {m : ℕ} {y w : ℤ} {d : Bool} (f : m ≡ nodeOf l (passed z)) (oky : Small y) (ey : y ≡ numberOn file r k) (okw : Small w) (ew : w ≡ valueAt file m column.nodeFrame)
       (p : d ≡ linkFits (passed y) (passed w)) where
-    fits : linkFits (numberIn file r k 1) (numberIn file (nodeOf l (numberIn file r c 5)) 22 2) ≡ d
-    fits = told-both linkFits oky ey okw (ew ∙ ap (λ m. numberIn file m 22 2) (sym (told (nodeOf l) ok e f))) p
+    fits : linkFits (numberOn file r k) (valueAt file (nodeOf l (numberOn file r c)) column.nodeFrame) ≡ d
+    fits = told-both linkFits oky ey okw (ew ∙ ap (λ m. valueAt file m column.nodeFrame) (sym (told (nodeOf l) ok e f))) p
 
-    module _ {a b : Bool} {s : ℕ} (n : a ≡ names (l .nodes) (passed z)) (t : not a ≡ false) (g : s ≡ serialIn file r) (q : b ≡ listed file m back s) (u : not b ≡ false) where
-      pub end-unfit : {x : Verdict} → not d ≡ true → x ≡ Broken 12 row k → x ≡ firstBroken (block fifth row (lineEndChecks file l r c k back))
+    module _ {a b : Bool} {s : ℕ} (n : a ≡ names (l .nodes) (passed z)) (t : not a ≡ false) (g : s ≡ serialIn file r column.lineSerial) (q : b ≡ listed file m back s) (u : not b ≡ false) where
+      pub end-unfit : {x : Verdict} → not d ≡ true → x ≡ Broken 12 row (k .start) → x ≡ firstBroken (block fifth row (lineEndChecks file l r c k back))
       unfolding lineEndChecks
       end-unfit h v =
           kept _ _ _ _ _ (named n t) (kept _ _ _ _ _ (waits _ _ (named n t) (lists f g q ∙ not-false b u)) (broke _ _ _ _ _ (waits _ _ (named n t) (fits ∙ not-true d h)) v))
@@ -132,11 +133,11 @@ module _ (file : List ℕ) (l : Layer) (r c k : ℕ) (back : Bool) (row : ℕ) {
 -- ---- one side of a line
 
 -- z is its area number, and b says whether it names an area
-module _ (file t : List ℕ) (l : Layer) (r c a row : ℕ) {z : ℤ} {b : Bool} (ok : Small z) (e : z ≡ numberIn file r a 5) (n : b ≡ names (l .areas) (passed z)) where
-  unnamed : not b ≡ true → (not (names (l .areas) (numberIn file r a 5)) || equal (numberIn file r c 5) (numberIn file (areaOf t l (numberIn file r a 5)) 5 5)) ≡ true
+module _ (file t : List ℕ) (l : Layer) (r : ℕ) (c a : Span) (row : ℕ) {z : ℤ} {b : Bool} (ok : Small z) (e : z ≡ numberOn file r a) (n : b ≡ names (l .areas) (passed z)) where
+  unnamed : not b ≡ true → (not (names (l .areas) (numberOn file r a)) || equal (numberOn file r c) (valueAt file (areaOf t l (numberOn file r a)) column.areaCode)) ≡ true
   unnamed h = rw (told (names (l .areas)) ok e n ∙ not-true b h)
 
-  area : not b ≡ false → names (l .areas) (numberIn file r a 5) ≡ true
+  area : not b ≡ false → names (l .areas) (numberOn file r a) ≡ true
   area h = told (names (l .areas)) ok e n ∙ not-false b h
 
   -- it names none: d says whether it is 0
@@ -145,23 +146,23 @@ module _ (file t : List ℕ) (l : Layer) (r c a row : ℕ) {z : ℤ} {b : Bool} 
     unfolding sideChecks
     side-none u = kept _ _ _ _ _ (unnamed h) (kept _ _ _ _ _ (or-left _ _ (told isZero ok e q ∙ u)) (check-none fifth row))
 
-    pub side-unnamed : {x : Verdict} → d ≡ false → x ≡ Broken 11 row a → x ≡ firstBroken (block fifth row (sideChecks file t l r c a))
+    pub side-unnamed : {x : Verdict} → d ≡ false → x ≡ Broken 11 row (a .start) → x ≡ firstBroken (block fifth row (sideChecks file t l r c a))
     unfolding sideChecks
     side-unnamed u v = kept _ _ _ _ _ (unnamed h) (broke _ _ _ _ _ (or-none _ _ (told isZero ok e q ∙ u) (told (names (l .areas)) ok e n ∙ not-true b h)) v)
 
   -- m is the area's record, y the line's code, w the area's, and d says whether they are equal
-  module _ {m : ℕ} {y w : ℤ} {d : Bool} (f : m ≡ areaOf t l (passed z)) (oky : Small y) (ey : y ≡ numberIn file r c 5) (okw : Small w) (ew : w ≡ numberIn file m 5 5)
+  module _ {m : ℕ} {y w : ℤ} {d : Bool} (f : m ≡ areaOf t l (passed z)) (oky : Small y) (ey : y ≡ numberOn file r c) (okw : Small w) (ew : w ≡ valueAt file m column.areaCode)
       (q : d ≡ equal (passed y) (passed w)) where
-    alike : equal (numberIn file r c 5) (numberIn file (areaOf t l (numberIn file r a 5)) 5 5) ≡ d
-    alike = told-both equal oky ey okw (ew ∙ ap (λ m. numberIn file m 5 5) (sym (told (areaOf t l) ok e f))) q
+    alike : equal (numberOn file r c) (valueAt file (areaOf t l (numberOn file r a)) column.areaCode) ≡ d
+    alike = told-both equal oky ey okw (ew ∙ ap (λ m. valueAt file m column.areaCode) (sym (told (areaOf t l) ok e f))) q
 
-    pub side-unlike : {x : Verdict} → not b ≡ false → not d ≡ true → x ≡ Broken 12 row c → x ≡ firstBroken (block fifth row (sideChecks file t l r c a))
+    pub side-unlike : {x : Verdict} → not b ≡ false → not d ≡ true → x ≡ Broken 12 row (c .start) → x ≡ firstBroken (block fifth row (sideChecks file t l r c a))
     unfolding sideChecks
     side-unlike h u v = broke _ _ _ _ _ (waits _ _ (area h) (alike ∙ not-true d u)) v
 
     pub side-fine : not b ≡ false → not d ≡ false → Fine ≡ firstBroken (block fifth row (sideChecks file t l r c a))
     unfolding sideChecks
-    side-fine h u = kept _ _ _ _ _ (waits _ _ (area h) (alike ∙ not-false d u)) (kept _ _ _ _ _ (or-right (isZero (numberIn file r a 5)) _ (area h)) (check-none fifth row))
+    side-fine h u = kept _ _ _ _ _ (waits _ _ (area h) (alike ∙ not-false d u)) (kept _ _ _ _ _ (or-right (isZero (numberOn file r a)) _ (area h)) (check-none fifth row))
 
 -- ---- points
 
@@ -176,16 +177,16 @@ module _ (file : List ℕ) (l : Layer) (v : ℤ) (r i : ℕ) {a : Bool} (ok : Sm
 
   -- m is its record, x and y are the point, u and w the node's place
   module _ {m : ℕ} {x y u w : ℤ} {b d : Bool} (f : m ≡ nodeOf l (passed v))
-      (okx : Small x) (ex : x ≡ numberIn file r (1 + 10 * i) 5) (oky : Small y) (ey : y ≡ numberIn file r (6 + 10 * i) 5)
-      (oku : Small u) (eu : u ≡ numberIn file m 12 5) (okw : Small w) (ew : w ≡ numberIn file m 17 5)
+      (okx : Small x) (ex : x ≡ slotAt file r column.pointsX i) (oky : Small y) (ey : y ≡ slotAt file r column.pointsY i)
+      (oku : Small u) (eu : u ≡ valueAt file m column.nodeX) (okw : Small w) (ew : w ≡ valueAt file m column.nodeY)
       (p : b ≡ equal (passed x) (passed u)) (q : d ≡ equal (passed y) (passed w)) where
     at-node : m ≡ nodeOf l v
     at-node = f ∙ ap (nodeOf l) (passed-on ok refl)
 
-    both-at : (equal (numberIn file r (1 + 10 * i) 5) (numberIn file (nodeOf l v) 12 5) && equal (numberIn file r (6 + 10 * i) 5) (numberIn file (nodeOf l v) 17 5)) ≡ (b && d)
+    both-at : (equal (slotAt file r column.pointsX i) (valueAt file (nodeOf l v) column.nodeX) && equal (slotAt file r column.pointsY i) (valueAt file (nodeOf l v) column.nodeY)) ≡ (b && d)
     both-at = rw (
-      told-both equal okx ex oku (eu ∙ ap (λ m. numberIn file m 12 5) at-node) p,
-      told-both equal oky ey okw (ew ∙ ap (λ m. numberIn file m 17 5) at-node) q,
+      told-both equal okx ex oku (eu ∙ ap (λ m. valueAt file m column.nodeX) at-node) p,
+      told-both equal oky ey okw (ew ∙ ap (λ m. valueAt file m column.nodeY) at-node) q,
     )
 
     pub at-named : not a ≡ false → (b && d) ≡ atNode file l v r i
@@ -199,13 +200,13 @@ module _ (file : List ℕ) (l : Layer) (q r left row : ℕ) where
   first-few h = rw (le-ltb 1 left h) (check-none fifth row)
 
   -- n is the line's number of points
-  module _ {z : ℤ} {n : ℕ} (h : 1 < left) (ok : Small z) (e : z ≡ numberIn file q 50 6) (s : n ≡ size (passed z)) where
+  module _ {z : ℤ} {n : ℕ} (h : 1 < left) (ok : Small z) (e : z ≡ valueAt file q column.linePoints) (s : n ≡ size (passed z)) where
     pub first-later : (left ≡ n → ⊥) → Fine ≡ firstBroken (block fifth row (firstPointChecks file l q r left))
     unfolding firstPointChecks
     first-later u = rw (lt-ltb 1 left h, told size ok e s, ne-eqb left n u) (check-none fifth row)
 
     -- b says whether the first point is at its node
-    module _ {w : ℤ} {b : Bool} (u : left ≡ n) (okw : Small w) (ew : w ≡ numberIn file q 18 5) (a : b ≡ atNode file l (passed w) r 0) where
+    module _ {w : ℤ} {b : Bool} (u : left ≡ n) (okw : Small w) (ew : w ≡ valueAt file q column.startNode) (a : b ≡ atNode file l (passed w) r 0) where
       pub first-broken : {x : Verdict} → not b ≡ true → x ≡ Broken 12 row 1 → x ≡ firstBroken (block fifth row (firstPointChecks file l q r left))
       unfolding firstPointChecks
       first-broken t v = rw (lt-ltb 1 left h, told size ok e s, eq-eqb left n u) (broke _ _ _ _ _ (told (λ v. atNode file l v r 0) okw ew a ∙ not-true b t) v)
@@ -224,8 +225,8 @@ module _ (file : List ℕ) (l : Layer) (q r left row : ℕ) where
   last-later h u = rw (lt-ltb 0 left (omega (arith, u)), lt-leb left 7 u) (check-none fifth row)
 
   -- it is: b says whether it is at its node
-  module _ {w : ℤ} {b : Bool} (h : left ≡ 0 → ⊥) (u : left ≤ 7) (okw : Small w) (ew : w ≡ numberIn file q 24 5) (a : b ≡ atNode file l (passed w) r (left - 1)) where
-    pub last-broken : {x : Verdict} → not b ≡ true → x ≡ Broken 12 row (1 + 10 * (left - 1)) → x ≡ firstBroken (block fifth row (lastPointChecks file l q r left))
+  module _ {w : ℤ} {b : Bool} (h : left ≡ 0 → ⊥) (u : left ≤ 7) (okw : Small w) (ew : w ≡ valueAt file q column.endNode) (a : b ≡ atNode file l (passed w) r (left - 1)) where
+    pub last-broken : {x : Verdict} → not b ≡ true → x ≡ Broken 12 row (slotColumn column.pointsX (left - 1)) → x ≡ firstBroken (block fifth row (lastPointChecks file l q r left))
     unfolding lastPointChecks
     last-broken t v = rw (lt-ltb 0 left (omega (arith, h)), le-leb left 7 u) (broke _ _ _ _ _ (told (λ v. atNode file l v r (left - 1)) okw ew a ∙ not-true b t) v)
 
@@ -234,7 +235,7 @@ module _ (file : List ℕ) (l : Layer) (q r left row : ℕ) where
     last-kept t = rw (lt-ltb 0 left (omega (arith, h)), le-leb left 7 u) (kept _ _ _ _ _ (told (λ v. atNode file l v r (left - 1)) okw ew a ∙ not-false b t) (check-none fifth row))
 
   -- neither of them is: more than seven points are left, and fewer than the line's n
-  pub points-later : {z : ℤ} {n : ℕ} → 7 < left → left < n → Small z → z ≡ numberIn file q 50 6 → n ≡ size (passed z) → Fine ≡ firstBroken (block fifth row (pointChecks file l q r left))
+  pub points-later : {z : ℤ} {n : ℕ} → 7 < left → left < n → Small z → z ≡ valueAt file q column.linePoints → n ≡ size (passed z) → Fine ≡ firstBroken (block fifth row (pointChecks file l q r left))
   unfolding pointChecks
   points-later h u ok e s = part-passes row _ _ refl (first-later (omega arith) ok e s (λ i. omega arith)) (last-later (λ i. omega arith) h)
 
@@ -249,7 +250,7 @@ not-both true b h = refl
 not-both false b h = not-false b h
 
 abbrev pub entrySlot : List ℕ → Layer → ℕ → ℕ → List Check
-entrySlot file l r i = check (10 + 5 * i) 11 (isZero (loopEntry file r i) || namesLine (l .lines) (loopEntry file r i)) ∷ []
+entrySlot file l r i = check (slotColumn column.loopEntries i) 11 (isZero (loopEntry file r i) || namesLine (l .lines) (loopEntry file r i)) ∷ []
 
 module _ (file : List ℕ) (l : Layer) (r row : ℕ) where
   -- a says whether the entry z is 0, and b whether it names a line
@@ -257,7 +258,7 @@ module _ (file : List ℕ) (l : Layer) (r row : ℕ) where
     entry-is : (isZero (loopEntry file r i) || namesLine (l .lines) (loopEntry file r i)) ≡ (a || b)
     entry-is = rw (told isZero ok e p, told (namesLine (l .lines)) ok e n)
 
-    pub entries-stop : {x : Verdict} → x ≡ Broken 11 row (10 + 5 * i) → (not a && not b) ≡ true → i < 12
+    pub entries-stop : {x : Verdict} → x ≡ Broken 11 row (slotColumn column.loopEntries i) → (not a && not b) ≡ true → i < 12
         → firstBroken (rows i (slotRules fifth row (entrySlot file l r))) ≡ Fine → x ≡ firstBroken (block fifth row (entryChecks file l r))
     unfolding entryChecks
     entries-stop v t k f = slots-stop fifth row 12 (entrySlot file l r) i v (broke _ _ _ _ _ (entry-is ∙ both-not a b t) v) f k

@@ -6,6 +6,8 @@ use Prim.Native.Nat.{ℕ, _+_, _*_}
 use Rattle.permitted.specs.Permitted.{isZero}
 use Rattle.layers.specs.declared.Layer.{Layer}
 use Rattle.layers.specs.Naming.{namesLine}
+use Rattle.records.specs.Columns.{slotColumn}
+use Rattle.records.specs.Columns as column
 use Rattle.verdict.specs.declared.Verdict.{Verdict}
 use Rattle.verdict.specs.declared.Verdict.the-variants.{Fine, Broken}
 use Rattle.verdict.specs.Rules.{check, firstBroken, block}
@@ -24,17 +26,17 @@ module _ (file t : List ℕ) (l : Layer) (r i row : ℕ) where
   slot-none z = rw z
 
   module _ (z : isZero (nodeEntry file r i) ≡ false) where
-    pub slot-eleven : {v : Verdict} → v ≡ Broken 11 row (26 + 5 * i) → namesLine (l .lines) (nodeEntry file r i) ≡ false → v ≡ judged
+    pub slot-eleven : {v : Verdict} → v ≡ Broken 11 row (slotColumn column.nodeEntries i) → namesLine (l .lines) (nodeEntry file r i) ≡ false → v ≡ judged
     unfolding nodeSlot firstBroken block
     slot-eleven h a = h ∙ rw (z, a)
 
     module _ (a : namesLine (l .lines) (nodeEntry file r i) ≡ true) where
-      pub slot-twelve : {v : Verdict} → v ≡ Broken 12 row (26 + 5 * i) → meets file t l r (nodeEntry file r i) ≡ false → v ≡ judged
+      pub slot-twelve : {v : Verdict} → v ≡ Broken 12 row (slotColumn column.nodeEntries i) → meets file t l r (nodeEntry file r i) ≡ false → v ≡ judged
       unfolding nodeSlot firstBroken block
       slot-twelve h b = h ∙ rw (z, a, b)
 
       module _ (b : meets file t l r (nodeEntry file r i) ≡ true) where
-        pub slot-thirteen : {v : Verdict} → v ≡ Broken 13 row (26 + 5 * i) → clean (nodeEntry file r) i ≡ false → v ≡ judged
+        pub slot-thirteen : {v : Verdict} → v ≡ Broken 13 row (slotColumn column.nodeEntries i) → clean (nodeEntry file r) i ≡ false → v ≡ judged
         unfolding nodeSlot firstBroken block clean repeatsNode
         slot-thirteen h d = h ∙ rw (d, z, a, b)
 
@@ -50,7 +52,7 @@ module _ (file t : List ℕ) (l : Layer) (r i row : ℕ) where
       (isZero (nodeEntry file r i) || not (repeats (nodeEntry file r) i))
     where
       third : (a b d : Bool)
-          → firstBroken (block fifth row (check (26 + 5 * i) 11 a ∷ check (26 + 5 * i) 12 b ∷ check (26 + 5 * i) 13 d ∷ [])) ≡ Fine → d ≡ true
+          → firstBroken (block fifth row (check (slotColumn column.nodeEntries i) 11 a ∷ check (slotColumn column.nodeEntries i) 12 b ∷ check (slotColumn column.nodeEntries i) 13 d ∷ [])) ≡ Fine → d ≡ true
       third a b true h = refl
       third false b false h = fine-broken h (check-broken fifth row _ 11 false _ refl)
       third true false false h = fine-broken h (check-kept fifth row _ 11 true _ refl ∙ check-broken fifth row _ 12 false _ refl)

@@ -6,7 +6,8 @@ use native.Mathlib.Omega.{arith}
 use lib.IntN.{ℤ}
 use lib.ListN.{getD}
 use borrow.Author.Tests.{lt-ltb}
-use Rattle.records.specs.View.{numberIn}
+use Rattle.records.specs.Columns.{valueAt}
+use Rattle.records.specs.Columns as column
 use Rattle.verdict.specs.declared.Verdict.{Verdict}
 use Rattle.verdict.specs.declared.Verdict.the-variants.{Fine}
 use Rattle.verdict.specs.Rules.{firstBroken, block}
@@ -41,7 +42,7 @@ module _ (file t : List ℕ) (l : Layer) (s : State) where
 
   -- n is the line's number of points: fewer are left, and more than seven before each of the records
   pub between-some : {q n : ℕ} {z : ℤ} → 7 < s .line .points → s .line .points < n → q ≡ getD t (l .line + (s .layer .line - 1)) 0
-      → Small z → z ≡ numberIn file q 50 6 → n ≡ size (passed z) → Between file t l s ((s .line .points - 1) / 7)
+      → Small z → z ≡ valueAt file q column.linePoints → n ≡ size (passed z) → Between file t l s ((s .line .points - 1) / 7)
   between-some p u f ok e g = record {
     fine = λ j r i.
         let d : quietDue s j ≡ due.Coordinates (s .line .points - 7 * j) = rw (lt-ltb 0 (s .line .points) (omega arith)) in

@@ -14,7 +14,7 @@ use lib.Dec.{eqb, leb, ltb}
 use lib.IntN.{ℤ}
 use lib.ListN.{getD}
 use Rattle.records.specs.View.{numberIn}
-use Rattle.records.specs.Columns.{Column, spanOf}
+use Rattle.records.specs.Columns.{Column, Span, spanOf, numberOn, valueAt, slotColumn, slotAt}
 use Rattle.records.specs.Columns as column
 use Rattle.verdict.specs.Rules.{Rule, Check, check, spread}
 use Rattle.permitted.specs.Permitted.{natural, size, isZero, same}
@@ -46,15 +46,15 @@ some (suc n) f = some n f || f n
 abbrev pub repeats : (ℕ → ℤ) → ℕ → Bool
 repeats f e = some e (λ j. equal (f e) (f j))
 
--- RULES 4.3, 4.4: a record's own serial, at 7 in an N and in an L
-abbrev pub serialIn : List ℕ → ℕ → ℕ
-serialIn file r = size (numberIn file r 7 5)
+-- RULES 4.3, 4.4: a record's own serial: an N's or an L's
+abbrev pub serialIn : List ℕ → ℕ → Column → ℕ
+serialIn file r c = size (valueAt file r c)
 
 -- ---- N
 
--- RULES 4.3: slot i of an N, of nine of width 5 from 26 on
+-- RULES 4.3: slot i of an N, of nine
 unfoldable pub nodeEntry : List ℕ → ℕ → ℕ → ℤ
-nodeEntry file r i = numberIn file r (26 + 5 * i) 5
+nodeEntry file r i = slotAt file r column.nodeEntries i
 
 -- RULES 1.2, 4.4: of the line that the entry v names, the number in the w columns from c on; backwards, that in the x columns from d on
 abbrev pub handIn : List ℕ → List ℕ → layers.Layer → ℕ → ℕ → ℕ → ℕ → ℤ → ℤ
@@ -74,7 +74,7 @@ unfoldable pub meets : List ℕ → List ℕ → layers.Layer → ℕ → ℤ �
 meets file t l r v =
     not (namesLine (l .lines) v)
     || (not (names (l .nodes) (endNode file t l v))
-    || eqb (size (endNode file t l v)) (serialIn file r))
+    || eqb (size (endNode file t l v)) (serialIn file r column.nodeSerial))
 
 -- RULES 6.7, 13: an entry of a node is the same, sign and all, as an earlier one of that node
 unfoldable pub repeatsNode : List ℕ → ℕ → ℕ → Bool
@@ -83,9 +83,9 @@ repeatsNode file r i = repeats (nodeEntry file r) i
 -- RULES 6.7, 11 to 13: slot i of an N; a slot that is 0 is empty (RULES 1.3)
 unfoldable pub nodeSlot : List ℕ → List ℕ → layers.Layer → ℕ → ℕ → List Check
 nodeSlot file t l r i =
-    check (26 + 5 * i) 11 (isZero (nodeEntry file r i) || namesLine (l .lines) (nodeEntry file r i))
-    ∷ check (26 + 5 * i) 12 (isZero (nodeEntry file r i) || meets file t l r (nodeEntry file r i))
-    ∷ check (26 + 5 * i) 13 (isZero (nodeEntry file r i) || not (repeatsNode file r i))
+    check (slotColumn column.nodeEntries i) 11 (isZero (nodeEntry file r i) || namesLine (l .lines) (nodeEntry file r i))
+    ∷ check (slotColumn column.nodeEntries i) 12 (isZero (nodeEntry file r i) || meets file t l r (nodeEntry file r i))
+    ∷ check (slotColumn column.nodeEntries i) 13 (isZero (nodeEntry file r i) || not (repeatsNode file r i))
     ∷ []
 
 -- RULES 6.7: an N's nine slots
@@ -102,50 +102,59 @@ listed file r back n = some 9 (λ i. entryIs back n (nodeEntry file r i))
 unfoldable pub linkFits : ℤ → ℤ → Bool
 linkFits link frame = same (isZero link) (isZero frame)
 
--- RULES 6.7, 11, 14, 12: the end of the line at record r whose node number stands at column c and whose link stands at column k; an N's
--- frame is at 22 (RULES 4.3)
-unfoldable pub lineEndChecks : List ℕ → layers.Layer → ℕ → ℕ → ℕ → Bool → List Check
+-- RULES 6.7, 11, 14, 12: the end of the line at record r whose node number stands in the columns c and whose link stands in the columns k
+unfoldable pub lineEndChecks : List ℕ → layers.Layer → ℕ → Span → Span → Bool → List Check
 lineEndChecks file l r c k back =
-    check c 11 (names (l .nodes) (numberIn file r c 5))
-    ∷ check c 14 (not (names (l .nodes) (numberIn file r c 5)) || listed file (nodeOf l (numberIn file r c 5)) back (serialIn file r))
-    ∷ check k 12 (not (names (l .nodes) (numberIn file r c 5)) || linkFits (numberIn file r k 1) (numberIn file (nodeOf l (numberIn file r c 5)) 22 2))
+    check (c .start) 11 (names (l .nodes) (numberOn file r c))
+    ∷ check (c .start) 14
+    (not (names (l .nodes) (numberOn file r c)) || listed file (nodeOf l (numberOn file r c)) back (serialIn file r column.lineSerial))
+    ∷ check (k .start) 12
+    (not (names (l .nodes) (numberOn file r c))
+    || linkFits (numberOn file r k) (valueAt file (nodeOf l (numberOn file r c)) column.nodeFrame))
     ∷ []
 
--- RULES 6.7, 12, 11: the side whose code stands at column c and whose area number stands at column a: the code is that of its area, at 5
--- of the A (RULES 4.6); the area number names an area or is 0
-unfoldable pub sideChecks : List ℕ → List ℕ → layers.Layer → ℕ → ℕ → ℕ → List Check
+-- RULES 6.7, 12, 11: the side whose code stands in the columns c and whose area number stands in the columns a: the code is that of its
+-- area; the area number names an area or is 0
+unfoldable pub sideChecks : List ℕ → List ℕ → layers.Layer → ℕ → Span → Span → List Check
 sideChecks file t l r c a =
-    check c 12 (not (names (l .areas) (numberIn file r a 5)) || equal (numberIn file r c 5) (numberIn file (areaOf t l (numberIn file r a 5)) 5 5))
-    ∷ check a 11 (isZero (numberIn file r a 5) || names (l .areas) (numberIn file r a 5))
+    check (c .start) 12
+    (not (names (l .areas) (numberOn file r a))
+    || equal (numberOn file r c) (valueAt file (areaOf t l (numberOn file r a)) column.areaCode))
+    ∷ check (a .start) 11 (isZero (numberOn file r a) || names (l .areas) (numberOn file r a))
     ∷ []
 
--- RULES 4.4: start node at 18, its link at 23; end node at 24, its link at 29; left code at 30, left area at 35; right code at 40, right
--- area at 45
+-- RULES 4.4: start node and its link; end node and its link; left code and area; right code and area
 unfoldable pub lineChecks : List ℕ → List ℕ → layers.Layer → ℕ → List Check
 lineChecks file t l r =
-    lineEndChecks file l r 18 23 false
-    ++ (lineEndChecks file l r 24 29 true
-    ++ (sideChecks file t l r 30 35
-    ++ sideChecks file t l r 40 45))
+    lineEndChecks file l r (spanOf column.startNode) (spanOf column.startLink) false
+    ++ (lineEndChecks file l r (spanOf column.endNode) (spanOf column.endLink) true
+    ++ (sideChecks file t l r (spanOf column.leftCode) (spanOf column.leftArea)
+    ++ sideChecks file t l r (spanOf column.rightCode) (spanOf column.rightArea)))
 
 -- ---- coordinates
 
--- RULES 6.7, 12: pair i of the coordinate record r is where the N that v names stands, by its X at 12 and its Y at 17 (RULES 4.3, 4.5); it
--- waits where v names none
+-- RULES 6.7, 12: pair i of the coordinate record r is where the N that v names stands, by its X and its Y (RULES 4.3, 4.5); it waits where
+-- v names none
 unfoldable pub atNode : List ℕ → layers.Layer → ℤ → ℕ → ℕ → Bool
 atNode file l v r i =
     not (names (l .nodes) v)
-    || (equal (numberIn file r (1 + 10 * i) 5) (numberIn file (nodeOf l v) 12 5)
-    && equal (numberIn file r (6 + 10 * i) 5) (numberIn file (nodeOf l v) 17 5))
+    || (equal (slotAt file r column.pointsX i) (valueAt file (nodeOf l v) column.nodeX)
+    && equal (slotAt file r column.pointsY i) (valueAt file (nodeOf l v) column.nodeY))
 
 -- RULES 6.7, 12: a line's first point is where its start node is; at that point's X. `left` points are left of the line whose L is record q,
 -- this record's among them: the first point is pair 0 where all are left, the last one is pair `left - 1` where no more than seven are
 unfoldable pub firstPointChecks : List ℕ → layers.Layer → ℕ → ℕ → ℕ → List Check
-firstPointChecks file l q r left = cond (ltb 1 left && eqb left (size (numberIn file q 50 6))) (check 1 12 (atNode file l (numberIn file q 18 5) r 0) ∷ []) []
+firstPointChecks file l q r left =
+    cond (ltb 1 left && eqb left (size (valueAt file q column.linePoints)))
+    (check (slotColumn column.pointsX 0) 12 (atNode file l (valueAt file q column.startNode) r 0) ∷ [])
+    []
 
 -- RULES 6.7, 12: its last point is where its end node is
 unfoldable pub lastPointChecks : List ℕ → layers.Layer → ℕ → ℕ → ℕ → List Check
-lastPointChecks file l q r left = cond (ltb 0 left && leb left 7) (check (1 + 10 * (left - 1)) 12 (atNode file l (numberIn file q 24 5) r (left - 1)) ∷ []) []
+lastPointChecks file l q r left =
+    cond (ltb 0 left && leb left 7)
+    (check (slotColumn column.pointsX (left - 1)) 12 (atNode file l (valueAt file q column.endNode) r (left - 1)) ∷ [])
+    []
 
 -- RULES 6.7, 12: both, by column
 unfoldable pub pointChecks : List ℕ → layers.Layer → ℕ → ℕ → ℕ → List Check
@@ -153,9 +162,9 @@ pointChecks file l q r left = firstPointChecks file l q r left ++ lastPointCheck
 
 -- ---- loop records
 
--- RULES 4.7: slot i of a loop record, of twelve of width 5 from 10 on
+-- RULES 4.7: slot i of a loop record, of twelve
 unfoldable pub loopEntry : List ℕ → ℕ → ℕ → ℤ
-loopEntry file r i = numberIn file r (10 + 5 * i) 5
+loopEntry file r i = slotAt file r column.loopEntries i
 
 -- RULES 4.7: slot e, counted from 0, of the loop records from record f on, twelve a record
 unfoldable pub slotOf : List ℕ → ℕ → ℕ → ℤ
@@ -163,7 +172,8 @@ slotOf file f e = loopEntry file (f + e / 12) (e % 12)
 
 -- RULES 6.7, 11: each entry of a loop record names a line
 unfoldable pub entryChecks : List ℕ → layers.Layer → ℕ → List Check
-entryChecks file l r = spread 12 (λ i. check (10 + 5 * i) 11 (isZero (loopEntry file r i) || namesLine (l .lines) (loopEntry file r i)) ∷ [])
+entryChecks file l r =
+    spread 12 (λ i. check (slotColumn column.loopEntries i) 11 (isZero (loopEntry file r i) || namesLine (l .lines) (loopEntry file r i)) ∷ [])
 
 -- ---- the stage
 

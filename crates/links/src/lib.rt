@@ -5,6 +5,7 @@
 use layers::Bases;
 use layers::Layer;
 use records::Columns;
+use records::Slots;
 use rules::Due;
 use verdict::Verdict;
 use walk::State;
@@ -14,8 +15,10 @@ ghost use Prim.Native.Nat.{_+_, _-_, _≤_, _<_};
 ghost use lib.ListN.{getD};
 ghost use Rattle.verdict.specs.declared.Verdict.the-variants.{Broken};
 ghost use Rattle.verdict.specs.Rules.{firstBroken, block};
-ghost use Rattle.permitted.specs.Permitted.{isZero};
-ghost use Rattle.links.specs.Links.{equal, entryIs, serialIn, nodeEntry, handIn, meets, nodeSlot, nodeChecks, listed, linkFits, lineEndChecks, sideChecks, lineChecks, atNode, firstPointChecks, lastPointChecks, pointChecks, slotOf, entryChecks, linkChecks, fifth, stageFour};
+ghost use Rattle.permitted.specs.Permitted.{size, isZero};
+ghost use Rattle.records.specs.View.{numberIn};
+ghost use Rattle.records.specs.Columns.{spanFrom, slotStart};
+ghost use Rattle.links.specs.Links.{equal, entryIs, nodeEntry, handIn, meets, nodeSlot, nodeChecks, listed, linkFits, lineEndChecks, sideChecks, lineChecks, atNode, firstPointChecks, lastPointChecks, pointChecks, slotOf, entryChecks, linkChecks, fifth, stageFour};
 ghost use Rattle.links.specs.Scanning.{slotBy, slotCount, clean, FirstRepeat, Between};
 
 // ---- numbers
@@ -35,11 +38,11 @@ pub fn entry_is(back: bool, n: usize, v: i32) -> bool
     (permitted::size(v) == n) & permitted::same(back, !permitted::natural(v))
 }
 
-// A record's own serial.
-fn serial_in(file: &[u8], r: usize) -> usize
-    ensures { λ x. ⌜ x ≡ serialIn (now (file .entry)) r ⌝ }
+// A record's own serial, in the columns `c`.
+fn serial_in(file: &[u8], r: usize, c: Columns) -> usize
+    ensures { λ x. ⌜ x ≡ size (numberIn (now (file .entry)) r (c .0) (c .1)) ⌝ }
 {
-    permitted::size(records::number_at(file, r, 7, 5))
+    permitted::size(records::value_at(file, r, c))
 }
 
 // A refusal at a column.
@@ -54,14 +57,25 @@ fn broken(number: u32, row: u32, column: usize) -> Verdict
     }
 }
 
+// A refusal of slot `i` of a row of slots.
+pub fn slot_broken(number: u32, row: u32, slots: Slots, i: usize) -> Verdict
+    ensures { λ r. ⌜ r ≡ Broken number row (slotStart (slots .0) (slots .1) (slots .2) i) ⌝ }
+{
+    let column = records::slot_column(slots, i);
+    Verdict::Broken {
+        number,
+        record: row,
+        column: column as u32,
+    }
+}
+
 // ---- slots
 
 // Slot `i` of an N.
 fn node_entry(file: &[u8], r: usize, i: usize) -> i32
-    requires { ⌜ i ≤ 4294967307 ⌝ }
     ensures { λ x. ⌜ x ≡ nodeEntry (now (file .entry)) r i ⌝ }
 {
-    records::number_at(file, r, 26 + 5 * i, 5)
+    records::slot_at(file, r, records::NODE_ENTRIES, i)
 }
 
 // Slot `e` of the loop records from record `f` on.
@@ -71,7 +85,7 @@ pub fn slot_of(file: &[u8], f: usize, e: usize) -> i32
     if file.len() / 74 < f {
         return 0;
     }
-    records::number_at(file, f + e / 12, 10 + 5 * (e % 12), 5)
+    records::slot_at(file, f + e / 12, records::LOOP_ENTRIES, e % 12)
 }
 
 // Whose slots they are: those of an N; or those of the loop records of an area.
@@ -92,7 +106,6 @@ fn slot_count(o: Owner) -> usize
 
 // Slot `e` of those that begin at record `f`.
 fn slot_by(o: Owner, file: &[u8], f: usize, e: usize) -> i32
-    requires { ⌜ e ≤ 4294967307 ⌝ }
     ensures { λ r. ⌜ r ≡ slotBy o (now (file .entry)) f e ⌝ }
 {
     match o {
@@ -164,7 +177,7 @@ fn meets(file: &[u8], table: &[u32], l: Layer, r: usize, v: i32) -> bool
     if !layers::names(l.nodes, e) {
         return true;
     }
-    permitted::size(e) == serial_in(file, r)
+    permitted::size(e) == serial_in(file, r, records::NODE_SERIAL)
 }
 
 // Slot `i` of the N at record `r`; `again` says that it repeats an earlier one.
@@ -185,13 +198,13 @@ fn judge_slot(
         return Verdict::Fine;
     }
     if !layers::names_line(l.lines, v) {
-        return broken(11, row, 26 + 5 * i);
+        return slot_broken(11, row, records::NODE_ENTRIES, i);
     }
     if !meets(file, table, l, r, v) {
-        return broken(12, row, 26 + 5 * i);
+        return slot_broken(12, row, records::NODE_ENTRIES, i);
     }
     if again {
-        return broken(13, row, 26 + 5 * i);
+        return slot_broken(13, row, records::NODE_ENTRIES, i);
     }
     Verdict::Fine
 }
@@ -240,53 +253,61 @@ fn link_fits(link: i32, frame: i32) -> bool
     permitted::same(permitted::is_zero(link), permitted::is_zero(frame))
 }
 
-// One end of the line at record `r`: its node number at column `c`, its link at column `k`.
-fn judge_end(file: &[u8], l: Layer, r: usize, c: usize, k: usize, back: bool, row: u32) -> Verdict
-    requires { ⌜ (c ≤ 74) × (k ≤ 74) ⌝ }
-    ensures { λ x. ⌜ x ≡ firstBroken (block fifth row (lineEndChecks (now (file .entry)) l r c k back)) ⌝ }
+// One end of the line at record `r`: its node number in the columns `c`, its link in the columns `k`.
+fn judge_end(
+    file: &[u8],
+    l: Layer,
+    r: usize,
+    c: Columns,
+    k: Columns,
+    back: bool,
+    row: u32,
+) -> Verdict
+    requires { ⌜ (c .0 ≤ 74) × (k .0 ≤ 74) ⌝ }
+    ensures { λ x. ⌜ x ≡ firstBroken (block fifth row (lineEndChecks (now (file .entry)) l r (spanFrom (c .0) (c .1)) (spanFrom (k .0) (k .1)) back)) ⌝ }
 {
-    let v = records::number_at(file, r, c, 5);
+    let v = records::value_at(file, r, c);
     if !layers::names(l.nodes, v) {
-        return broken(11, row, c);
+        return broken(11, row, c.0);
     }
     let node = layers::node_of(l, v);
-    let serial = serial_in(file, r);
+    let serial = serial_in(file, r, records::LINE_SERIAL);
     if !listed(file, node, back, serial) {
-        return broken(14, row, c);
+        return broken(14, row, c.0);
     }
-    let link = records::number_at(file, r, k, 1);
-    let frame = records::number_at(file, node, 22, 2);
+    let link = records::value_at(file, r, k);
+    let frame = records::value_at(file, node, records::NODE_FRAME);
     if !link_fits(link, frame) {
-        return broken(12, row, k);
+        return broken(12, row, k.0);
     }
     Verdict::Fine
 }
 
-// One side of the line at record `r`: its code at column `c`, its area number at column `a`.
+// One side of the line at record `r`: its code in the columns `c`, its area number in the columns `a`.
 fn judge_side(
     file: &[u8],
     table: &[u32],
     l: Layer,
     r: usize,
-    c: usize,
-    a: usize,
+    c: Columns,
+    a: Columns,
     row: u32,
 ) -> Verdict
-    requires { ⌜ (c ≤ 74) × (a ≤ 74) ⌝ }
-    ensures { λ x. ⌜ x ≡ firstBroken (block fifth row (sideChecks (now (file .entry)) (now (table .entry)) l r c a)) ⌝ }
+    requires { ⌜ (c .0 ≤ 74) × (a .0 ≤ 74) ⌝ }
+    ensures { λ x. ⌜ x ≡ firstBroken (block fifth row (sideChecks (now (file .entry)) (now (table .entry)) l r (spanFrom (c .0) (c .1)) (spanFrom (a .0) (a .1)))) ⌝ }
 {
-    let v = records::number_at(file, r, a, 5);
+    let v = records::value_at(file, r, a);
     if !layers::names(l.areas, v) {
         if permitted::is_zero(v) {
             return Verdict::Fine;
         }
-        return broken(11, row, a);
+        return broken(11, row, a.0);
     }
     let area = layers::area_of(table, l, v);
-    let code = records::number_at(file, r, c, 5);
-    let other = records::number_at(file, area, 5, 5);
+    let code = records::value_at(file, r, c);
+    let other = records::value_at(file, area, records::AREA_CODE);
     if !equal(code, other) {
-        return broken(12, row, c);
+        return broken(12, row, c.0);
     }
     Verdict::Fine
 }
@@ -295,7 +316,15 @@ fn judge_side(
 fn judge_line(file: &[u8], table: &[u32], l: Layer, r: usize, row: u32) -> Verdict
     ensures { λ x. ⌜ x ≡ firstBroken (block fifth row (lineChecks (now (file .entry)) (now (table .entry)) l r)) ⌝ }
 {
-    let start = judge_end(file, l, r, 18, 23, false, row);
+    let start = judge_end(
+        file,
+        l,
+        r,
+        records::START_NODE,
+        records::START_LINK,
+        false,
+        row,
+    );
     if let Verdict::Broken {
         number: _,
         record: _,
@@ -303,7 +332,7 @@ fn judge_line(file: &[u8], table: &[u32], l: Layer, r: usize, row: u32) -> Verdi
     } = start {
         return start;
     }
-    let end = judge_end(file, l, r, 24, 29, true, row);
+    let end = judge_end(file, l, r, records::END_NODE, records::END_LINK, true, row);
     if let Verdict::Broken {
         number: _,
         record: _,
@@ -311,7 +340,15 @@ fn judge_line(file: &[u8], table: &[u32], l: Layer, r: usize, row: u32) -> Verdi
     } = end {
         return end;
     }
-    let left = judge_side(file, table, l, r, 30, 35, row);
+    let left = judge_side(
+        file,
+        table,
+        l,
+        r,
+        records::LEFT_CODE,
+        records::LEFT_AREA,
+        row,
+    );
     if let Verdict::Broken {
         number: _,
         record: _,
@@ -319,24 +356,31 @@ fn judge_line(file: &[u8], table: &[u32], l: Layer, r: usize, row: u32) -> Verdi
     } = left {
         return left;
     }
-    judge_side(file, table, l, r, 40, 45, row)
+    judge_side(
+        file,
+        table,
+        l,
+        r,
+        records::RIGHT_CODE,
+        records::RIGHT_AREA,
+        row,
+    )
 }
 
 // ---- coordinates
 
 // Whether pair `i` of the coordinate record `r` is where the N that `v` names stands.
 fn at_node(file: &[u8], l: Layer, v: i32, r: usize, i: usize) -> bool
-    requires { ⌜ i < 7 ⌝ }
     ensures { λ x. ⌜ x ≡ atNode (now (file .entry)) l v r i ⌝ }
 {
     if !layers::names(l.nodes, v) {
         return true;
     }
     let node = layers::node_of(l, v);
-    let x = records::number_at(file, r, 1 + 10 * i, 5);
-    let y = records::number_at(file, r, 6 + 10 * i, 5);
-    equal(x, records::number_at(file, node, 12, 5))
-        & equal(y, records::number_at(file, node, 17, 5))
+    let x = records::slot_at(file, r, records::POINTS_X, i);
+    let y = records::slot_at(file, r, records::POINTS_Y, i);
+    equal(x, records::value_at(file, node, records::NODE_X))
+        & equal(y, records::value_at(file, node, records::NODE_Y))
 }
 
 // The first point, where all points of the line are left; the L is record `q`.
@@ -346,12 +390,12 @@ fn judge_first(file: &[u8], l: Layer, q: usize, r: usize, left: usize, row: u32)
     if left <= 1 {
         return Verdict::Fine;
     }
-    if left != permitted::size(records::number_at(file, q, 50, 6)) {
+    if left != permitted::size(records::value_at(file, q, records::LINE_POINTS)) {
         return Verdict::Fine;
     }
-    let v = records::number_at(file, q, 18, 5);
+    let v = records::value_at(file, q, records::START_NODE);
     if !at_node(file, l, v, r, 0) {
-        return broken(12, row, 1);
+        return slot_broken(12, row, records::POINTS_X, 0);
     }
     Verdict::Fine
 }
@@ -366,9 +410,9 @@ fn judge_last(file: &[u8], l: Layer, q: usize, r: usize, left: usize, row: u32) 
     if 7 < left {
         return Verdict::Fine;
     }
-    let v = records::number_at(file, q, 24, 5);
+    let v = records::value_at(file, q, records::END_NODE);
     if !at_node(file, l, v, r, left - 1) {
-        return broken(12, row, 1 + 10 * (left - 1));
+        return slot_broken(12, row, records::POINTS_X, left - 1);
     }
     Verdict::Fine
 }
@@ -398,7 +442,7 @@ fn judge_entries(file: &[u8], l: Layer, r: usize, row: u32) -> Verdict
     while i < 12 {
         let v = slot_of(file, r, i);
         if !permitted::is_zero(v) & !layers::names_line(l.lines, v) {
-            return broken(11, row, 10 + 5 * i);
+            return slot_broken(11, row, records::LOOP_ENTRIES, i);
         }
         i += 1;
     }
@@ -447,7 +491,7 @@ fn between(file: &[u8], table: &[u32], l: Layer, s: State) -> usize
         return 0;
     }
     let q = current_line(table, l, s.layer.line);
-    if permitted::size(records::number_at(file, q, 50, 6)) <= s.line.points {
+    if permitted::size(records::value_at(file, q, records::LINE_POINTS)) <= s.line.points {
         return 0;
     }
     (s.line.points - 1) / 7

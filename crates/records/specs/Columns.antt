@@ -133,8 +133,15 @@ abbrev pub columnOf : Column → ℕ
 columnOf c = spanOf c .start
 
 -- the number that stands there in record k
+abbrev pub numberOn : List ℕ → ℕ → Span → ℤ
+numberOn file k s = numberIn file k (s .start) (s .width)
+
 abbrev pub valueAt : List ℕ → ℕ → Column → ℤ
-valueAt file k c = numberIn file k (spanOf c .start) (spanOf c .width)
+valueAt file k c = numberOn file k (spanOf c)
+
+-- the columns from c on, w of them
+abbrev pub spanFrom : ℕ → ℕ → Span
+spanFrom c w = record { start = c; width = w }
 
 -- ---- rows of slots
 

@@ -5,6 +5,7 @@
 // The contracts cite `specs/`: `Layout` has the layouts, `Reading` and `Writing` say what a record's
 // bytes and a record's value are to each other, `View` is a record of a file.
 ghost use mathlib.Core.Path.{_≡_};
+ghost use Prim.Native.Nat.{_≤_};
 ghost use lib.ListN.{getD};
 ghost use Rattle.records.specs.Layout.{meshLayout, layerLayout, nodeLayout, lineLayout, coordinatesLayout, areaLayout, loopLayout, layoutOf};
 ghost use Rattle.records.specs.Reading.{lettersFault};
@@ -341,7 +342,7 @@ pub fn value_at(file: &[u8], k: usize, c: Columns) -> i32
 
 // The first column of slot `i` of a row, counted from 0; 0, which is no column, where there is none.
 pub fn slot_column(row: Slots, i: usize) -> usize
-    ensures { λ r. ⌜ r ≡ slotStart (row .0) (row .1) (row .2) i ⌝ }
+    ensures { λ r. ⌜ (r ≡ slotStart (row .0) (row .1) (row .2) i) × (r ≤ 65280) ⌝ }
 {
     let start = row.0 as usize;
     let step = row.1 as usize;

@@ -10,8 +10,8 @@ returns c = between-none _ _ _ _
 current-line-requires : tie.Need-current-line-requires
 current-line-requires c κs = search needs
 
-number-at-requires : tie.Need-number-at-requires
-number-at-requires c κs = search needs
+value-at-requires : tie.Need-value-at-requires
+value-at-requires c κs = search needs
 
 size-requires : tie.Need-size-requires
 size-requires c κs = search needs
@@ -27,7 +27,7 @@ returns-3 c =
     let n = c .before .before .before in
     let v = n .before in
     let q = v .before in
-    between-some _ _ _ _ (q .before .if1 .left) (c .before .if2 .left) (q .current-line .ensures) (v .number-at .ok) (v .number-at .ensures) (n .size .ensures)
+    between-some _ _ _ _ (q .before .if1 .left) (c .before .if2 .left) (q .current-line .ensures) (v .value-at .ok) (v .value-at .ensures) (n .size .ensures)
 
 pub between-spec : {M : Type 1} → statement M
-between-spec = tie.close (tie.spec returns current-line-requires number-at-requires size-requires returns-2 sub-result returns-3)
+between-spec = tie.close (tie.spec returns current-line-requires value-at-requires size-requires returns-2 sub-result returns-3)

@@ -54,7 +54,7 @@ loop-holds : tie.Need-loop-holds Inv-loop μ-loop Inv-scan μ-scan
 loop-holds c = (search needs, refl, some-none _)
 
 slot-by-requires-2 : tie.Need-slot-by-requires-2 Inv-loop μ-loop Inv-scan μ-scan
-slot-by-requires-2 c κs = 
+slot-by-requires-2 c κs =
     let p = c .before .before in
     let v = p .before in
     omega (arith, earlier-less (isZero (toZ w32 (ofZ w32 (v .slot-by .result)))) _ (p .earlier .ensures))
@@ -69,7 +69,7 @@ loop-less : tie.Need-loop-less Inv-loop μ-loop Inv-scan μ-scan
 loop-less c = search needs
 
 loop-again : tie.Need-loop-again Inv-loop μ-loop Inv-scan μ-scan
-loop-again c = 
+loop-again c =
     let w = c .before .before in
     let l = w .before .before in
     let v = l .before .before in
@@ -83,7 +83,7 @@ scan-less : tie.Need-scan-less Inv-loop μ-loop Inv-scan μ-scan
 scan-less c = search needs
 
 scan-again : tie.Need-scan-again Inv-loop μ-loop Inv-scan μ-scan
-scan-again c = 
+scan-again c =
     let l = c .before in
     let p = l .before in
     let v = p .before in
@@ -95,14 +95,14 @@ scan-again c =
     (omega arith, l .loop .inv .1 ∙ s .scan .inv .1, below-more _ _ (s .scan .inv .2) q)
 
 returns-2 : tie.Need-returns-2 Inv-loop μ-loop Inv-scan μ-scan
-returns-2 c = 
+returns-2 c =
     let s = c .before in
     let n = s .before .before in
     let z = n .slot-count .ensures .0 in
     λ m. record { within = omega (arith, z); before = λ i l. s .scan .inv .2 i (omega (arith, z)); found = λ l. absurd (omega (arith, z)) }
 
 returns-3 : tie.Need-returns-3 Inv-loop μ-loop Inv-scan μ-scan
-returns-3 c = 
+returns-3 c =
     let w = c .before .before in
     let l = w .before .before in
     let p = l .before in

@@ -4,8 +4,8 @@ use borrow.Author.Needs.{needs}
 use Rattle.links.proofs.judge_end.Statement.{statement}
 use Rattle.links.proofs.judge_end.Tie as tie
 
-number-at-requires : tie.Need-number-at-requires
-number-at-requires c κs = search needs
+value-at-requires : tie.Need-value-at-requires
+value-at-requires c κs = search needs
 
 names-requires : tie.Need-names-requires
 names-requires c κs = search needs
@@ -14,7 +14,7 @@ broken-requires : tie.Need-broken-requires
 broken-requires c κs = search needs
 
 returns : tie.Need-returns
-returns c = end-unnamed _ _ _ _ _ _ _ (c .before .before .before .number-at .ok) (c .before .before .before .number-at .ensures) (c .before .before .names .ensures) (c .before .if1 .taken) (c .broken .ensures)
+returns c = end-unnamed _ _ _ _ _ _ _ (c .before .before .before .value-at .ok) (c .before .before .before .value-at .ensures) (c .before .before .names .ensures) (c .before .if1 .taken) (c .broken .ensures)
 
 node-of-requires : tie.Need-node-of-requires
 node-of-requires c κs = search needs
@@ -29,13 +29,13 @@ broken-requires-2 : tie.Need-broken-requires-2
 broken-requires-2 c κs = search needs
 
 returns-2 : tie.Need-returns-2
-returns-2 c = end-unlisted _ _ _ _ _ _ _ (c .before .before .before .before .before .before .before .number-at .ok) (c .before .before .before .before .before .before .before .number-at .ensures) (c .before .before .before .before .node-of .ensures) (c .before .before .before .serial-in .ensures) (c .before .before .listed .ensures) (c .before .before .before .before .before .before .names .ensures) (c .before .before .before .before .before .if1 .left) (c .before .if2 .taken) (c .broken2 .ensures)
+returns-2 c = end-unlisted _ _ _ _ _ _ _ (c .before .before .before .before .before .before .before .value-at .ok) (c .before .before .before .before .before .before .before .value-at .ensures) (c .before .before .before .before .node-of .ensures) (c .before .before .before .serial-in .ensures) (c .before .before .listed .ensures) (c .before .before .before .before .before .before .names .ensures) (c .before .before .before .before .before .if1 .left) (c .before .if2 .taken) (c .broken2 .ensures)
 
-number-at-requires-2 : tie.Need-number-at-requires-2
-number-at-requires-2 c κs = search needs
+value-at-requires-2 : tie.Need-value-at-requires-2
+value-at-requires-2 c κs = search needs
 
-number-at-requires-3 : tie.Need-number-at-requires-3
-number-at-requires-3 c κs = search needs
+value-at-requires-3 : tie.Need-value-at-requires-3
+value-at-requires-3 c κs = search needs
 
 link-fits-requires : tie.Need-link-fits-requires
 link-fits-requires c κs = search needs
@@ -44,16 +44,16 @@ broken-requires-3 : tie.Need-broken-requires-3
 broken-requires-3 c κs = search needs
 
 returns-3 : tie.Need-returns-3
-returns-3 c = end-unfit _ _ _ _ _ _ _ (c .before .before .before .before .before .before .before .before .before .before .before .number-at .ok) (c .before .before .before .before .before .before .before .before .before .before .before .number-at .ensures) (c .before .before .before .before .before .before .before .before .node-of .ensures) (c .before .before .before .before .number-at2 .ok) (c .before .before .before .before .number-at2 .ensures) (c .before .before .before .number-at3 .ok) (c .before .before .before .number-at3 .ensures) (c .before .before .link-fits .ensures) (c .before .before .before .before .before .before .before .before .before .before .names .ensures) (c .before .before .before .before .before .before .before .before .before .if1 .left) (c .before .before .before .before .before .before .before .serial-in .ensures) (c .before .before .before .before .before .before .listed .ensures) (c .before .before .before .before .before .if2 .left) (c .before .if3 .taken) (c .broken3 .ensures)
+returns-3 c = end-unfit _ _ _ _ _ _ _ (c .before .before .before .before .before .before .before .before .before .before .before .value-at .ok) (c .before .before .before .before .before .before .before .before .before .before .before .value-at .ensures) (c .before .before .before .before .before .before .before .before .node-of .ensures) (c .before .before .before .before .value-at2 .ok) (c .before .before .before .before .value-at2 .ensures) (c .before .before .before .value-at3 .ok) (c .before .before .before .value-at3 .ensures) (c .before .before .link-fits .ensures) (c .before .before .before .before .before .before .before .before .before .before .names .ensures) (c .before .before .before .before .before .before .before .before .before .if1 .left) (c .before .before .before .before .before .before .before .serial-in .ensures) (c .before .before .before .before .before .before .listed .ensures) (c .before .before .before .before .before .if2 .left) (c .before .if3 .taken) (c .broken3 .ensures)
 
 returns-4 : tie.Need-returns-4
-returns-4 c = end-fine _ _ _ _ _ _ _ (c .before .before .before .before .before .before .before .before .before .before .number-at .ok) (c .before .before .before .before .before .before .before .before .before .before .number-at .ensures) (c .before .before .before .before .before .before .before .node-of .ensures) (c .before .before .before .number-at2 .ok) (c .before .before .before .number-at2 .ensures) (c .before .before .number-at3 .ok) (c .before .before .number-at3 .ensures) (c .before .link-fits .ensures) (c .before .before .before .before .before .before .before .before .before .names .ensures) (c .before .before .before .before .before .before .before .before .if1 .left) (c .before .before .before .before .before .before .serial-in .ensures) (c .before .before .before .before .before .listed .ensures) (c .before .before .before .before .if2 .left) (c .if3 .left)
+returns-4 c = end-fine _ _ _ _ _ _ _ (c .before .before .before .before .before .before .before .before .before .before .value-at .ok) (c .before .before .before .before .before .before .before .before .before .before .value-at .ensures) (c .before .before .before .before .before .before .before .node-of .ensures) (c .before .before .before .value-at2 .ok) (c .before .before .before .value-at2 .ensures) (c .before .before .value-at3 .ok) (c .before .before .value-at3 .ensures) (c .before .link-fits .ensures) (c .before .before .before .before .before .before .before .before .before .names .ensures) (c .before .before .before .before .before .before .before .before .if1 .left) (c .before .before .before .before .before .before .serial-in .ensures) (c .before .before .before .before .before .listed .ensures) (c .before .before .before .before .if2 .left) (c .if3 .left)
 
 pub judge-end-spec : {M : Type 1} → statement M
 judge-end-spec =
     tie.close
     (tie.spec
-    number-at-requires
+    value-at-requires
     names-requires
     broken-requires
     returns
@@ -62,8 +62,8 @@ judge-end-spec =
     listed-requires
     broken-requires-2
     returns-2
-    number-at-requires-2
-    number-at-requires-3
+    value-at-requires-2
+    value-at-requires-3
     link-fits-requires
     broken-requires-3
     returns-3

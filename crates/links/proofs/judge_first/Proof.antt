@@ -7,17 +7,17 @@ use Rattle.links.proofs.judge_first.Tie as tie
 returns : tie.Need-returns
 returns c = first-few _ _ _ _ _ _ (c .if1 .taken)
 
-number-at-requires : tie.Need-number-at-requires
-number-at-requires c κs = search needs
+value-at-requires : tie.Need-value-at-requires
+value-at-requires c κs = search needs
 
 size-requires : tie.Need-size-requires
 size-requires c κs = search needs
 
 returns-2 : tie.Need-returns-2
-returns-2 c = first-later _ _ _ _ _ _ (c .before .before .before .if1 .left) (c .before .before .number-at .ok) (c .before .before .number-at .ensures) (c .before .size .ensures) (c .if2 .taken)
+returns-2 c = first-later _ _ _ _ _ _ (c .before .before .before .if1 .left) (c .before .before .value-at .ok) (c .before .before .value-at .ensures) (c .before .size .ensures) (c .if2 .taken)
 
-number-at-requires-2 : tie.Need-number-at-requires-2
-number-at-requires-2 c κs = search needs
+value-at-requires-2 : tie.Need-value-at-requires-2
+value-at-requires-2 c κs = search needs
 
 at-node-requires : tie.Need-at-node-requires
 at-node-requires c κs = search needs
@@ -26,20 +26,20 @@ broken-requires : tie.Need-broken-requires
 broken-requires c κs = search needs
 
 returns-3 : tie.Need-returns-3
-returns-3 c = first-broken _ _ _ _ _ _ (c .before .before .before .before .before .before .before .if1 .left) (c .before .before .before .before .before .before .number-at .ok) (c .before .before .before .before .before .before .number-at .ensures) (c .before .before .before .before .before .size .ensures) (c .before .before .before .before .if2 .left) (c .before .before .before .number-at2 .ok) (c .before .before .before .number-at2 .ensures) (c .before .before .at-node .ensures) (c .before .if3 .taken) (c .broken .ensures)
+returns-3 c = first-broken _ _ _ _ _ _ (c .before .before .before .before .before .before .before .if1 .left) (c .before .before .before .before .before .before .value-at .ok) (c .before .before .before .before .before .before .value-at .ensures) (c .before .before .before .before .before .size .ensures) (c .before .before .before .before .if2 .left) (c .before .before .before .value-at2 .ok) (c .before .before .before .value-at2 .ensures) (c .before .before .at-node .ensures) (c .before .if3 .taken) (c .broken .ensures)
 
 returns-4 : tie.Need-returns-4
-returns-4 c = first-kept _ _ _ _ _ _ (c .before .before .before .before .before .before .if1 .left) (c .before .before .before .before .before .number-at .ok) (c .before .before .before .before .before .number-at .ensures) (c .before .before .before .before .size .ensures) (c .before .before .before .if2 .left) (c .before .before .number-at2 .ok) (c .before .before .number-at2 .ensures) (c .before .at-node .ensures) (c .if3 .left)
+returns-4 c = first-kept _ _ _ _ _ _ (c .before .before .before .before .before .before .if1 .left) (c .before .before .before .before .before .value-at .ok) (c .before .before .before .before .before .value-at .ensures) (c .before .before .before .before .size .ensures) (c .before .before .before .if2 .left) (c .before .before .value-at2 .ok) (c .before .before .value-at2 .ensures) (c .before .at-node .ensures) (c .if3 .left)
 
 pub judge-first-spec : {M : Type 1} → statement M
 judge-first-spec =
     tie.close
     (tie.spec
     returns
-    number-at-requires
+    value-at-requires
     size-requires
     returns-2
-    number-at-requires-2
+    value-at-requires-2
     at-node-requires
     broken-requires
     returns-3

@@ -10,8 +10,8 @@ returns c = last-none _ _ _ _ _ _ (c .if1 .taken)
 returns-2 : tie.Need-returns-2
 returns-2 c = last-later _ _ _ _ _ _ (c .before .if1 .left) (c .if2 .taken)
 
-number-at-requires : tie.Need-number-at-requires
-number-at-requires c κs = search needs
+value-at-requires : tie.Need-value-at-requires
+value-at-requires c κs = search needs
 
 sub-at-node : tie.Need-sub-at-node
 sub-at-node c = search needs
@@ -32,10 +32,10 @@ broken-requires : tie.Need-broken-requires
 broken-requires c κs = search needs
 
 returns-3 : tie.Need-returns-3
-returns-3 c = last-broken _ _ _ _ _ _ (c .before .before .before .before .before .if1 .left) (c .before .before .before .before .if2 .left) (c .before .before .before .number-at .ok) (c .before .before .before .number-at .ensures) (c .before .before .at-node .ensures) (c .before .if3 .taken) (c .broken .ensures)
+returns-3 c = last-broken _ _ _ _ _ _ (c .before .before .before .before .before .if1 .left) (c .before .before .before .before .if2 .left) (c .before .before .before .value-at .ok) (c .before .before .before .value-at .ensures) (c .before .before .at-node .ensures) (c .before .if3 .taken) (c .broken .ensures)
 
 returns-4 : tie.Need-returns-4
-returns-4 c = last-kept _ _ _ _ _ _ (c .before .before .before .before .if1 .left) (c .before .before .before .if2 .left) (c .before .before .number-at .ok) (c .before .before .number-at .ensures) (c .before .at-node .ensures) (c .if3 .left)
+returns-4 c = last-kept _ _ _ _ _ _ (c .before .before .before .before .if1 .left) (c .before .before .before .if2 .left) (c .before .before .value-at .ok) (c .before .before .value-at .ensures) (c .before .at-node .ensures) (c .if3 .left)
 
 pub judge-last-spec : {M : Type 1} → statement M
 judge-last-spec =
@@ -43,7 +43,7 @@ judge-last-spec =
     (tie.spec
     returns
     returns-2
-    number-at-requires
+    value-at-requires
     sub-at-node
     at-node-requires
     sub-broken

@@ -55,8 +55,7 @@ loop-again c =
     let v = c .before .before in
     let l = v .before .before in
     let f = c .enum-told2 .given .1 in
-    let q = slot-clean _ _ _ _ _ _ (sym (v .judge-slot .ensures) ∙ f) in
-    (
+    let q = slot-clean _ _ _ _ _ _ (sym (v .judge-slot .ensures) ∙ f) in (
       search needs,
       goes-past (nodeEntry _ _) 0 9 _ _ (l .before .first-repeat .ensures (lit≤ tt)) (v .before .loop-test .taken) (l .loop .inv .1) (rw zero-add q),
       rows-pass _ _ (l .loop .inv .2) (v .judge-slot .ensures) f,

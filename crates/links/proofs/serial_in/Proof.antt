@@ -5,14 +5,14 @@ use Rattle.links.proofs.Numbers.{told}
 use Rattle.links.proofs.serial_in.Statement.{statement}
 use Rattle.links.proofs.serial_in.Tie as tie
 
-number-at-requires : tie.Need-number-at-requires
-number-at-requires c κs = search needs
+value-at-requires : tie.Need-value-at-requires
+value-at-requires c κs = search needs
 
 size-requires : tie.Need-size-requires
 size-requires c κs = search needs
 
 returns : tie.Need-returns
-returns c = told size (c .before .number-at .ok) (c .before .number-at .ensures) (c .size .ensures)
+returns c = told size (c .before .value-at .ok) (c .before .value-at .ensures) (c .size .ensures)
 
 pub serial-in-spec : {M : Type 1} → statement M
-serial-in-spec = tie.close (tie.spec number-at-requires size-requires returns)
+serial-in-spec = tie.close (tie.spec value-at-requires size-requires returns)

@@ -12,7 +12,7 @@ number-at-requires : tie.Need-number-at-requires
 number-at-requires c κs = search needs
 
 returns : tie.Need-returns
-returns c = toZ-ofZ (record { sfits = c .number-at .ok }) ∙ c .number-at .ensures ∙ rw (c .before .slot-column .ensures)
+returns c = toZ-ofZ (record { sfits = c .number-at .ok }) ∙ c .number-at .ensures ∙ rw (c .before .slot-column .ensures .0)
 
 pub slot-at-spec : {M : Type 1} → statement M
 slot-at-spec = tie.close (tie.spec slot-column-requires number-at-requires returns)

@@ -17,7 +17,7 @@ cast-count : tie.Need-cast-count
 cast-count c = search needs
 
 returns : tie.Need-returns
-returns c = sym (start-past _ _ _ _ (c .if1 .taken))
+returns c = (sym (start-past _ _ _ _ (c .if1 .taken)), search needs)
 
 mul-result : tie.Need-mul-result
 mul-result c =
@@ -30,7 +30,9 @@ add-result c =
     record { fits = omega (arith, small-product {a = a .row .1} {b = a .i} (omega arith) (omega arith)) }
 
 returns-2 : tie.Need-returns-2
-returns-2 c = sym (start-there _ _ _ _ (c .if1 .left))
+returns-2 c =
+    let a = c .before .before .before .before .args in
+    (sym (start-there _ _ _ _ (c .if1 .left)), omega (arith, small-product {a = a .row .1} {b = a .i} (omega arith) (omega arith)))
 
 pub slot-column-spec : {M : Type 1} → statement M
 slot-column-spec = tie.close (tie.spec cast-start cast-step cast-count returns mul-result add-result returns-2)
