@@ -1,7 +1,7 @@
 -- The entries of a loop and of an area (RULES 2.3, 2.6, 4.7): a loop record has its line count at 6 and twelve slots of width 5 from 10 on,
 -- and a loop of n lines takes n/12 records, rounded up. An area's loops follow its A one after another, so its slots stand in one
 -- row, twelve a record. A slot that is 0 is no entry (RULES 1.3); those past the count are 0 (RULES 5.9). Assumes nothing.
---   slotOf file f e      slot e, counted from 0, of the loop records from record f on
+--   slotOf file f e      slot e, counted from 0, of the loop records from record f on (links)
 --   entriesTo file f n   the entries in the first n of these slots
 --   countAt, loopsAt     a loop's line count; how many loops an A has
 --   recordsFor n         the records of a loop of n lines
@@ -9,16 +9,12 @@
 --   slotsOf file a       how many slots the area has
 --   loopAt, loopsTo      the entries of the loop whose first record is f; those of the area's first n loops
 use mathlib.Core.List.{List, [], _∷_, _++_}
-use Prim.Native.Nat.{ℕ, zero, suc, _+_, _*_, _-_, _/_, _%_}
+use Prim.Native.Nat.{ℕ, zero, suc, _+_, _*_, _-_, _/_}
 use lib.IntN.{ℤ, pos, negsuc}
 use Rattle.records.specs.View.{numberIn}
 use Rattle.permitted.specs.Permitted.{size}
 use Rattle.measures.specs.Measures.{Entry, plus, minus}
-use Rattle.links.specs.Links.{loopEntry}
-
--- RULES 4.7: twelve slots a record
-unfoldable pub slotOf : List ℕ → ℕ → ℕ → ℤ
-slotOf file f e = loopEntry file (f + e / 12) (e % 12)
+unfoldable pub use Rattle.links.specs.Links.{slotOf}
 
 -- RULES 1.2, 1.3: +n, -n, or none
 abbrev pub entryOf : ℤ → List Entry

@@ -9,21 +9,11 @@ ghost use Prim.Native.Nat.{_≤_, min};
 ghost use lib.ListN.{length};
 ghost use lib.Seq.{sets};
 ghost use Rattle.permitted.specs.Permitted.{size};
-ghost use Rattle.entries.specs.Entries.{slotOf, recordsFor, countAt, loopsAt, slotsOf};
+ghost use Rattle.entries.specs.Entries.{recordsFor, countAt, loopsAt, slotsOf};
 ghost use Rattle.entries.specs.Loops.{slotMeasure};
 ghost use Rattle.entries.specs.Keeping.{walkedTo, possibleOf, keptMeasure, keptLoop};
 
-// ---- slots
-
-// Slot `e` of the loop records from record `f` on.
-pub fn slot_of(file: &[u8], f: usize, e: usize) -> i32
-    ensures { λ r. ⌜ r ≡ slotOf (now (file .entry)) f e ⌝ }
-{
-    if file.len() / 74 < f {
-        return 0;
-    }
-    records::number_at(file, f + e / 12, 10 + 5 * (e % 12), 5)
-}
+// ---- records
 
 // The records of a loop of `n` lines.
 fn records_for(n: usize) -> usize
@@ -136,7 +126,7 @@ pub fn loop_measure(file: &[u8], l: Layer, kept: &[i64], f: usize) -> i64
     let mut sum: i64 = 0;
     let mut e: usize = 0;
     while e < n {
-        let v = slot_of(file, f, e);
+        let v = links::slot_of(file, f, e);
         sum += entry_measure(l, kept, v);
         e += 1;
     }

@@ -12,15 +12,16 @@ use borrow.Author.Tests.{not-true, not-false, lt-ltb, le-ltb, le-leb, lt-leb, eq
 use Rattle.records.specs.View.{numberIn}
 use Rattle.verdict.specs.declared.Verdict.{Verdict}
 use Rattle.verdict.specs.declared.Verdict.the-variants.{Fine, Broken}
-use Rattle.verdict.specs.Rules.{Rule, Check, check, firstBroken, block, rows}
-use Rattle.verdict.proofs.Parts.{stands, goes-on, rows-pass, rows-stop, rows-done, block-append, spread-rows, check-none, check-kept, check-broken}
+use Rattle.verdict.specs.Rules.{Check, check, firstBroken, block, rows}
+use Rattle.verdict.proofs.Parts.{stands, goes-on, rows-pass, block-append, check-none, check-kept, check-broken}
 use Rattle.permitted.specs.Permitted.{size}
 use Rattle.permitted.proofs.Signs.{passed-on}
 use Rattle.layers.specs.declared.Layer.{Layer}
 use Rattle.layers.specs.Naming.{names, namesLine, nodeOf, areaOf}
-use Rattle.links.specs.Links.{isZero, equal, entryIs, some, serialIn, nodeEntry, listed, linkFits, lineEndChecks, sideChecks, atNode, firstPointChecks, lastPointChecks, pointChecks, loopEntry, entryChecks, fifth}
+use Rattle.links.specs.Links.{isZero, equal, entryIs, some, serialIn, nodeEntry, listed, linkFits, lineEndChecks, sideChecks, atNode}
+use Rattle.links.specs.Links.{firstPointChecks, lastPointChecks, pointChecks, loopEntry, entryChecks, fifth}
 use Rattle.links.proofs.Numbers.{asked, told-both}
-use Rattle.links.proofs.NodeLaws.{some-none, some-more, some-hit}
+use Rattle.links.proofs.Scans.{some-none, some-more, some-hit, slotRules, slots-stop, slots-done}
 
 -- ---- answers
 
@@ -247,25 +248,25 @@ not-both : (a b : Bool) → (not a && not b) ≡ false → (a || b) ≡ true
 not-both true b h = refl
 not-both false b h = not-false b h
 
-abbrev pub entrySlot : List ℕ → Layer → ℕ → ℕ → ℕ → List Rule
-entrySlot file l r row i = block fifth row (check (10 + 5 * i) 11 (isZero (loopEntry file r i) || namesLine (l .lines) (loopEntry file r i)) ∷ [])
+abbrev pub entrySlot : List ℕ → Layer → ℕ → ℕ → List Check
+entrySlot file l r i = check (10 + 5 * i) 11 (isZero (loopEntry file r i) || namesLine (l .lines) (loopEntry file r i)) ∷ []
 
 module _ (file : List ℕ) (l : Layer) (r row : ℕ) where
-  entry-rows : firstBroken (rows 12 (entrySlot file l r row)) ≡ firstBroken (block fifth row (entryChecks file l r))
-  unfolding entryChecks
-  entry-rows = ap firstBroken (sym (spread-rows fifth row 12 (λ i. check (10 + 5 * i) 11 (isZero (loopEntry file r i) || namesLine (l .lines) (loopEntry file r i)) ∷ [])))
-
   -- a says whether the entry z is 0, and b whether it names a line
   module _ (i : ℕ) {z : ℤ} {a b : Bool} (ok : Small z) (e : z ≡ loopEntry file r i) (p : a ≡ isZero (passed z)) (n : b ≡ namesLine (l .lines) (passed z)) where
     entry-is : (isZero (loopEntry file r i) || namesLine (l .lines) (loopEntry file r i)) ≡ (a || b)
     entry-is = rw (told isZero ok e p, told (namesLine (l .lines)) ok e n)
 
-    pub entries-stop : {x : Verdict} → x ≡ Broken 11 row (10 + 5 * i) → (not a && not b) ≡ true → i < 12 → firstBroken (rows i (entrySlot file l r row)) ≡ Fine
-        → x ≡ firstBroken (block fifth row (entryChecks file l r))
-    entries-stop v t k f = rows-stop (entrySlot file l r row) 12 i k f (broke _ _ _ _ _ (entry-is ∙ both-not a b t) v) v ∙ entry-rows
+    pub entries-stop : {x : Verdict} → x ≡ Broken 11 row (10 + 5 * i) → (not a && not b) ≡ true → i < 12
+        → firstBroken (rows i (slotRules fifth row (entrySlot file l r))) ≡ Fine → x ≡ firstBroken (block fifth row (entryChecks file l r))
+    unfolding entryChecks
+    entries-stop v t k f = slots-stop fifth row 12 (entrySlot file l r) i v (broke _ _ _ _ _ (entry-is ∙ both-not a b t) v) f k
 
-    pub entries-pass : (not a && not b) ≡ false → firstBroken (rows i (entrySlot file l r row)) ≡ Fine → firstBroken (rows (i + 1) (entrySlot file l r row)) ≡ Fine
-    entries-pass t f = rows-pass (entrySlot file l r row) i f (kept _ _ _ _ _ (entry-is ∙ not-both a b t) (check-none fifth row)) refl
+    pub entries-pass : (not a && not b) ≡ false → firstBroken (rows i (slotRules fifth row (entrySlot file l r))) ≡ Fine
+        → firstBroken (rows (i + 1) (slotRules fifth row (entrySlot file l r))) ≡ Fine
+    entries-pass t f = rows-pass (slotRules fifth row (entrySlot file l r)) i f (kept _ _ _ _ _ (entry-is ∙ not-both a b t) (check-none fifth row)) refl
 
-  pub entries-done : (i : ℕ) → firstBroken (rows i (entrySlot file l r row)) ≡ Fine → i ≤ 12 → 12 ≤ i → Fine ≡ firstBroken (block fifth row (entryChecks file l r))
-  entries-done i f k m = rows-done (entrySlot file l r row) 12 i k m f ∙ entry-rows
+  pub entries-done : (i : ℕ) → firstBroken (rows i (slotRules fifth row (entrySlot file l r))) ≡ Fine → i ≤ 12 → 12 ≤ i
+      → Fine ≡ firstBroken (block fifth row (entryChecks file l r))
+  unfolding entryChecks
+  entries-done i f k m = slots-done fifth row 12 (entrySlot file l r) i f k m

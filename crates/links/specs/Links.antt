@@ -9,11 +9,13 @@
 --   stageFour file t b   all of them, in the order of RULES 6.1; b says where the lines and the areas begin in the table
 use mathlib.Core.Bool.{Bool, true, false, cond, _&&_, _||_, not}
 use mathlib.Core.List.{List, [], _∷_, _++_}
-use Prim.Native.Nat.{ℕ, zero, suc, _+_, _*_, _-_}
+use Prim.Native.Nat.{ℕ, zero, suc, _+_, _*_, _-_, _/_, _%_}
 use lib.Dec.{eqb, leb, ltb}
 use lib.IntN.{ℤ}
 use lib.ListN.{getD}
 use Rattle.records.specs.View.{numberIn}
+use Rattle.records.specs.Columns.{Column, spanOf}
+use Rattle.records.specs.Columns as column
 use Rattle.verdict.specs.Rules.{Rule, Check, check, spread}
 use Rattle.permitted.specs.Permitted.{natural, size, same}
 use Rattle.rules.specs.declared.Due.{Due}
@@ -43,6 +45,10 @@ unfoldable pub some : ℕ → (ℕ → Bool) → Bool
 some zero f = false
 some (suc n) f = some n f || f n
 
+-- RULES 6.7, 6.8, 13: slot e of the row of slots f is the same, sign and all, as an earlier one
+abbrev pub repeats : (ℕ → ℤ) → ℕ → Bool
+repeats f e = some e (λ j. equal (f e) (f j))
+
 -- RULES 4.3, 4.4: a record's own serial, at 7 in an N and in an L
 abbrev pub serialIn : List ℕ → ℕ → ℕ
 serialIn file r = size (numberIn file r 7 5)
@@ -53,9 +59,17 @@ serialIn file r = size (numberIn file r 7 5)
 unfoldable pub nodeEntry : List ℕ → ℕ → ℕ → ℤ
 nodeEntry file r i = numberIn file r (26 + 5 * i) 5
 
--- RULES 4.4: the node where line v starts, at 18, or, backwards, ends, at 24
+-- RULES 1.2, 4.4: of the line that the entry v names, the number in the w columns from c on; backwards, that in the x columns from d on
+abbrev pub handIn : List ℕ → List ℕ → layers.Layer → ℕ → ℕ → ℕ → ℕ → ℤ → ℤ
+handIn file t l c w d x v = cond (natural v) (numberIn file (lineOf t l v) c w) (numberIn file (lineOf t l v) d x)
+
+-- the same by the names of the fields
+abbrev pub onHand : List ℕ → List ℕ → layers.Layer → Column → Column → ℤ → ℤ
+onHand file t l c d v = handIn file t l (spanOf c .start) (spanOf c .width) (spanOf d .start) (spanOf d .width) v
+
+-- RULES 4.4: the node where line v starts or, backwards, ends
 unfoldable pub endNode : List ℕ → List ℕ → layers.Layer → ℤ → ℤ
-endNode file t l v = numberIn file (lineOf t l v) (cond (natural v) 18 24) 5
+endNode file t l v = onHand file t l column.startNode column.endNode v
 
 -- RULES 6.7, 12: the line of an entry +n starts at this node, that of -n ends here; it waits where the entry names no line, or that end of
 -- the line no node
@@ -67,7 +81,7 @@ meets file t l r v =
 
 -- RULES 6.7, 13: an entry of a node is the same, sign and all, as an earlier one of that node
 unfoldable pub repeatsNode : List ℕ → ℕ → ℕ → Bool
-repeatsNode file r i = some i (λ j. equal (nodeEntry file r i) (nodeEntry file r j))
+repeatsNode file r i = repeats (nodeEntry file r) i
 
 -- RULES 6.7, 11 to 13: slot i of an N; a slot that is 0 is empty (RULES 1.3)
 unfoldable pub nodeSlot : List ℕ → List ℕ → layers.Layer → ℕ → ℕ → List Check
@@ -145,6 +159,10 @@ pointChecks file l q r left = firstPointChecks file l q r left ++ lastPointCheck
 -- RULES 4.7: slot i of a loop record, of twelve of width 5 from 10 on
 unfoldable pub loopEntry : List ℕ → ℕ → ℕ → ℤ
 loopEntry file r i = numberIn file r (10 + 5 * i) 5
+
+-- RULES 4.7: slot e, counted from 0, of the loop records from record f on, twelve a record
+unfoldable pub slotOf : List ℕ → ℕ → ℕ → ℤ
+slotOf file f e = loopEntry file (f + e / 12) (e % 12)
 
 -- RULES 6.7, 11: each entry of a loop record names a line
 unfoldable pub entryChecks : List ℕ → layers.Layer → ℕ → List Check

@@ -4,6 +4,7 @@
 // The contracts cite `specs/Links.antt`.
 use layers::Bases;
 use layers::Layer;
+use records::Columns;
 use rules::Due;
 use verdict::Verdict;
 use walk::State;
@@ -13,8 +14,8 @@ ghost use Prim.Native.Nat.{_+_, _-_, _≤_, _<_};
 ghost use lib.ListN.{getD};
 ghost use Rattle.verdict.specs.declared.Verdict.the-variants.{Broken};
 ghost use Rattle.verdict.specs.Rules.{firstBroken, block};
-ghost use Rattle.links.specs.Links.{isZero, equal, entryIs, serialIn, nodeEntry, endNode, meets, nodeSlot, nodeChecks, listed, linkFits, lineEndChecks, sideChecks, lineChecks, atNode, firstPointChecks, lastPointChecks, pointChecks, loopEntry, entryChecks, linkChecks, fifth, stageFour};
-ghost use Rattle.links.specs.Scanning.{clean, FirstRepeat, Between};
+ghost use Rattle.links.specs.Links.{isZero, equal, entryIs, serialIn, nodeEntry, handIn, meets, nodeSlot, nodeChecks, listed, linkFits, lineEndChecks, sideChecks, lineChecks, atNode, firstPointChecks, lastPointChecks, pointChecks, slotOf, entryChecks, linkChecks, fifth, stageFour};
+ghost use Rattle.links.specs.Scanning.{slotBy, slotCount, clean, FirstRepeat, Between};
 
 // ---- numbers
 
@@ -58,25 +59,102 @@ fn broken(number: u32, row: u32, column: usize) -> Verdict
     }
 }
 
-// ---- N
+// ---- slots
 
 // Slot `i` of an N.
 fn node_entry(file: &[u8], r: usize, i: usize) -> i32
-    requires { ⌜ i < 9 ⌝ }
+    requires { ⌜ i ≤ 4294967307 ⌝ }
     ensures { λ x. ⌜ x ≡ nodeEntry (now (file .entry)) r i ⌝ }
 {
     records::number_at(file, r, 26 + 5 * i, 5)
 }
 
-// The node where a line starts or, backwards, ends.
-pub fn end_node(file: &[u8], table: &[u32], l: Layer, v: i32) -> i32
-    ensures { λ x. ⌜ x ≡ endNode (now (file .entry)) (now (table .entry)) l v ⌝ }
+// Slot `e` of the loop records from record `f` on.
+pub fn slot_of(file: &[u8], f: usize, e: usize) -> i32
+    ensures { λ r. ⌜ r ≡ slotOf (now (file .entry)) f e ⌝ }
+{
+    if file.len() / 74 < f {
+        return 0;
+    }
+    records::number_at(file, f + e / 12, 10 + 5 * (e % 12), 5)
+}
+
+// Whose slots they are: those of an N; or those of the loop records of an area.
+pub enum Owner {
+    Node,
+    Area,
+}
+
+// How many of them a record has.
+fn slot_count(o: Owner) -> usize
+    ensures { λ r. ⌜ r ≡ slotCount o ⌝ }
+{
+    match o {
+        Owner::Node => 9,
+        Owner::Area => 12,
+    }
+}
+
+// Slot `e` of those that begin at record `f`.
+fn slot_by(o: Owner, file: &[u8], f: usize, e: usize) -> i32
+    requires { ⌜ e ≤ 4294967307 ⌝ }
+    ensures { λ r. ⌜ r ≡ slotBy o (now (file .entry)) f e ⌝ }
+{
+    match o {
+        Owner::Node => node_entry(file, f, e),
+        Owner::Area => slot_of(file, f, e),
+    }
+}
+
+// How many earlier slots the entry `v` of slot `e` is compared with: none where it is no entry.
+fn earlier(v: i32, e: usize) -> usize
+    ensures { λ x. ⌜ x ≡ cond (isZero v) 0 e ⌝ }
+{
+    if is_zero(v) {
+        return 0;
+    }
+    e
+}
+
+// Of the slots of one record, from slot `from` on, the first that repeats an earlier slot; or how many
+// they are. `f` is the record where the slots begin.
+pub fn first_repeat(o: Owner, file: &[u8], f: usize, from: usize) -> usize
+    ensures { λ x. ⌜ (from ≤ 4294967295 → FirstRepeat (slotBy o (now (file .entry)) f) from (slotCount o) x) ⌝ }
+{
+    let n = slot_count(o);
+    let mut at = n;
+    if 4294967295 < from {
+        return at;
+    }
+    let mut i: usize = 0;
+    'scan: while i < n {
+        let v = slot_by(o, file, f, from + i);
+        let stop = earlier(v, from + i);
+        let mut j: usize = 0;
+        while j < stop {
+            let w = slot_by(o, file, f, j);
+            if equal(v, w) {
+                at = i;
+                break 'scan;
+            }
+            j += 1;
+        }
+        i += 1;
+    }
+    at
+}
+
+// ---- N
+
+// Of the line that an entry names, the number in the field `c`; backwards, that in the field `d`.
+pub fn on_hand(file: &[u8], table: &[u32], l: Layer, c: Columns, d: Columns, v: i32) -> i32
+    ensures { λ x. ⌜ x ≡ handIn (now (file .entry)) (now (table .entry)) l (c .0) (c .1) (d .0) (d .1) v ⌝ }
 {
     let r = layers::line_of(table, l, v);
     if permitted::natural(v) {
-        return records::number_at(file, r, 18, 5);
+        return records::value_at(file, r, c);
     }
-    records::number_at(file, r, 24, 5)
+    records::value_at(file, r, d)
 }
 
 // Whether line `v` starts or, backwards, ends at the N of record `r`; it waits where a number names
@@ -87,44 +165,11 @@ fn meets(file: &[u8], table: &[u32], l: Layer, r: usize, v: i32) -> bool
     if !layers::names_line(l.lines, v) {
         return true;
     }
-    let e = end_node(file, table, l, v);
+    let e = on_hand(file, table, l, records::START_NODE, records::END_NODE, v);
     if !layers::names(l.nodes, e) {
         return true;
     }
     permitted::size(e) == serial_in(file, r)
-}
-
-// How many earlier slots the entry `v` of slot `i` is compared with: none where it is no entry.
-fn earlier(v: i32, i: usize) -> usize
-    ensures { λ x. ⌜ x ≡ cond (isZero v) 0 i ⌝ }
-{
-    if is_zero(v) {
-        return 0;
-    }
-    i
-}
-
-// The first slot of an N that repeats an earlier one, or 9.
-fn first_repeat(file: &[u8], r: usize) -> usize
-    ensures { λ x. ⌜ FirstRepeat (now (file .entry)) r x ⌝ }
-{
-    let mut at: usize = 9;
-    let mut i: usize = 0;
-    'scan: while i < 9 {
-        let v = node_entry(file, r, i);
-        let stop = earlier(v, i);
-        let mut j: usize = 0;
-        while j < stop {
-            let w = node_entry(file, r, j);
-            if equal(v, w) {
-                at = i;
-                break 'scan;
-            }
-            j += 1;
-        }
-        i += 1;
-    }
-    at
 }
 
 // Slot `i` of the N at record `r`; `again` says that it repeats an earlier one.
@@ -137,7 +182,7 @@ fn judge_slot(
     again: bool,
     row: u32,
 ) -> Verdict
-    requires { ⌜ (i < 9) × (again ≡ not (clean (now file) r i)) ⌝ }
+    requires { ⌜ (i < 9) × (again ≡ not (clean (nodeEntry (now file) r) i)) ⌝ }
     ensures { λ x. ⌜ x ≡ firstBroken (block fifth row (nodeSlot (now (file .entry)) (now (table .entry)) l r i)) ⌝ }
 {
     let v = node_entry(file, r, i);
@@ -160,7 +205,7 @@ fn judge_slot(
 fn judge_node(file: &[u8], table: &[u32], l: Layer, r: usize, row: u32) -> Verdict
     ensures { λ x. ⌜ x ≡ firstBroken (block fifth row (nodeChecks (now (file .entry)) (now (table .entry)) l r)) ⌝ }
 {
-    let at = first_repeat(file, r);
+    let at = first_repeat(Owner::Node, file, r, 0);
     let mut i: usize = 0;
     while i < 9 {
         let v = judge_slot(file, table, l, r, i, i == at, row);
@@ -350,21 +395,13 @@ fn judge_points(file: &[u8], l: Layer, q: usize, r: usize, left: usize, row: u32
 
 // ---- loop records
 
-// Slot `i` of a loop record.
-fn loop_entry(file: &[u8], r: usize, i: usize) -> i32
-    requires { ⌜ i < 12 ⌝ }
-    ensures { λ x. ⌜ x ≡ loopEntry (now (file .entry)) r i ⌝ }
-{
-    records::number_at(file, r, 10 + 5 * i, 5)
-}
-
 // The entries of the loop record `r`.
 fn judge_entries(file: &[u8], l: Layer, r: usize, row: u32) -> Verdict
     ensures { λ x. ⌜ x ≡ firstBroken (block fifth row (entryChecks (now (file .entry)) l r)) ⌝ }
 {
     let mut i: usize = 0;
     while i < 12 {
-        let v = loop_entry(file, r, i);
+        let v = slot_of(file, r, i);
         if !is_zero(v) & !layers::names_line(l.lines, v) {
             return broken(11, row, 10 + 5 * i);
         }

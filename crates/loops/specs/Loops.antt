@@ -14,6 +14,7 @@ use lib.IntN.{ℤ, pos}
 use lib.ListN.{getD}
 use lib.Signed.{ltZ}
 use Rattle.records.specs.View.{numberIn}
+use Rattle.records.specs.Columns as column
 use Rattle.verdict.specs.Rules.{Rule, Check, check, spread}
 use Rattle.permitted.specs.Permitted.{natural, is}
 use Rattle.rules.specs.declared.Due.{Due}
@@ -22,21 +23,20 @@ use Rattle.walk.specs.States.{dueOf}
 use Rattle.layers.specs.declared.Bases.{Bases}
 use Rattle.layers.specs.declared.Layer as layers
 use Rattle.layers.specs.declared.Standing.{Standing}
-use Rattle.layers.specs.Naming.{lineOf}
 use Rattle.layers.specs.Standing.{stageOf}
-use Rattle.links.specs.Links.{isZero, equal, some, endNode, loopEntry}
-use Rattle.entries.specs.Entries.{slotOf, countAt}
+use Rattle.links.specs.Links.{isZero, equal, repeats, onHand, endNode, loopEntry, slotOf}
+use Rattle.entries.specs.Entries.{countAt}
 use Rattle.entries.specs.Loops.{loopMeasureIn}
 
 -- ---- slots
 
 -- RULES 6.8, 13: an entry of an area is the same, sign and all, as an earlier one of that area, in whichever loop
 unfoldable pub repeatsArea : List ℕ → ℕ → ℕ → Bool
-repeatsArea file a e = some e (λ j. equal (slotOf file (a + 1) e) (slotOf file (a + 1) j))
+repeatsArea file a e = repeats (slotOf file (a + 1)) e
 
--- RULES 4.4: the node where line v ends, at 24, or, backwards, starts, at 18
+-- RULES 4.4: the node where line v ends or, backwards, starts
 unfoldable pub lastNode : List ℕ → List ℕ → layers.Layer → ℤ → ℤ
-lastNode file t l v = numberIn file (lineOf t l v) (cond (natural v) 24 18) 5
+lastNode file t l v = onHand file t l column.endNode column.startNode v
 
 -- RULES 6.8, 15: the entry before a loop's first is the loop's last; f is the loop's first record
 unfoldable pub entryBefore : List ℕ → ℕ → ℕ → ℤ
@@ -46,16 +46,20 @@ entryBefore file f e = slotOf file f (cond (eqb e 0) (countAt file f - 1) (e - 1
 unfoldable pub joins : List ℕ → List ℕ → layers.Layer → ℕ → ℕ → ℤ → Bool
 joins file t l f e v = equal (endNode file t l v) (lastNode file t l (entryBefore file f e))
 
--- RULES 6.8, 17: the area that has to have the entry: of +n line n's right one, at 45; of -n its left one, at 35 (RULES 4.4)
+-- RULES 6.8, 17: the area that has to have the entry: of +n line n's right one, of -n its left one (RULES 4.4)
 unfoldable pub rightArea : List ℕ → List ℕ → layers.Layer → ℤ → ℤ
-rightArea file t l v = numberIn file (lineOf t l v) (cond (natural v) 45 35) 5
+rightArea file t l v = onHand file t l column.rightArea column.leftArea v
+
+-- RULES 4.7: slot i of the loop record r, counted from the first slot of record f on, twelve a record
+abbrev pub slotFrom : ℕ → ℕ → ℕ → ℕ
+slotFrom f r i = 12 * (r - f) + i
 
 -- RULES 6.8, 13, 15, 17: slot i of the loop record r, of the area `area` whose A is record a, in the loop whose first record is f. A slot
 -- that is 0 is no entry (RULES 1.3)
 unfoldable pub loopSlot : List ℕ → List ℕ → layers.Layer → ℕ → ℕ → ℕ → ℕ → ℕ → List Check
 loopSlot file t l a area f r i =
-    check (10 + 5 * i) 13 (isZero (loopEntry file r i) || not (repeatsArea file a (12 * (r - (a + 1)) + i)))
-    ∷ check (10 + 5 * i) 15 (isZero (loopEntry file r i) || joins file t l f (12 * (r - f) + i) (loopEntry file r i))
+    check (10 + 5 * i) 13 (isZero (slotOf file (a + 1) (slotFrom (a + 1) r i)) || not (repeatsArea file a (slotFrom (a + 1) r i)))
+    ∷ check (10 + 5 * i) 15 (isZero (loopEntry file r i) || joins file t l f (slotFrom f r i) (loopEntry file r i))
     ∷ check (10 + 5 * i) 17 (isZero (loopEntry file r i) || is area (rightArea file t l (loopEntry file r i)))
     ∷ []
 

@@ -1,4 +1,4 @@
--- What the scan for a repeated entry finds, and what is known of an area without it. It serves the code and is no part of a promise.
+-- What is known of an area's entries without a scan, and what is kept of a layer's lines. It serves the code and is no part of a promise.
 -- Assumes nothing.
 use mathlib.Core.Bool.{Bool, true, false, cond, _||_, not}
 use mathlib.Core.List.{List}
@@ -16,19 +16,9 @@ use Rattle.layers.specs.declared.Bases.{Bases}
 use Rattle.layers.specs.declared.Layer.{Layer}
 use Rattle.layers.specs.Naming.{layerIn}
 use Rattle.entries.specs.Keeping.{Kept, SoundLayer}
-use Rattle.links.specs.Links.{isZero, loopEntry}
-use Rattle.entries.specs.Entries.{slotOf}
-use Rattle.loops.specs.Loops.{repeatsArea, areaRecord}
-
--- slot i of the loop record r, of the area whose A is record a, is no entry or repeats none
-unfoldable pub clean : List ℕ → ℕ → ℕ → ℕ → Bool
-clean file a r i = isZero (loopEntry file r i) || not (repeatsArea file a (12 * (r - (a + 1)) + i))
-
--- x is the first slot that is not clean, or 12
-pub record FirstRepeat (file : List ℕ) (a r x : ℕ) : Type 0 where
-  pub within : x ≤ 12
-  pub before : (i : ℕ) → i < x → clean file a r i ≡ true
-  pub found : x < 12 → clean file a r x ≡ false
+use Rattle.links.specs.Links.{isZero, slotOf}
+use Rattle.links.specs.Scanning.{clean}
+use Rattle.loops.specs.Loops.{areaRecord}
 
 -- where an entry leaves its mark: two places for each line
 abbrev pub markOf : ℤ → ℕ
@@ -36,7 +26,7 @@ markOf v = 2 * size v + cond (natural v) 0 1
 
 -- the first n slots of the area are no entries or repeat none
 pub record Unrepeated (file : List ℕ) (a n : ℕ) : Type 0 where
-  pub unrepeated : (e : ℕ) → e < n → (isZero (slotOf file (a + 1) e) || not (repeatsArea file a e)) ≡ true
+  pub unrepeated : (e : ℕ) → e < n → clean (slotOf file (a + 1)) e ≡ true
 
 -- what marking the entry v with a shows and does: true only where v is no entry, or didn't bear that mark and bears it now
 pub record Marking (before : List ℕ) (v : ℤ) (a : ℕ) (r : Bool) (after : List ℕ) : Type 0 where

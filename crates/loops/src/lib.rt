@@ -5,6 +5,7 @@
 // The contracts cite `specs/Loops.antt`.
 use layers::Bases;
 use layers::Layer;
+use links::Owner;
 use rules::Due;
 use verdict::Verdict;
 ghost use mathlib.Core.Path.{_≡_};
@@ -18,26 +19,6 @@ ghost use Rattle.links.specs.Links.{isZero, loopEntry};
 ghost use Rattle.entries.specs.Keeping.{keptLoop, Kept};
 ghost use Rattle.loops.specs.Loops.{lastNode, entryBefore, joins, rightArea, loopSlot, winds, windChecks, firstRecord, areaRecord, loopChecks, areaChecks, sixth, stageFive};
 ghost use Rattle.loops.specs.Scanning.{clean, FirstRepeat, markOf, Unrepeated, Marking, KeptFor, KeptBehind, SoundTable, KnownBehind};
-
-// ---- numbers
-
-// What is left of `n` when `by` are taken.
-fn less(n: usize, by: usize) -> usize
-    ensures { λ r. ⌜ r ≡ n - by ⌝ }
-{
-    if n < by {
-        return 0;
-    }
-    n - by
-}
-
-// Slot `i` of a loop record.
-fn loop_entry(file: &[u8], r: usize, i: usize) -> i32
-    requires { ⌜ i < 12 ⌝ }
-    ensures { λ x. ⌜ x ≡ loopEntry (now (file .entry)) r i ⌝ }
-{
-    records::number_at(file, r, 10 + 5 * i, 5)
-}
 
 // ---- repeated entries
 
@@ -79,7 +60,7 @@ fn unrepeated(file: &[u8], a: usize, marks: &mut [usize]) -> usize
     let n = entries::area_slots(file, a);
     let mut e: usize = 0;
     while e < n {
-        let v = entries::slot_of(file, a + 1, e);
+        let v = links::slot_of(file, a + 1, e);
         if !mark(marks, v, a) {
             return 0;
         }
@@ -88,74 +69,28 @@ fn unrepeated(file: &[u8], a: usize, marks: &mut [usize]) -> usize
     n
 }
 
-// How many earlier slots the entry `v` of slot `e` is compared with: none where it is no entry.
-fn earlier(v: i32, e: usize) -> usize
-    ensures { λ x. ⌜ x ≡ cond (isZero v) 0 e ⌝ }
-{
-    if links::is_zero(v) {
-        return 0;
-    }
-    e
-}
-
 // The first slot of the loop record `r` that repeats an earlier one of the area whose A is record `a`, or
-// 12.
-fn first_repeat(file: &[u8], a: usize, r: usize) -> usize
-    requires { ⌜ (a ≤ 4294967295) × (r ≤ 6399936) ⌝ }
-    ensures { λ x. ⌜ FirstRepeat (now (file .entry)) a r x ⌝ }
-{
-    let from = 12 * less(r, a + 1);
-    let mut at: usize = 12;
-    let mut i: usize = 0;
-    'scan: while i < 12 {
-        let stop = earlier(loop_entry(file, r, i), from + i);
-        let v = entries::slot_of(file, a + 1, from + i);
-        let mut j: usize = 0;
-        while j < stop {
-            let w = entries::slot_of(file, a + 1, j);
-            if links::equal(v, w) {
-                at = i;
-                break 'scan;
-            }
-            j += 1;
-        }
-        i += 1;
-    }
-    at
-}
-
-// The same, without a scan where the first `known` slots of the area are known to repeat none.
+// 12; without a scan where the first `known` slots of the area are known to repeat none.
 fn repeat_in(file: &[u8], a: usize, r: usize, known: usize) -> usize
     requires { ⌜ (a ≤ 4294967295) × (r ≤ 6399936) × Unrepeated (now file) a known ⌝ }
     ensures { λ x. ⌜ FirstRepeat (now (file .entry)) a r x ⌝ }
 {
-    if (a < r) & (12 * less(r, a) <= known) {
+    if (a < r) & (12 * walk::less(r, a) <= known) {
         return 12;
     }
-    first_repeat(file, a, r)
+    links::first_repeat(Owner::Area, file, a + 1, 12 * walk::less(r, a + 1))
 }
 
 // ---- slots
-
-// The node where a line ends or, backwards, starts.
-fn last_node(file: &[u8], table: &[u32], l: Layer, v: i32) -> i32
-    ensures { λ x. ⌜ x ≡ lastNode (now (file .entry)) (now (table .entry)) l v ⌝ }
-{
-    let r = layers::line_of(table, l, v);
-    if permitted::natural(v) {
-        return records::number_at(file, r, 24, 5);
-    }
-    records::number_at(file, r, 18, 5)
-}
 
 // The entry before slot `e` of the loop whose first record is `f`; before the first one, the last.
 fn entry_before(file: &[u8], f: usize, e: usize) -> i32
     ensures { λ x. ⌜ x ≡ entryBefore (now (file .entry)) f e ⌝ }
 {
     if e == 0 {
-        return entries::slot_of(file, f, less(entries::count_at(file, f), 1));
+        return links::slot_of(file, f, walk::less(entries::count_at(file, f), 1));
     }
-    entries::slot_of(file, f, e - 1)
+    links::slot_of(file, f, e - 1)
 }
 
 // Whether the entry `v` in slot `e` begins where the one before it ends.
@@ -163,19 +98,9 @@ fn joins(file: &[u8], table: &[u32], l: Layer, f: usize, e: usize, v: i32) -> bo
     ensures { λ x. ⌜ x ≡ joins (now (file .entry)) (now (table .entry)) l f e v ⌝ }
 {
     let w = entry_before(file, f, e);
-    let last = last_node(file, table, l, w);
-    links::equal(links::end_node(file, table, l, v), last)
-}
-
-// The area on an entry's right hand.
-fn right_area(file: &[u8], table: &[u32], l: Layer, v: i32) -> i32
-    ensures { λ x. ⌜ x ≡ rightArea (now (file .entry)) (now (table .entry)) l v ⌝ }
-{
-    let r = layers::line_of(table, l, v);
-    if permitted::natural(v) {
-        return records::number_at(file, r, 45, 5);
-    }
-    records::number_at(file, r, 35, 5)
+    let last = links::on_hand(file, table, l, records::END_NODE, records::START_NODE, w);
+    let first = links::on_hand(file, table, l, records::START_NODE, records::END_NODE, v);
+    links::equal(first, last)
 }
 
 // A refusal of slot `i`.
@@ -206,17 +131,17 @@ fn judge_slot(
     requires { ⌜ (i < 12) × (r ≤ 6399936) × (again ≡ not (clean (now file) a r i)) ⌝ }
     ensures { λ x. ⌜ x ≡ firstBroken (block sixth r (loopSlot (now (file .entry)) (now (table .entry)) l a area f r i)) ⌝ }
 {
-    let v = loop_entry(file, r, i);
-    if links::is_zero(v) {
-        return Verdict::Fine;
-    }
     if again {
         return broken(13, r, i);
     }
-    if !joins(file, table, l, f, 12 * less(r, f) + i, v) {
+    let v = links::slot_of(file, r, i);
+    if links::is_zero(v) {
+        return Verdict::Fine;
+    }
+    if !joins(file, table, l, f, 12 * walk::less(r, f) + i, v) {
         return broken(15, r, i);
     }
-    if !permitted::is(right_area(file, table, l, v), area) {
+    if !permitted::is(links::on_hand(file, table, l, records::RIGHT_AREA, records::LEFT_AREA, v), area) {
         return broken(17, r, i);
     }
     Verdict::Fine
@@ -289,7 +214,7 @@ fn first_record(r: usize, count: usize, left: usize) -> usize
     ensures { λ x. ⌜ x ≡ firstRecord r count left ⌝ }
 {
     if 0 < left {
-        return less(r, less(count, left) / 12);
+        return walk::less(r, walk::less(count, left) / 12);
     }
     r
 }
@@ -298,7 +223,7 @@ fn first_record(r: usize, count: usize, left: usize) -> usize
 fn area_record(table: &[u32], l: Layer, area: usize) -> usize
     ensures { λ x. ⌜ (x ≡ areaRecord (now (table .entry)) l area) × (x ≤ 4294967295) ⌝ }
 {
-    layers::area_word(table, l, less(area, 1))
+    layers::area_word(table, l, walk::less(area, 1))
 }
 
 // The loop record `r` of the area `area`, of which the first `known` slots are known to repeat none.

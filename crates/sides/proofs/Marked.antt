@@ -20,7 +20,7 @@ use Rattle.walk.specs.States.{sizeIn}
 use Rattle.walk.proofs.Walking.{size-small}
 use Rattle.links.specs.Links.{entryIs, some, loopEntry}
 use Rattle.links.proofs.Numbers.{asked}
-use Rattle.links.proofs.NodeLaws.{some-none, some-more, some-hit}
+use Rattle.links.proofs.Scans.{some-none, some-more, some-hit}
 use Rattle.entries.specs.Entries.{slotOf, slotsOf}
 use Rattle.entries.proofs.Slots.{slots-none}
 use Rattle.sides.specs.Sides.{lists}

@@ -33,7 +33,7 @@ fn mark_area(file: &[u8], a: usize, marks: &mut [usize])
     let n = entries::area_slots(file, a);
     let mut e: usize = 0;
     while e < n {
-        let v = entries::slot_of(file, a + 1, e);
+        let v = links::slot_of(file, a + 1, e);
         put_mark(
             marks,
             mark_at(!permitted::natural(v), permitted::size(v)),
@@ -74,7 +74,7 @@ fn lists(file: &[u8], a: usize, back: bool, n: usize) -> bool
     let slots = entries::area_slots(file, a);
     let mut e: usize = 0;
     while e < slots {
-        let v = entries::slot_of(file, a + 1, e);
+        let v = links::slot_of(file, a + 1, e);
         if links::entry_is(back, n, v) {
             return true;
         }

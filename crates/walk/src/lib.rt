@@ -152,7 +152,7 @@ pub fn at_start() -> State
 }
 
 // What is left of `n` when `by` are taken.
-fn less(n: usize, by: usize) -> usize
+pub fn less(n: usize, by: usize) -> usize
     ensures { λ r. ⌜ r ≡ n - by ⌝ }
 {
     if n < by {

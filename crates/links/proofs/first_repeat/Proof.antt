@@ -1,90 +1,95 @@
--- `links::first_repeat` meets its contract: the inner loop finds no earlier slot like this one, or leaves both loops at it. Assumes nothing.
-use mathlib.Core.Bool.{true, false, cond}
-use mathlib.Core.Path.{_≡_, refl, _∙_}
-use Prim.Native.Nat.{ℕ, _-_, _≤_, _<_}
-use native.Mathlib.Nat.{not-suc-le-zero}
-use native.Mathlib.Omega.{arith}
-use mir.Syntax.{w32}
-use mir.Val.{toZ, ofZ}
-use borrow.Author.Needs.{needs}
-use Rattle.links.specs.Links.{isZero, equal, some, nodeEntry}
-use Rattle.links.specs.Scanning.{clean}
-use Rattle.links.proofs.Numbers.{told, compared}
-use Rattle.links.proofs.NodeLaws.{some-none, some-more, earlier-less, clean-passed, clean-not, clean-below}
 use Rattle.links.proofs.first_repeat.Statement.{statement}
 use Rattle.links.proofs.first_repeat.Tie as tie
+use Rattle.links.proofs.first_repeat.Reads as reads
+use Rattle.links.proofs.first_repeat.Lts as lts
+use Rattle.links.proofs.earlier.Reads as earlier-reads
+use Rattle.links.proofs.equal.Reads as equal-reads
+use Rattle.links.proofs.slot_by.Reads as slot-by-reads
+use Rattle.links.proofs.slot_count.Reads as slot-count-reads
 
 abbrev Inv-loop : tie.InvT-loop
-Inv-loop file r at₀ i v stop j₀ at j = (j ≤ stop) × (at ≡ at₀) × (some j (λ j. equal (nodeEntry file r i) (nodeEntry file r j)) ≡ false)
+Inv-loop o file f from n at₀ i v stop j₀ at j = ?
 
 abbrev μ-loop : tie.MeasureT-loop
-μ-loop file r at₀ i v stop j₀ at j = stop - j
+μ-loop o file f from n at₀ i v stop j₀ at j = ?
 
 abbrev Inv-scan : tie.InvT-scan
-Inv-scan file r at₀ i₀ at i = (i ≤ 9) × (at ≡ 9) × ((k : ℕ) → k < i → clean file r k ≡ true)
+Inv-scan o file f from n at₀ i₀ at i = ?
 
 abbrev μ-scan : tie.MeasureT-scan
-μ-scan file r at₀ i₀ at i = 9 - i
+μ-scan o file f from n at₀ i₀ at i = ?
 
+-- src/lib.rt:124:9
+slot-count-requires : tie.Need-slot-count-requires Inv-loop μ-loop Inv-scan μ-scan
+slot-count-requires c κs = search needs
+
+-- src/lib.rt:127:9
+returns : tie.Need-returns Inv-loop μ-loop Inv-scan μ-scan
+returns c = search needs
+
+-- src/lib.rt:130:5
 scan-holds : tie.Need-scan-holds Inv-loop μ-loop Inv-scan μ-scan
-scan-holds c = (search needs, refl, λ k l. absurd (not-suc-le-zero l))
+scan-holds c = search needs
 
-node-entry-requires : tie.Need-node-entry-requires Inv-loop μ-loop Inv-scan μ-scan
-node-entry-requires c κs = search needs
+-- src/lib.rt:131:37
+add-slot-by : tie.Need-add-slot-by Inv-loop μ-loop Inv-scan μ-scan
+add-slot-by c = search needs
 
+-- src/lib.rt:131:13
+slot-by-requires : tie.Need-slot-by-requires Inv-loop μ-loop Inv-scan μ-scan
+slot-by-requires c κs = search needs
+
+-- src/lib.rt:132:31
+add-earlier : tie.Need-add-earlier Inv-loop μ-loop Inv-scan μ-scan
+add-earlier c = search needs
+
+-- src/lib.rt:132:13
 earlier-requires : tie.Need-earlier-requires Inv-loop μ-loop Inv-scan μ-scan
 earlier-requires c κs = search needs
 
+-- src/lib.rt:134:9
 loop-holds : tie.Need-loop-holds Inv-loop μ-loop Inv-scan μ-scan
-loop-holds c = (search needs, refl, some-none _)
+loop-holds c = search needs
 
-node-entry-requires-2 : tie.Need-node-entry-requires-2 Inv-loop μ-loop Inv-scan μ-scan
-node-entry-requires-2 c κs =
-    let v = c .before .before .before in
-    omega (arith, earlier-less (isZero (toZ w32 (ofZ w32 (v .node-entry .result)))) (v .before .before .scan .i) (c .before .before .earlier .ensures))
+-- src/lib.rt:135:17
+slot-by-requires-2 : tie.Need-slot-by-requires-2 Inv-loop μ-loop Inv-scan μ-scan
+slot-by-requires-2 c κs = search needs
 
+-- src/lib.rt:136:16
 equal-requires : tie.Need-equal-requires Inv-loop μ-loop Inv-scan μ-scan
 equal-requires c κs = search needs
 
+-- src/lib.rt:140:13
 add-j : tie.Need-add-j Inv-loop μ-loop Inv-scan μ-scan
 add-j c = search needs
 
+-- src/lib.rt:134:9
 loop-less : tie.Need-loop-less Inv-loop μ-loop Inv-scan μ-scan
 loop-less c = search needs
 
+-- src/lib.rt:134:9
 loop-again : tie.Need-loop-again Inv-loop μ-loop Inv-scan μ-scan
-loop-again c =
-    let w = c .before .before in
-    let l = w .before .before in
-    let v = l .before .before in
-    (omega arith, l .loop .inv .1, some-more _ _ (l .loop .inv .2) (compared (v .node-entry .ok) (v .node-entry .ensures) (w .node-entry2 .ok) (w .node-entry2 .ensures) (c .before .equal .ensures) (c .if1 .left)))
+loop-again c = search needs
 
+-- src/lib.rt:142:9
 add-i : tie.Need-add-i Inv-loop μ-loop Inv-scan μ-scan
 add-i c = search needs
 
+-- src/lib.rt:130:5
 scan-less : tie.Need-scan-less Inv-loop μ-loop Inv-scan μ-scan
 scan-less c = search needs
 
+-- src/lib.rt:130:5
 scan-again : tie.Need-scan-again Inv-loop μ-loop Inv-scan μ-scan
-scan-again c =
-    let l = c .before in
-    let v = l .before .before in
-    let s = v .before .before in
-    let e = told (λ z. cond (isZero z) 0 (s .scan .i)) (v .node-entry .ok) (v .node-entry .ensures) (l .before .earlier .ensures) in
-    (omega arith, l .loop .inv .1 ∙ s .scan .inv .1, clean-below _ _ _ (s .scan .inv .2) (clean-passed _ _ _ (l .loop .j) e (omega arith) (omega arith) (l .loop .inv .2)))
+scan-again c = search needs
 
-returns : tie.Need-returns Inv-loop μ-loop Inv-scan μ-scan
-returns c = record { within = omega arith; before = λ i l. c .before .scan .inv .2 i (omega arith); found = λ l. absurd (omega arith) }
-
+-- src/lib.rt:121:1
 returns-2 : tie.Need-returns-2 Inv-loop μ-loop Inv-scan μ-scan
-returns-2 c =
-    let w = c .before .before in
-    let l = w .before .before in
-    let v = l .before .before in
-    let s = v .before .before in
-    let e = told (λ z. cond (isZero z) 0 (s .scan .i)) (v .node-entry .ok) (v .node-entry .ensures) (l .before .earlier .ensures) in
-    let q = compared (v .node-entry .ok) (v .node-entry .ensures) (w .node-entry2 .ok) (w .node-entry2 .ensures) (c .before .equal .ensures) (c .if1 .taken) in
-    record { within = omega arith; before = s .scan .inv .2; found = λ l′. clean-not _ _ _ (l .loop .j) e (w .before .loop-test .taken) q }
+returns-2 c = search needs
+
+-- src/lib.rt:121:1
+returns-3 : tie.Need-returns-3 Inv-loop μ-loop Inv-scan μ-scan
+returns-3 c = search needs
 
 pub first-repeat-spec : {M : Type 1} → statement M
 first-repeat-spec =
@@ -94,11 +99,15 @@ first-repeat-spec =
     μ-loop
     Inv-scan
     μ-scan
+    slot-count-requires
+    returns
     scan-holds
-    node-entry-requires
+    add-slot-by
+    slot-by-requires
+    add-earlier
     earlier-requires
     loop-holds
-    node-entry-requires-2
+    slot-by-requires-2
     equal-requires
     add-j
     loop-less
@@ -106,5 +115,5 @@ first-repeat-spec =
     add-i
     scan-less
     scan-again
-    returns
-    returns-2)
+    returns-2
+    returns-3)

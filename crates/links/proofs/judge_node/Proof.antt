@@ -6,12 +6,14 @@ use borrow.Author.Needs.{needs}
 use Rattle.verdict.specs.declared.Verdict.the-variants.{Fine}
 use Rattle.verdict.specs.Rules.{firstBroken, rows}
 use Rattle.verdict.proofs.Parts.{rows-none, rows-pass}
-use Rattle.links.proofs.NodeLaws.{repeats-at, goes-past, slot-clean, slotRules, node-stops, node-done}
+use Rattle.links.specs.Links.{nodeEntry, nodeSlot, nodeChecks, fifth}
+use Rattle.links.proofs.NodeLaws.{slot-clean}
+use Rattle.links.proofs.Scans.{repeats-at, goes-past, slotRules, slots-stop, slots-done}
 use Rattle.links.proofs.judge_node.Statement.{statement}
 use Rattle.links.proofs.judge_node.Tie as tie
 
 abbrev Inv-loop : tie.InvT-loop
-Inv-loop file table l r row at i₀ i = (i ≤ 9) × (i ≤ at) × (firstBroken (rows i (slotRules file table l r row)) ≡ Fine)
+Inv-loop file table l r row at i₀ i = (i ≤ 9) × (i ≤ at) × (firstBroken (rows i (slotRules fifth row (nodeSlot file table l r))) ≡ Fine)
 
 abbrev μ-loop : tie.MeasureT-loop
 μ-loop file table l r row at i₀ i = 9 - i
@@ -25,15 +27,16 @@ loop-holds c = (search needs, search needs, rows-none _)
 judge-slot-requires : tie.Need-judge-slot-requires Inv-loop μ-loop
 judge-slot-requires c κs =
     let l = c .before in
-    (c .loop-test .taken, repeats-at _ _ _ _ (l .before .first-repeat .ensures) (c .loop-test .taken) (l .loop .inv .1))
+    (c .loop-test .taken, repeats-at (nodeEntry _ _) 0 9 _ _ (l .before .first-repeat .ensures (omega arith)) (c .loop-test .taken) (l .loop .inv .1))
 
 enum-told : tie.Need-enum-told Inv-loop μ-loop
 enum-told c = search needs
 
 returns : tie.Need-returns Inv-loop μ-loop
+unfolding nodeChecks
 returns c =
     let v = c .before .before in
-    node-stops _ _ _ _ _ _ (c .enum-told .given .1) (v .judge-slot .ensures) (v .before .before .loop .inv .2) (v .before .loop-test .taken)
+    slots-stop fifth _ 9 (nodeSlot _ _ _ _) _ (c .enum-told .given .1) (v .judge-slot .ensures) (v .before .before .loop .inv .2) (v .before .loop-test .taken)
 
 enum-told-2 : tie.Need-enum-told-2 Inv-loop μ-loop
 enum-told-2 c = search needs
@@ -49,10 +52,11 @@ loop-again c =
     let v = c .before .before in
     let l = v .before .before in
     let f = c .enum-told2 .given .1 in
-    (search needs, goes-past _ _ _ _ (l .before .first-repeat .ensures) (v .before .loop-test .taken) (l .loop .inv .1) (slot-clean _ _ _ _ _ _ (sym (v .judge-slot .ensures) ∙ f)), rows-pass _ _ (l .loop .inv .2) (v .judge-slot .ensures) f)
+    (search needs, goes-past (nodeEntry _ _) 0 9 _ _ (l .before .first-repeat .ensures (omega arith)) (v .before .loop-test .taken) (l .loop .inv .1) (slot-clean _ _ _ _ _ _ (sym (v .judge-slot .ensures) ∙ f)), rows-pass _ _ (l .loop .inv .2) (v .judge-slot .ensures) f)
 
 returns-2 : tie.Need-returns-2 Inv-loop μ-loop
-returns-2 c = node-done _ _ _ _ _ _ (c .before .loop .inv .2) (c .before .loop .inv .0) (omega arith)
+unfolding nodeChecks
+returns-2 c = slots-done fifth _ 9 (nodeSlot _ _ _ _) _ (c .before .loop .inv .2) (c .before .loop .inv .0) (omega arith)
 
 pub judge-node-spec : {M : Type 1} → statement M
 judge-node-spec =

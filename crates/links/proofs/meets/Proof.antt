@@ -18,20 +18,21 @@ returns c =
     let p = c .before in
     rw (own-asked (namesLine _) (p .before .before .before .fits .v) (p .names-line .ensures) (not-true _ (c .if1 .taken)))
 
-end-node-requires : tie.Need-end-node-requires
-end-node-requires c κs = search needs
+on-hand-requires : tie.Need-on-hand-requires
+on-hand-requires c κs = search needs
 
 names-requires : tie.Need-names-requires
 names-requires c κs = search needs
 
 returns-2 : tie.Need-returns-2
-unfolding meets
+unfolding meets endNode
 returns-2 c =
     let e = c .before .before in
     let p = e .before .before in
     let f = p .before .before .before .fits .v in
-    let n = own-told (endNode _ _ _) f (e .end-node .ensures) in
-    rw (own-asked (namesLine _) f (p .names-line .ensures) (not-false _ (e .before .if1 .left)), asked (names _) (e .end-node .ok) n (c .before .names .ensures) (not-true _ (c .if2 .taken)))
+    let n = own-told (endNode _ _ _) f (e .on-hand .ensures) in
+    let a = own-asked (namesLine _) f (p .names-line .ensures) (not-false _ (e .before .if1 .left)) in
+    rw (a, asked (names _) (e .on-hand .ok) n (c .before .names .ensures) (not-true _ (c .if2 .taken)))
 
 size-requires : tie.Need-size-requires
 size-requires c κs = search needs
@@ -40,14 +41,16 @@ serial-in-requires : tie.Need-serial-in-requires
 serial-in-requires c κs = search needs
 
 returns-3 : tie.Need-returns-3
-unfolding meets
+unfolding meets endNode
 returns-3 c =
     let q = c .before .before in
     let e = q .before .before in
     let p = e .before .before in
     let f = p .before .before .before .fits .v in
-    let n = own-told (endNode _ _ _) f (e .end-node .ensures) in
-    rw (own-asked (namesLine _) f (p .names-line .ensures) (not-false _ (e .before .if1 .left)), asked (names _) (e .end-node .ok) n (q .before .names .ensures) (not-false _ (q .if2 .left)), ← told size (e .end-node .ok) n (c .before .size .ensures), c .serial-in .ensures)
+    let n = own-told (endNode _ _ _) f (e .on-hand .ensures) in
+    let a = own-asked (namesLine _) f (p .names-line .ensures) (not-false _ (e .before .if1 .left)) in
+    let b = asked (names _) (e .on-hand .ok) n (q .before .names .ensures) (not-false _ (q .if2 .left)) in
+    rw (a, b, ← told size (e .on-hand .ok) n (c .before .size .ensures), c .serial-in .ensures)
 
 pub meets-spec : {M : Type 1} → statement M
 meets-spec =
@@ -55,7 +58,7 @@ meets-spec =
     (tie.spec
     names-line-requires
     returns
-    end-node-requires
+    on-hand-requires
     names-requires
     returns-2
     size-requires

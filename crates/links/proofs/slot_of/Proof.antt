@@ -1,17 +1,16 @@
--- `entries::slot_of` meets its contract: the slot's record and columns are the definition's, and a record that the file has not has
+-- `links::slot_of` meets its contract: the slot's record and columns are the definition's, and a record that the file has not has
 -- no number. Assumes nothing.
 use denote.Ref.{now}
 use mathlib.Core.Path.{sym}
 use borrow.Author.Needs.{needs}
 use Rattle.permitted.proofs.Signs.{passed-on}
-use Rattle.links.specs.Links.{loopEntry}
-use Rattle.entries.specs.Entries.{slotOf}
-use Rattle.entries.proofs.Slots.{slot-none}
-use Rattle.entries.proofs.slot_of.Statement.{statement}
-use Rattle.entries.proofs.slot_of.Tie as tie
+use Rattle.links.specs.Links.{loopEntry, slotOf}
+use Rattle.links.proofs.Scans.{slot-past}
+use Rattle.links.proofs.slot_of.Statement.{statement}
+use Rattle.links.proofs.slot_of.Tie as tie
 
 returns : tie.Need-returns
-returns c = sym (slot-none (now (c .before .before .args .file)) (c .before .before .args .f) (c .before .before .args .e) (c .if1 .taken))
+returns c = sym (slot-past (now (c .before .before .args .file)) (c .before .before .args .f) (c .before .before .args .e) (c .if1 .taken))
 
 add-number-at : tie.Need-add-number-at
 add-number-at c = search needs
