@@ -20,7 +20,7 @@ use Rattle.records.proofs.Layouts.{beyond, tiles, tiled, tile, tiles-end}
 use Rattle.capi.specs.declared.Meant.{Meant}
 use Rattle.capi.specs.declared.Meant.the-variants.{A, Nothing}
 use Rattle.capi.specs.declared.Value.{Value}
-use Rattle.capi.specs.Values.{kinds, kindOf, numberOf, recordOf, noKind, foundOf, WrittenValue}
+use Rattle.capi.specs.Values.{kinds, meantBy, kindNumber, meantRecord, noKind, foundOf, WrittenValue}
 
 -- ---- the kinds by number
 
@@ -34,8 +34,8 @@ past zero n l r = l
 past (suc d) n l r = beyond (suc d) n (past d n l (r .0)) (r .1)
 
 -- 0, and what is 8 or more, stands for no kind
-pub none-meant : (n : ℕ) → Beside 7 n → Nothing ≡ kindOf n
-unfolding kindOf
+pub none-meant : (n : ℕ) → Beside 7 n → Nothing ≡ meantBy n
+unfolding meantBy
 none-meant zero r = refl
 none-meant (suc n) r = sym (List·getD-eq-default kinds Nothing (past 7 (suc n) (omega arith) r))
 
@@ -81,12 +81,12 @@ column-small k s e = rw e (reading-small k s)
 
 -- ---- reading
 
-module _ (n : ℕ) (s : List ℕ) {m : Meant} (e : m ≡ kindOf n) where
+module _ (n : ℕ) (s : List ℕ) {m : Meant} (e : m ≡ meantBy n) where
   pub found-none : m ≡ Nothing → noKind ≡ foundOf n s
   unfolding foundOf
   found-none z = rw (← e, z)
 
-  pub found-a : (k : Kind) {r : Reading} {j : ℕ} → m ≡ A k → r ≡ readingOf k s → j ≡ numberOf (r .value .kind)
+  pub found-a : (k : Kind) {r : Reading} {j : ℕ} → m ≡ A k → r ≡ readingOf k s → j ≡ kindNumber (r .value .kind)
       → record { number = r .number; place = r .place; column = r .column; value = record { kind = j; numbers = r .value .numbers; name = r .value .name } }
       ≡ foundOf n s
   unfolding foundOf
@@ -94,7 +94,7 @@ module _ (n : ℕ) (s : List ℕ) {m : Meant} (e : m ≡ kindOf n) where
 
 -- ---- writing
 
-module _ (before : List ℕ) (v : Value) {m : Meant} (e : m ≡ kindOf (v .kind)) where
+module _ (before : List ℕ) (v : Value) {m : Meant} (e : m ≡ meantBy (v .kind)) where
   pub written-short : m ≡ Nothing → length before < 74 → WrittenValue before v 21 before
   unfolding WrittenValue
   written-short z h = rw (← e, z) (record { answer = rw (lt-leb _ _ h); buffer = refl })
@@ -103,6 +103,6 @@ module _ (before : List ℕ) (v : Value) {m : Meant} (e : m ≡ kindOf (v .kind)
   unfolding WrittenValue
   written-none z h = rw (← e, z) (record { answer = rw (le-leb _ _ h); buffer = refl })
 
-  pub written-a : (k : Kind) (number : ℕ) (after : List ℕ) → m ≡ A k → Written before (recordOf k v) number after → WrittenValue before v number after
+  pub written-a : (k : Kind) (number : ℕ) (after : List ℕ) → m ≡ A k → Written before (meantRecord k v) number after → WrittenValue before v number after
   unfolding WrittenValue
   written-a k number after z w = rw (← e, z) w

@@ -13,15 +13,15 @@ use Rattle.records.specs.declared.Reading.{Reading}
 use Rattle.records.specs.declared.Record.{Record}
 use Rattle.records.specs.Layout.{layoutOf}
 use Rattle.records.specs.Reading.{firstFault, fieldsBy, fieldsOf, readingOf}
-use Rattle.records.specs.Writing.{lineOf, fitsAll}
+use Rattle.records.specs.Writing.{recordBytes, fitsAll}
 use Rattle.records.proofs.RecordLaws.{Sized, written-then-read, read-then-written}
 use Rattle.capi.specs.declared.Meant.the-variants.{A}
 use Rattle.capi.specs.declared.Value.{Value}
-use Rattle.capi.specs.Values.{kindOf, numberOf, recordOf, valueOf, foundIn, foundOf}
+use Rattle.capi.specs.Values.{meantBy, kindNumber, meantRecord, givenValue, foundIn, foundOf}
 
 -- a kind's number stands for the kind
-pub number-meant : (k : Kind) → kindOf (numberOf k) ≡ A k
-unfolding kindOf
+pub number-meant : (k : Kind) → meantBy (kindNumber k) ≡ A k
+unfolding meantBy
 number-meant Mesh = refl
 number-meant Layer = refl
 number-meant Node = refl
@@ -31,8 +31,8 @@ number-meant Area = refl
 number-meant Loop = refl
 
 -- and no other number does
-pub meant-number : (n : ℕ) (k : Kind) → kindOf n ≡ A k → numberOf k ≡ n
-unfolding kindOf
+pub meant-number : (n : ℕ) (k : Kind) → meantBy n ≡ A k → kindNumber k ≡ n
+unfolding meantBy
 meant-number zero k e = let z : _≡_ {A = ℕ} 0 1 = cc in absurd (omega arith)
 meant-number (suc zero) k e = let z : k ≡ Mesh = cc in rw z
 meant-number (suc (suc zero)) k e = let z : k ≡ Layer = cc in rw z
@@ -64,7 +64,7 @@ reading-kind k s =
     (either-kind k (eqb (getD s 72 0) 13) _ _ (either-kind k (eqb (getD s 73 0) 10) _ _ (fields-kind k s) refl) refl)
     refl
 
-module _ (n : ℕ) (k : Kind) (e : kindOf n ≡ A k) (s : List ℕ) where
+module _ (n : ℕ) (k : Kind) (e : meantBy n ≡ A k) (s : List ℕ) where
   found-in : foundOf n s ≡ foundIn (readingOf k s)
   unfolding foundOf
   found-in = rw e
@@ -75,17 +75,17 @@ module _ (n : ℕ) (k : Kind) (e : kindOf n ≡ A k) (s : List ℕ) where
 -- ---- the round trips
 
 -- WRITTEN THEN READ: a value that is written is what is read
-pub value-written-then-read : (v : Value) (k : Kind) → kindOf (v .kind) ≡ A k → Sized (recordOf k v) → fitsAll (recordOf k v) ≡ true
-    → foundOf (v .kind) (lineOf (recordOf k v)) ≡ record { number = 0; place = 0; column = 0; value = v }
+pub value-written-then-read : (v : Value) (k : Kind) → meantBy (v .kind) ≡ A k → Sized (meantRecord k v) → fitsAll (meantRecord k v) ≡ true
+    → foundOf (v .kind) (recordBytes (meantRecord k v)) ≡ record { number = 0; place = 0; column = 0; value = v }
 value-written-then-read v k e z f =
-    found-in (v .kind) k e (lineOf (recordOf k v)) ∙ rw (written-then-read (recordOf k v) z f, meant-number (v .kind) k e)
+    found-in (v .kind) k e (recordBytes (meantRecord k v)) ∙ rw (written-then-read (meantRecord k v) z f, meant-number (v .kind) k e)
 
-again : (r : Record) (k : Kind) → r .kind ≡ k → recordOf k (valueOf r) ≡ r
+again : (r : Record) (k : Kind) → r .kind ≡ k → meantRecord k (givenValue r) ≡ r
 again r k e = rw (← e)
 
 -- READ THEN WRITTEN: a value that was read fits, and is written as the bytes that were read
-pub value-read-then-written : (n : ℕ) (k : Kind) (e : kindOf n ≡ A k) (s : List ℕ) → foundOf n s .number ≡ 0
-    → (fitsAll (recordOf k (foundOf n s .value)) ≡ true) × (lineOf (recordOf k (foundOf n s .value)) ≡ s)
+pub value-read-then-written : (n : ℕ) (k : Kind) (e : meantBy n ≡ A k) (s : List ℕ) → foundOf n s .number ≡ 0
+    → (fitsAll (meantRecord k (foundOf n s .value)) ≡ true) × (recordBytes (meantRecord k (foundOf n s .value)) ≡ s)
 value-read-then-written n k e s h =
     let w = read-then-written k s (rw (found-in n k e s) at h) in
     rw (found-in n k e s, again (readingOf k s .value) k (reading-kind k s)) (w .0, w .1)

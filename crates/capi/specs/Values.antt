@@ -1,7 +1,7 @@
 -- The records of C: a kind is a number there (RULES 9.7; 4.8, 9.4, 9.5). Assumes nothing.
---   kindOf n         the kind that the number n stands for, if it stands for one: 1 M, 2 H, 3 N, 4 L, 5 coordinates, 6 A, 7 loop
---   numberOf k       the number that stands for the kind k
---   recordOf k v     the value v as a record of kind k, and valueOf r the record r with its kind as a number
+--   meantBy n         the kind that the number n stands for, if it stands for one: 1 M, 2 H, 3 N, 4 L, 5 coordinates, 6 A, 7 loop
+--   kindNumber k      the number that stands for the kind k
+--   meantRecord k v   the value v as a record of kind k, and givenValue r the record r with its kind as a number
 --   foundOf n s      the answer to the bytes s, read as a record of the kind that n stands for
 --   WrittenValue     the writer's answer and its buffer afterwards
 use mathlib.Core.Path.{_≡_}
@@ -27,29 +27,29 @@ use Rattle.capi.specs.declared.Found.{Found}
 abbrev pub kinds : List Meant
 kinds = Nothing ∷ A Mesh ∷ A Layer ∷ A Node ∷ A Line ∷ A Coordinates ∷ A Area ∷ A Loop ∷ []
 
-unfoldable pub kindOf : ℕ → Meant
-kindOf n = getD kinds n Nothing
+unfoldable pub meantBy : ℕ → Meant
+meantBy n = getD kinds n Nothing
 
-abbrev pub numberOf : Kind → ℕ
-numberOf Mesh = 1
-numberOf Layer = 2
-numberOf Node = 3
-numberOf Line = 4
-numberOf Coordinates = 5
-numberOf Area = 6
-numberOf Loop = 7
+abbrev pub kindNumber : Kind → ℕ
+kindNumber Mesh = 1
+kindNumber Layer = 2
+kindNumber Node = 3
+kindNumber Line = 4
+kindNumber Coordinates = 5
+kindNumber Area = 6
+kindNumber Loop = 7
 
 -- RULES 4.8: a record's value is its kind, its numbers in column order and its name bytes
-abbrev pub recordOf : Kind → Value → Record
-recordOf k v = record { kind = k; numbers = v .numbers; name = v .name }
+abbrev pub meantRecord : Kind → Value → Record
+meantRecord k v = record { kind = k; numbers = v .numbers; name = v .name }
 
-abbrev pub valueOf : Record → Value
-valueOf r = record { kind = numberOf (r .kind); numbers = r .numbers; name = r .name }
+abbrev pub givenValue : Record → Value
+givenValue r = record { kind = kindNumber (r .kind); numbers = r .numbers; name = r .name }
 
 -- ---- reading
 
 abbrev pub foundIn : Reading → Found
-foundIn r = record { number = r .number; place = r .place; column = r .column; value = valueOf (r .value) }
+foundIn r = record { number = r .number; place = r .place; column = r .column; value = givenValue (r .value) }
 
 -- RULES 9.7: a number that stands for no kind is 3 at record 1, column 1, whatever the bytes: no letters are those of a kind that there isn't. All else is 0
 abbrev pub noKind : Found
@@ -61,7 +61,7 @@ foundBy Nothing s = noKind
 
 -- RULES 9.4: a single record of the kind that the caller names
 unfoldable pub foundOf : ℕ → List ℕ → Found
-foundOf n s = foundBy (kindOf n) s
+foundOf n s = foundBy (meantBy n) s
 
 -- ---- writing
 
@@ -71,9 +71,9 @@ pub record NotWritten (before : List ℕ) (number : ℕ) (after : List ℕ) : Ty
   pub buffer : after ≡ before
 
 abbrev pub WrittenBy : Meant → List ℕ → Value → ℕ → List ℕ → Type 0
-WrittenBy (A k) before v number after = Written before (recordOf k v) number after
+WrittenBy (A k) before v number after = Written before (meantRecord k v) number after
 WrittenBy Nothing before v number after = NotWritten before number after
 
 -- RULES 9.5: the writer's answer and its buffer behind it
 unfoldable pub WrittenValue : List ℕ → Value → ℕ → List ℕ → Type 0
-WrittenValue before v number after = WrittenBy (kindOf (v .kind)) before v number after
+WrittenValue before v number after = WrittenBy (meantBy (v .kind)) before v number after

@@ -13,7 +13,7 @@ ghost use lib.ListN.{length};
 ghost use Rattle.walk.specs.Stages.{needOf};
 ghost use Rattle.judge.specs.Outcomes.{outcomeOf, tableAfter, measuresAfter, sumsOf, tableAfterSums};
 ghost use Rattle.positions.specs.Degrees.{positionOf};
-ghost use Rattle.capi.specs.Values.{kindOf, numberOf, noKind, foundOf, WrittenValue};
+ghost use Rattle.capi.specs.Values.{meantBy, kindNumber, noKind, foundOf, WrittenValue};
 
 // What a kind's number stands for: a kind, or nothing.
 pub enum Meant {
@@ -79,7 +79,7 @@ pub extern "C" fn stragumella_position(mesh: i32, x: i32, y: i32) -> Placed
 
 // The kind that a number stands for.
 fn kind_of(n: u32) -> Meant
-    ensures { λ r. ⌜ r ≡ kindOf n ⌝ }
+    ensures { λ r. ⌜ r ≡ meantBy n ⌝ }
 {
     match n {
         1 => Meant::A(Kind::Mesh),
@@ -95,7 +95,7 @@ fn kind_of(n: u32) -> Meant
 
 // The number that stands for a kind.
 fn number_of(k: Kind) -> u32
-    ensures { λ r. ⌜ r ≡ numberOf k ⌝ }
+    ensures { λ r. ⌜ r ≡ kindNumber k ⌝ }
 {
     match k {
         Kind::Mesh => 1,

@@ -9,11 +9,11 @@ use native.Mathlib.Omega.{arith}
 use lib.Dec.{eqb, leb}
 use lib.IntN.{ℤ, pos, negsuc, _+ℤ_, +ℤ-idr}
 use borrow.Author.Tests.{leb-true, eqb-true, eqb-false, eq-eqb, ne-eqb, not-true}
-use Rattle.permitted.specs.Permitted.{natural, size}
+use Rattle.permitted.specs.Permitted.{natural, size, isZero}
 use Rattle.layers.specs.declared.Layer.{Layer}
 use Rattle.layers.specs.Naming.{namesLine}
-use Rattle.links.specs.Links.{isZero, equal, entryIs, some, loopEntry}
-use Rattle.measures.specs.Ground.{same, stands, Each, areaOf, Named, Known, NoRepeat, Own}
+use Rattle.links.specs.Links.{equal, entryIs, some, loopEntry}
+use Rattle.measures.specs.Ground.{sameEntry, listedIn, Each, entryArea, Named, Known, NoRepeat, Own}
 use Rattle.measures.specs.Measures.{Entry, plus, minus, loopMeasure, areaMeasure}
 use Rattle.measures.specs.Sum.{sum}
 use Rattle.measures.proofs.MeasureLaws.{loop-joined}
@@ -43,7 +43,7 @@ eqb-turned a b = by (eqb a b) refl
     by true e = e ∙ sym (eq-eqb b a (sym (eqb-true a b e)))
     by false e = e ∙ sym (ne-eqb b a (λ q. eqb-false a b e (sym q)))
 
-same-turned : (e x : Entry) → same e x ≡ same x e
+same-turned : (e x : Entry) → sameEntry e x ≡ sameEntry x e
 same-turned (plus i) (plus k) = eqb-turned i k
 same-turned (plus i) (minus k) = refl
 same-turned (minus i) (plus k) = refl
@@ -58,21 +58,21 @@ each-joined : (P : Entry → Type 0) (es fs : List Entry) → Each P es → Each
 each-joined P [] fs h g = g
 each-joined P (e ∷ es) fs h g = (h .0, each-joined P es fs (h .1) g)
 
-stands-joined : (e : Entry) (es fs : List Entry) → stands e (es ++ fs) ≡ stands e es || stands e fs
-unfolding stands
+stands-joined : (e : Entry) (es fs : List Entry) → listedIn e (es ++ fs) ≡ listedIn e es || listedIn e fs
+unfolding listedIn
 stands-joined e [] fs = refl
-stands-joined e (x ∷ es) fs = rw (stands-joined e es fs) (sym (or-assoc (same x e) (stands e es) (stands e fs)))
+stands-joined e (x ∷ es) fs = rw (stands-joined e es fs) (sym (or-assoc (sameEntry x e) (listedIn e es) (listedIn e fs)))
 
-stands-one : (e x : Entry) → stands e (x ∷ []) ≡ same x e
-unfolding stands
-stands-one e x = or-false (same x e)
+stands-one : (e x : Entry) → listedIn e (x ∷ []) ≡ sameEntry x e
+unfolding listedIn
+stands-one e x = or-false (sameEntry x e)
 
 -- one entry more, which is none of those before it
-once-more : (es : List Entry) (e : Entry) → NoRepeat es → stands e es ≡ false → NoRepeat (es ++ (e ∷ []))
-unfolding stands
+once-more : (es : List Entry) (e : Entry) → NoRepeat es → listedIn e es ≡ false → NoRepeat (es ++ (e ∷ []))
+unfolding listedIn
 once-more [] e h q = (refl, tt)
 once-more (x ∷ es) e h q =
-    let n = or-none (same x e) (stands e es) q in
+    let n = or-none (sameEntry x e) (listedIn e es) q in
     (stands-joined x es (e ∷ []) ∙ rw (h .0) (stands-one x e ∙ same-turned e x ∙ n .0), once-more es e (h .1) (n .1))
 
 -- ---- a slot
@@ -92,8 +92,8 @@ entry-one (pos (suc i)) e = refl
 entry-one (negsuc i) e = refl
 
 -- an entry stands in a slot that is it
-slot-stands : (back : Bool) (m : ℕ) → 0 < m → (v : ℤ) → stands (sided back m) (entryOf v) ≡ entryIs back m v
-unfolding stands entryIs
+slot-stands : (back : Bool) (m : ℕ) → 0 < m → (v : ℤ) → listedIn (sided back m) (entryOf v) ≡ entryIs back m v
+unfolding listedIn entryIs
 slot-stands true m l (pos zero) = rw (ne-eqb 0 m (λ e. omega arith))
 slot-stands false m l (pos zero) = rw (ne-eqb 0 m (λ e. omega arith))
 slot-stands true m l (pos (suc i)) = and-comm false (eqb (suc i) m)
@@ -141,21 +141,21 @@ module _ (file : List ℕ) (f : ℕ) where
       → ((e : ℕ) → e < n
       → (isZero (slotOf file f e) || eqb (cond (natural (slotOf file f e)) (right (size (slotOf file f e))) (left (size (slotOf file f e)))) a) ≡ true)
       → Own left right a (entriesTo file f n)
-  row-own n left right a h = each-row (λ e. areaOf left right e ≡ a) n (λ e l. slot-own left right a (slotOf file f e) (h e l))
+  row-own n left right a h = each-row (λ e. entryArea left right e ≡ a) n (λ e l. slot-own left right a (slotOf file f e) (h e l))
 
-  stands-row : (e : Entry) (n : ℕ) → stands e (entriesTo file f n) ≡ some n (λ i. stands e (entryOf (slotOf file f i)))
-  unfolding entriesTo some stands
+  stands-row : (e : Entry) (n : ℕ) → listedIn e (entriesTo file f n) ≡ some n (λ i. listedIn e (entryOf (slotOf file f i)))
+  unfolding entriesTo some listedIn
   stands-row e zero = refl
   stands-row e (suc n) = stands-joined e (entriesTo file f n) (entryOf (slotOf file f n)) ∙ rw (stands-row e n)
 
   -- an entry stands in the row if a slot is it, and only then
   pub row-stands : (n : ℕ) (back : Bool) (m : ℕ) → 0 < m
-      → stands (cond back (minus m) (plus m)) (entriesTo file f n) ≡ some n (λ e. entryIs back m (slotOf file f e))
+      → listedIn (cond back (minus m) (plus m)) (entriesTo file f n) ≡ some n (λ e. entryIs back m (slotOf file f e))
   row-stands n back m l = stands-row (sided back m) n ∙ some-same n _ _ (λ e. slot-stands back m l (slotOf file f e))
 
   -- 18
   pub row-there : (n : ℕ) (back : Bool) (m : ℕ) → 0 < m → some n (λ e. entryIs back m (slotOf file f e)) ≡ true
-      → stands (cond back (minus m) (plus m)) (entriesTo file f n) ≡ true
+      → listedIn (cond back (minus m) (plus m)) (entriesTo file f n) ≡ true
   row-there n back m l h = row-stands n back m l ∙ h
 
   -- 13: no slot that is not 0 is like one before it

@@ -13,9 +13,8 @@ use Rattle.fields.proofs.FieldLaws.{number-digits}
 use Rattle.records.specs.View.{recordOf, numberIn}
 use Rattle.records.proofs.Numbers.{record-past, number-none}
 use Rattle.permitted.specs.Permitted.{size}
-use Rattle.links.specs.Links.{loopEntry}
 use Rattle.links.proofs.Numbers.{told}
-use Rattle.entries.specs.Entries.{slotOf, recordsFor, countAt, loopsAt, recordsTo, slotsOf}
+use Rattle.entries.specs.Entries.{recordsFor, countAt, loopsAt, recordsTo, slotsOf}
 
 -- ---- a number of width 4
 
@@ -32,10 +31,6 @@ four-told file k c f e h =
     (t, rw t (four-digits file k c))
 
 -- ---- a record that the file has not
-
-pub slot-none : (file : List ℕ) (f e : ℕ) → length file / 74 < f → slotOf file f e ≡ pos 0
-unfolding slotOf loopEntry
-slot-none file f e h = number-none file (f + e / 12) _ 5 (record-past file (f + e / 12) (omega arith))
 
 pub slots-none : (file : List ℕ) (a : ℕ) → length file / 74 < a → slotsOf file a ≡ 0
 unfolding slotsOf loopsAt recordsTo

@@ -10,12 +10,12 @@ use Rattle.fields.specs.Place.{isInside, bytesAt}
 use Rattle.fields.specs.declared.Text.{Text}
 use Rattle.fields.specs.declared.Text.the-variants.{WellFormed, Refused}
 
-abbrev pub within : ℕ → ℕ → ℕ → Bool
-within low high b = leb low b && leb b high
+abbrev pub byteWithin : ℕ → ℕ → ℕ → Bool
+byteWithin low high b = leb low b && leb b high
 
 -- RULES 3.3: the first byte is 81 to 9F or E0 to FC, the second 40 to 7E or 80 to FC
 abbrev pub isPair : ℕ → ℕ → Bool
-isPair a b = (within 0x81 0x9f a || within 0xe0 0xfc a) && (within 0x40 0x7e b || within 0x80 0xfc b)
+isPair a b = (byteWithin 0x81 0x9f a || byteWithin 0xe0 0xfc a) && (byteWithin 0x40 0x7e b || byteWithin 0x80 0xfc b)
 
 -- RULES 3.3: two-byte characters from end to end
 unfoldable pub isName : List ℕ → Bool

@@ -16,7 +16,7 @@ use Rattle.verdict.specs.declared.Verdict.the-variants.{Fine}
 use Rattle.verdict.specs.Rules.{firstBroken}
 use Rattle.verdict.proofs.Holding.{row-fine, Holding, all-hold}
 use Rattle.rules.specs.declared.Due.{Due}
-use Rattle.permitted.specs.Permitted.{size, within}
+use Rattle.permitted.specs.Permitted.{size, within, isZero}
 use Rattle.permitted.proofs.Bounds.{within-most}
 use Rattle.walk.specs.States.{dueOf, stateAt}
 use Rattle.walk.specs.Stages.{recordsOf, stageTwo}
@@ -27,7 +27,7 @@ use Rattle.layers.specs.Naming.{layerIn, names, lineOf, areaOf}
 use Rattle.layers.specs.Passing.{layerAt, basesIn, layerOf}
 use Rattle.layers.proofs.Sections.{lines, areas}
 use Rattle.layers.proofs.Laid.{number-of, word-of, RecordAt}
-use Rattle.links.specs.Links.{isZero, lineChecks, entryChecks, linkChecks, fifth, stageFour}
+use Rattle.links.specs.Links.{lineChecks, entryChecks, linkChecks, fifth, stageFour}
 use Rattle.links.proofs.Holds.{left-named, right-named, entry-named}
 use Rattle.entries.specs.Entries.{slotOf, loopsAt, recordsTo, slotsOf}
 use Rattle.entries.proofs.Owning.{inside, complete}
@@ -35,7 +35,7 @@ use Rattle.loops.specs.Loops.{areaRecord, loopChecks, areaChecks, sixth, stageF
 use Rattle.loops.proofs.Holds.{entry-once, entry-own}
 use Rattle.sides.specs.Sides.{lists, sideListed, listChecks, lineListChecks, seventh, stageSix}
 use Rattle.sides.proofs.Holds.{left-listed, right-listed}
-use Rattle.ground.specs.Layers.{leftOf, rightOf}
+use Rattle.ground.specs.Layers.{leftAreaOf, rightAreaOf}
 use Rattle.ground.specs.Standing.{LineKept, SlotKept}
 
 -- ---- the stages
@@ -99,7 +99,7 @@ side-lists file t l r c back n e h a = by (numberIn file r c 5) (isZero (numberI
 
 kept-by : (file t : List ℕ) (l : layers.Layer) (r n : ℕ) → lineOf t l (pos n) ≡ r → Holding (lineChecks file t l r)
     → Holding (listChecks file t l r n) → LineKept file t l n
-unfolding leftOf rightOf
+unfolding leftAreaOf rightAreaOf
 kept-by file t l r n e four six =
     let p = left-named file t l r four in
     let q = right-named file t l r four in
@@ -127,7 +127,7 @@ slot-by file t l a x count left r i e p q m z four five =
     let y : 12 * (r - (x + 1)) + i ≡ e = omega arith in
     record {
       known = rw (← p, ← q) (entry-named file l r four i m);
-      once = rw (← p, ← q) (rw (z, y) at (entry-once file t l a count left r five i m));
+      once = rw (z, y) at (entry-once file t l a count left r five i m);
       own = rw (← p, ← q) (entry-own file t l a count left r five i m);
     }
 

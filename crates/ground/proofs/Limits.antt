@@ -14,7 +14,7 @@ use Rattle.walk.specs.Stages.{recordsOf}
 use Rattle.walk.specs.Table.{tableOf}
 use Rattle.layers.specs.Naming.{areaOf}
 use Rattle.layers.specs.Passing.{layerOf}
-use Rattle.measures.specs.Ground.{Known, NoRepeat, stands}
+use Rattle.measures.specs.Ground.{Known, NoRepeat, listedIn}
 use Rattle.measures.specs.Measures.{Entry, plus, minus, loopMeasure, areaMeasure, outside}
 use Rattle.measures.specs.Sum.{sumTo}
 use Rattle.measures.specs.Walks.{Small}
@@ -27,7 +27,7 @@ use Rattle.entries.specs.Loops.{measureOf}
 use Rattle.entries.proofs.Keeping.{measure-small}
 use Rattle.entries.proofs.Rows.{row-known, row-once, loops-row}
 use Rattle.loops.specs.Loops.{repeatsArea}
-use Rattle.ground.specs.Layers.{areaOfLayer, leftOf, rightOf}
+use Rattle.ground.specs.Layers.{areaOfLayer, leftAreaOf, rightAreaOf}
 use Rattle.ground.proofs.Soundness.{table-sound}
 use Rattle.ground.proofs.Kept.{Passed}
 use Rattle.ground.proofs.Standing.{entriesOf, areas-entries, kept-listed}
@@ -66,7 +66,7 @@ module _ (n : ℕ) (most : n ≤ 9999) (m : ℕ → ℤ) (small : (i : ℕ) → 
       (omega arith)
 
   entries-small : (es : List Entry) → Known n es → NoRepeat es → Small 4000000000000000000 (loopMeasure m es)
-  entries-small es k o = rw (loop-lines n m es k o) (picked-small (λ i. stands (plus i) es) (λ i. stands (minus i) es))
+  entries-small es k o = rw (loop-lines n m es k o) (picked-small (λ i. listedIn (plus i) es) (λ i. listedIn (minus i) es))
 
 -- more loops have more records
 records-grow : (file : List ℕ) (a j n : ℕ) → j ≤ n → recordsTo file a j ≤ recordsTo file a n
@@ -112,19 +112,19 @@ module _ (file : List ℕ) (p : Passed file) (i : ℕ) (l : i < countsAt file (r
       let k = kept-listed file t y (layer-kept file p i l) in
       rw (
         areas-entries file t y j,
-        ground-prefix (y .lines) (measureOf file t y) (leftOf file t y) (rightOf file t y) (y .areas) (entriesOf file t y) k j m,
+        ground-prefix (y .lines) (measureOf file t y) (leftAreaOf file t y) (rightAreaOf file t y) (y .areas) (entriesOf file t y) k j m,
       )
-      (picked-small (y .lines) (sound .few) _ line-small (λ n. inside (rightOf file t y n) j) (λ n. inside (leftOf file t y n) j))
+      (picked-small (y .lines) (sound .few) _ line-small (λ n. inside (rightAreaOf file t y n) j) (λ n. inside (leftAreaOf file t y n) j))
 
   -- the outside sum along its first j lines
   pub outside-small : (j : ℕ) → j ≤ layerOf file i .lines
       → Small 4000000000000000000
       (sumTo j (λ n.
-      outside (leftOf file (tableOf file) (layerOf file i) n) (rightOf file (tableOf file) (layerOf file i) n)
+      outside (leftAreaOf file (tableOf file) (layerOf file i) n) (rightAreaOf file (tableOf file) (layerOf file i) n)
       (measureOf file (tableOf file) (layerOf file i) n)))
   outside-small j m =
       let t = tableOf file in
       let y = layerOf file i in
       small-le 4000000000000000000
-      (sum-small j 200000000000000 _ (λ n _ _. outside-one (eqb (leftOf file t y n) 0) (eqb (rightOf file t y n) 0) (line-small n)))
+      (sum-small j 200000000000000 _ (λ n _ _. outside-one (eqb (leftAreaOf file t y n) 0) (eqb (rightAreaOf file t y n) 0) (line-small n)))
       (omega (arith, sound .few))

@@ -8,10 +8,9 @@ use native.Mathlib.Omega.{arith}
 use lib.Dec.{eqb}
 use lib.IntN.{ℤ, pos, negsuc}
 use Rattle.verdict.proofs.Orders.{and-both}
-use Rattle.permitted.specs.Permitted.{natural, size, is}
+use Rattle.permitted.specs.Permitted.{natural, size, is, isZero}
 use Rattle.layers.specs.declared.Layer.{Layer}
 use Rattle.layers.specs.Naming.{namesLine, lineOf, areaOf}
-use Rattle.links.specs.Links.{isZero}
 use Rattle.measures.specs.Ground as ground
 use Rattle.measures.specs.Ground.{Listed}
 use Rattle.measures.specs.Measures.{Entry, plus, minus, loopMeasure}
@@ -23,7 +22,7 @@ use Rattle.entries.specs.Loops.{measureOf}
 use Rattle.entries.proofs.Rows.{row-known, row-own, row-there, row-once, area-row}
 use Rattle.loops.specs.Loops.{repeatsArea, rightArea}
 use Rattle.sides.specs.Sides.{lists}
-use Rattle.ground.specs.Layers.{areaOfLayer, areasSum, leftOf, rightOf, outsideSum}
+use Rattle.ground.specs.Layers.{areaOfLayer, areasSum, leftAreaOf, rightAreaOf, outsideSum}
 use Rattle.ground.specs.Standing.{LineKept, LayerKept}
 
 -- the entries of the layer's area a
@@ -45,14 +44,14 @@ sized false a v h = and-both (natural v) (eqb (size v) a) h .1
 
 -- the area on the entry's right hand is a
 slot-own : (file t : List ℕ) (l : Layer) (a : ℕ) (v : ℤ) → (isZero v || is a (rightArea file t l v)) ≡ true
-    → (isZero v || eqb (cond (natural v) (rightOf file t l (size v)) (leftOf file t l (size v))) a) ≡ true
-unfolding rightArea rightOf leftOf lineOf namesLine
+    → (isZero v || eqb (cond (natural v) (rightAreaOf file t l (size v)) (leftAreaOf file t l (size v))) a) ≡ true
+unfolding rightArea rightAreaOf leftAreaOf lineOf namesLine
 slot-own file t l a (pos n) h = sized (isZero (pos n)) a (rightArea file t l (pos n)) h
 slot-own file t l a (negsuc n) h = sized (isZero (negsuc n)) a (rightArea file t l (negsuc n)) h
 
 -- an entry of area a, by its line's side
 there : (file t : List ℕ) (l : Layer) (a : ℕ) → 0 < a → ((n : ℕ) → 0 < n → n ≤ l .lines → LineKept file t l n)
-    → ground.Present (l .lines) (leftOf file t l) (rightOf file t l) a (entriesOf file t l a)
+    → ground.Present (l .lines) (leftAreaOf file t l) (rightAreaOf file t l) a (entriesOf file t l a)
 unfolding lists
 there file t l a o h (plus n) d e =
     let k = h n (d .0) (d .1) in
@@ -65,7 +64,7 @@ there file t l a o h (minus n) d e =
 
 module _ (file t : List ℕ) (l : Layer) (k : LayerKept file t l) where
   -- an area's entries are its own, all of them and each once
-  pub kept-listed : (a : ℕ) → 0 < a → a ≤ l .areas → Listed (l .lines) (leftOf file t l) (rightOf file t l) a (entriesOf file t l a)
+  pub kept-listed : (a : ℕ) → 0 < a → a ≤ l .areas → Listed (l .lines) (leftAreaOf file t l) (rightAreaOf file t l) a (entriesOf file t l a)
   unfolding repeatsArea
   kept-listed a o m =
       let x = areaOf t l (pos a) in
@@ -73,7 +72,7 @@ module _ (file t : List ℕ) (l : Layer) (k : LayerKept file t l) where
       record {
         known = row-known file (x + 1) (slotsOf file x) (l .lines) (λ e m. g e m .known);
         once = row-once file (x + 1) (slotsOf file x) (λ e m. g e m .once);
-        own = row-own file (x + 1) (slotsOf file x) (leftOf file t l) (rightOf file t l) a (λ e m. slot-own file t l a (slotOf file (x + 1) e) (g e m .own));
+        own = row-own file (x + 1) (slotsOf file x) (leftAreaOf file t l) (rightAreaOf file t l) a (λ e m. slot-own file t l a (slotOf file (x + 1) e) (g e m .own));
         present = there file t l a o (k .lines);
       }
 
@@ -82,5 +81,5 @@ module _ (file t : List ℕ) (l : Layer) (k : LayerKept file t l) where
   unfolding areasSum outsideSum
   layer-ground =
       areas-entries file t l (l .areas)
-      ∙ ground-kept (l .lines) (measureOf file t l) (leftOf file t l) (rightOf file t l) (l .areas) (entriesOf file t l) kept-listed
+      ∙ ground-kept (l .lines) (measureOf file t l) (leftAreaOf file t l) (rightAreaOf file t l) (l .areas) (entriesOf file t l) kept-listed
       (λ n o m. let s = k .lines n o m in (s .left, s .right))

@@ -2,7 +2,7 @@
 -- layer. Assumes nothing.
 --   areaOfLayer file t l a   the measure of the layer's area a
 --   areasSum file t l        the sum of its areas' measures
---   leftOf, rightOf          a line's left and right area
+--   leftAreaOf, rightAreaOf  a line's left and right area
 --   outsideSum file t l      the outside sum: walked along the lines between an area and the outside
 --   measuresTo file t b n    the measures of all areas of the first n layers, in file order
 use mathlib.Core.List.{List, [], _++_}
@@ -27,16 +27,16 @@ unfoldable pub areasSum : List ℕ → List ℕ → Layer → ℤ
 areasSum file t l = sumTo (l .areas) (areaOfLayer file t l)
 
 -- RULES 4.4: line n's left area, its right area
-unfoldable pub leftOf : List ℕ → List ℕ → Layer → ℕ → ℕ
-leftOf file t l n = size (valueAt file (lineOf t l (pos n)) leftArea)
+unfoldable pub leftAreaOf : List ℕ → List ℕ → Layer → ℕ → ℕ
+leftAreaOf file t l n = size (valueAt file (lineOf t l (pos n)) leftArea)
 
-unfoldable pub rightOf : List ℕ → List ℕ → Layer → ℕ → ℕ
-rightOf file t l n = size (valueAt file (lineOf t l (pos n)) rightArea)
+unfoldable pub rightAreaOf : List ℕ → List ℕ → Layer → ℕ → ℕ
+rightAreaOf file t l n = size (valueAt file (lineOf t l (pos n)) rightArea)
 
 -- RULES 7.4: the outside sum adds the measure of each line whose left area is 0 and whose right area is not, and takes away that of each
 -- line whose right area is 0 and whose left area is not
 unfoldable pub outsideSum : List ℕ → List ℕ → Layer → ℤ
-outsideSum file t l = sumTo (l .lines) (λ n. outside (leftOf file t l n) (rightOf file t l n) (measureOf file t l n))
+outsideSum file t l = sumTo (l .lines) (λ n. outside (leftAreaOf file t l n) (rightAreaOf file t l n) (measureOf file t l n))
 
 -- RULES 8.4: a measure for each area, in file order
 unfoldable pub measuresTo : List ℕ → List ℕ → Bases → ℕ → List ℤ

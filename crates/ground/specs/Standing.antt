@@ -8,21 +8,20 @@ use mathlib.Core.List.{List}
 use mathlib.Core.Path.{_≡_}
 use Prim.Native.Nat.{ℕ, _+_, _≤_, _<_}
 use lib.IntN.{pos}
-use Rattle.permitted.specs.Permitted.{is}
+use Rattle.permitted.specs.Permitted.{is, isZero}
 use Rattle.layers.specs.declared.Layer.{Layer}
 use Rattle.layers.specs.Naming.{namesLine, areaOf}
-use Rattle.links.specs.Links.{isZero}
 use Rattle.entries.specs.Entries.{slotOf, slotsOf}
 use Rattle.loops.specs.Loops.{repeatsArea, rightArea}
 use Rattle.sides.specs.Sides.{lists}
-use Rattle.ground.specs.Layers.{leftOf, rightOf}
+use Rattle.ground.specs.Layers.{leftAreaOf, rightAreaOf}
 
 -- RULES 6.7, 6.9: a line: its sides' areas, 0 or one of the layer's (11), list it (18)
 pub record LineKept (file t : List ℕ) (l : Layer) (n : ℕ) : Type 0 where
-  pub left : leftOf file t l n ≤ l .areas
-  pub right : rightOf file t l n ≤ l .areas
-  pub leftLists : 0 < leftOf file t l n → lists file (areaOf t l (pos (leftOf file t l n))) true n ≡ true
-  pub rightLists : 0 < rightOf file t l n → lists file (areaOf t l (pos (rightOf file t l n))) false n ≡ true
+  pub left : leftAreaOf file t l n ≤ l .areas
+  pub right : rightAreaOf file t l n ≤ l .areas
+  pub leftLists : 0 < leftAreaOf file t l n → lists file (areaOf t l (pos (leftAreaOf file t l n))) true n ≡ true
+  pub rightLists : 0 < rightAreaOf file t l n → lists file (areaOf t l (pos (rightAreaOf file t l n))) false n ≡ true
 
 -- RULES 6.7, 6.8: a slot: empty, or the number of a line (11) that repeats none before it (13) and has the area on its right hand (17)
 pub record SlotKept (file t : List ℕ) (l : Layer) (a x e : ℕ) : Type 0 where

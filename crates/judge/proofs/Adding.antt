@@ -17,10 +17,9 @@ use mir.Facts.{toZ-ofZ, toZ-pos}
 use mir.Syntax.{w32, w64}
 use mir.Val.{SFits, toZ, ofZ, hbits}
 use Rattle.records.specs.Columns.{leftArea, rightArea, valueAt}
-use Rattle.permitted.specs.Permitted.{size, same}
+use Rattle.permitted.specs.Permitted.{size, same, isZero}
 use Rattle.walk.specs.Row.{areasWord}
 use Rattle.walk.proofs.Stores.{more-filled, filled-length}
-use Rattle.links.specs.Links.{isZero}
 use Rattle.links.proofs.Numbers.{told}
 use Rattle.measures.specs.Sum.{sum, sumTo}
 use Rattle.measures.specs.Walks.{Small}
@@ -40,7 +39,7 @@ use Rattle.entries.specs.Loops.{measureOf, areaMeasureIn}
 use Rattle.entries.specs.Keeping.{keptMeasure, Kept}
 use Rattle.entries.proofs.Keeping.{most, kept-small, entries-kept}
 use Rattle.entries.proofs.Summing.{turned-fits, turned-back}
-use Rattle.ground.specs.Layers.{areaOfLayer, leftOf, rightOf, measuresTo}
+use Rattle.ground.specs.Layers.{areaOfLayer, leftAreaOf, rightAreaOf, measuresTo}
 use Rattle.judge.specs.Measuring.{Fits, Measurable, keptArea, outsideAt, Summable, Fillable, filledTo}
 
 -- ---- the two sides of a line
@@ -131,13 +130,13 @@ module _ (file t : List ℕ) (l : Layer) where
 
   -- whether line n's left and right area are 0
   pub record Sided (n : ℕ) (a b : Bool) : Type 0 where
-    pub left : a ≡ eqb (leftOf file t l n) 0
-    pub right : b ≡ eqb (rightOf file t l n) 0
+    pub left : a ≡ eqb (leftAreaOf file t l n) 0
+    pub right : b ≡ eqb (rightAreaOf file t l n) 0
 
   pub sided : (n : ℕ) {r : ℕ} {x y : ℤ} {a b : Bool} → n ≤ 9999 → r ≡ lineOf t l (toZ w32 n) → mag x < 2 ^ hbits w32 → x ≡ valueAt file r leftArea → a ≡ isZero (toZ w32 (ofZ w32 x))
       → mag y < 2 ^ hbits w32 → y ≡ valueAt file r rightArea → b ≡ isZero (toZ w32 (ofZ w32 y))
       → Sided n a b
-  unfolding leftOf rightOf
+  unfolding leftAreaOf rightAreaOf
   sided n h e f p u g q v =
       let w = e ∙ ap (lineOf t l) (toZ-pos w32 {n = n} (omega arith)) in
       record { left = told isZero f (p ∙ ap (λ r. valueAt file r leftArea) w) u; right = told isZero g (q ∙ ap (λ r. valueAt file r rightArea) w) v }

@@ -10,7 +10,7 @@ use Rattle.fields.specs.Spelling.{columns, spell}
 use Rattle.fields.specs.Text.{isName, isBlanks, textAt}
 use Rattle.records.specs.Layout.{layoutOf}
 use Rattle.records.specs.Reading.{faultOf}
-use Rattle.records.specs.Writing.{fieldText, textOf, lineOf}
+use Rattle.records.specs.Writing.{fieldText, textOf, recordBytes}
 use Rattle.records.specs.View.{recordOf, numberIn}
 use Rattle.verdict.specs.declared.Verdict.{Verdict}
 use Rattle.verdict.specs.Rules.{firstBroken, block, rows, spread}
@@ -21,7 +21,7 @@ use Rattle.walk.specs.States.{sizeIn, dueOf, nextOf, stateAt, layerWords, count
 use Rattle.walk.specs.Stages.{recordsOf, endChecks, lengthChecks, stageOne, lastChecks, stageTwo, walkedOf, needOf, wordsOf, roomRule, early}
 use Rattle.walk.specs.Table.{gather, tableOf}
 use Rattle.totals.specs.Totals.{sumsFrom, sumsBehind, meshTotals, layerTotals, areaTotals, stageThree}
-use Rattle.layers.specs.Naming.{wordsBefore, layerIn, names, namesLine, nodeOf, lineOf as lineNamed, areaOf}
+use Rattle.layers.specs.Naming.{wordsBefore, layerIn, names, namesLine, nodeOf, lineOf, areaOf}
 use Rattle.links.specs.Links.{equal, entryIs, some, nodeEntry, endNode, meets, repeatsNode, nodeSlot, nodeChecks, listed, linkFits, lineEndChecks, sideChecks, lineChecks, atNode, firstPointChecks, lastPointChecks, pointChecks, loopEntry, entryChecks, stageFour}
 use Rattle.layers.specs.Passing.{basesOf, layerAt}
 use Rattle.measures.specs.Sum.{sum, upTo}
@@ -31,7 +31,7 @@ use Rattle.entries.specs.Entries.{slotOf, entriesTo, recordsFor, countAt, loops
 use Rattle.entries.specs.Loops.{measureOf, loopMeasureIn, areaMeasureIn}
 use Rattle.loops.specs.Loops.{repeatsArea, lastNode, entryBefore, joins, rightArea, loopSlot, winds, windChecks, firstRecord, areaRecord, loopChecks, stageFive}
 use Rattle.sides.specs.Sides.{lists, sideListed, listChecks, stageSix}
-use Rattle.ground.specs.Layers.{areaOfLayer, areasSum, leftOf, rightOf, outsideSum, measuresTo}
+use Rattle.ground.specs.Layers.{areaOfLayer, areasSum, leftAreaOf, rightAreaOf, outsideSum, measuresTo}
 use Rattle.judge.specs.Rulebook.{late, rulesOf, measureRule, layerRule, verdictOf, sumsVerdict}
 use Rattle.judge.specs.Outcomes.{outcomeOf, tableAfter, measuresOf, measuresAfter, sumsOf}
 use Rattle.judge.specs.declared.Outcome.{Outcome}
@@ -41,7 +41,7 @@ use Rattle.judge.specs.Sheets.{written, mRecord, hRecord, nRecord, lReco
 
 -- how a sheet is written
 writing : Unit {0}
-unfolding columns spell layoutOf fieldText textOf lineOf written mRecord hRecord nRecord lRecord points aRecord loopRecord put sheetS changed
+unfolding columns spell layoutOf fieldText textOf recordBytes written mRecord hRecord nRecord lRecord points aRecord loopRecord put sheetS changed
 writing = tt
 
 -- how a file is walked
@@ -51,12 +51,12 @@ walking = tt
 
 -- the rules
 judging : Unit {0}
-unfolding walking isName isBlanks textAt layoutOf faultOf within isMeshCode followsMesh isLayerCode followsLayer isDate isNodeItem isFrame isLineItem isLineKind isLink isCode isSide isAreaCode isSlot isPoint isNext isLoopSerial from meshAsks layerAsks nodeAsks lineAsks coordinateAsks areaAsks loopAsks asksOf askedOf formChecks valueChecks along checksOf firstBroken block rows endChecks lengthChecks stageOne lastChecks stageTwo wordsOf roomRule early sumsFrom sumsBehind meshTotals layerTotals areaTotals stageThree gather tableOf numberIn spread wordsBefore layerIn names namesLine nodeOf lineNamed areaOf equal entryIs some nodeEntry endNode meets repeatsNode nodeSlot nodeChecks listed linkFits lineEndChecks sideChecks lineChecks atNode firstPointChecks lastPointChecks pointChecks loopEntry entryChecks layerAt stageFour coordinateIn pairBy pointBy pointCount firstOf pointsBy measureBy sum steps lineMeasure loopMeasure slotOf entriesTo recordsFor countAt loopsAt recordsTo slotsOf loopAt measureOf loopMeasureIn repeatsArea lastNode entryBefore joins rightArea loopSlot winds windChecks firstRecord areaRecord loopChecks stageFive lists sideListed listChecks stageSix basesOf late rulesOf measureRule verdictOf
+unfolding walking isName isBlanks textAt layoutOf faultOf within isMeshCode followsMesh isLayerCode followsLayer isDate isNodeItem isFrame isLineItem isLineKind isLink isCode isSide isAreaCode isSlot isPoint isNext isLoopSerial from meshAsks layerAsks nodeAsks lineAsks coordinateAsks areaAsks loopAsks asksOf askedOf formChecks valueChecks along checksOf firstBroken block rows endChecks lengthChecks stageOne lastChecks stageTwo wordsOf roomRule early sumsFrom sumsBehind meshTotals layerTotals areaTotals stageThree gather tableOf numberIn spread wordsBefore layerIn names namesLine nodeOf lineOf areaOf equal entryIs some nodeEntry endNode meets repeatsNode nodeSlot nodeChecks listed linkFits lineEndChecks sideChecks lineChecks atNode firstPointChecks lastPointChecks pointChecks loopEntry entryChecks layerAt stageFour coordinateIn pairBy pointBy pointCount firstOf pointsBy measureBy sum steps lineMeasure loopMeasure slotOf entriesTo recordsFor countAt loopsAt recordsTo slotsOf loopAt measureOf loopMeasureIn repeatsArea lastNode entryBefore joins rightArea loopSlot winds windChecks firstRecord areaRecord loopChecks stageFive lists sideListed listChecks stageSix basesOf late rulesOf measureRule verdictOf
 judging = tt
 
 -- the figures
 measuring : Unit {0}
-unfolding areaMeasure loopsTo areaMeasureIn upTo areaOfLayer areasSum leftOf rightOf outsideSum measuresTo measuresOf measuresAfter layerRule sumsVerdict sumsOf
+unfolding areaMeasure loopsTo areaMeasureIn upTo areaOfLayer areasSum leftAreaOf rightAreaOf outsideSum measuresTo measuresOf measuresAfter layerRule sumsVerdict sumsOf
 measuring = tt
 
 -- a refusal without a place, and the need that it tells

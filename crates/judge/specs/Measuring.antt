@@ -13,7 +13,7 @@ use Rattle.layers.specs.Naming.{wordsBefore, layerIn, areaOf}
 use Rattle.entries.specs.Entries.{loopsAt, loopsTo}
 use Rattle.entries.specs.Loops.{measureOf}
 use Rattle.entries.specs.Keeping.{keptMeasure, SoundLayer}
-use Rattle.ground.specs.Layers.{areaOfLayer, leftOf, rightOf, measuresTo}
+use Rattle.ground.specs.Layers.{areaOfLayer, leftAreaOf, rightAreaOf, measuresTo}
 
 -- a sum that the machine can hold
 abbrev pub Fits : ℤ → Type 0
@@ -29,7 +29,7 @@ keptArea file l ms a = areaMeasure (keptMeasure l ms) (loopsTo file a (loopsAt f
 
 -- what line n adds to the outside sum
 unfoldable pub outsideAt : List ℕ → List ℕ → Layer → ℕ → ℤ
-outsideAt file t l n = outside (leftOf file t l n) (rightOf file t l n) (measureOf file t l n)
+outsideAt file t l n = outside (leftAreaOf file t l n) (rightAreaOf file t l n) (measureOf file t l n)
 
 -- the layer's areas and lines, added up one by one; the lines are well formed
 pub record Summable (file t : List ℕ) (l : Layer) : Type 0 where

@@ -15,7 +15,7 @@ use Rattle.fields.specs.Place.{put}
 use Rattle.fields.specs.Spelling.{spell}
 use Rattle.records.specs.declared.Kind.{Kind}
 use Rattle.records.specs.declared.Kind.the-variants.{Mesh, Layer, Node, Line, Coordinates, Area, Loop}
-use Rattle.records.specs.Writing.{lineOf}
+use Rattle.records.specs.Writing.{recordBytes}
 use Rattle.verdict.specs.declared.Verdict.{Verdict}
 use Rattle.verdict.specs.declared.Verdict.the-variants.{Fine, Broken}
 
@@ -28,7 +28,7 @@ wide (suc n) = 0x81 ∷ 0x40 ∷ wide n
 
 -- a record of kind k with the numbers ns; those that are not listed are 0
 unfoldable pub written : Kind → List ℤ → List ℕ
-written k ns = lineOf (record { kind = k; numbers = ns; name = wide 20 })
+written k ns = recordBytes (record { kind = k; numbers = ns; name = wide 20 })
 
 -- RULES 11.1: record 1, M, by its mesh code, layers and records
 unfoldable pub mRecord : ℕ → ℕ → ℕ → List ℕ

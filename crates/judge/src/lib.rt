@@ -194,8 +194,8 @@ fn outside_at(file: &[u8], table: &[u32], l: Layer, kept: &[i64], n: usize) -> i
 {
     let v = n as i32;
     let r = layers::line_of(table, l, v);
-    let left = links::is_zero(records::value_at(file, r, records::LEFT_AREA));
-    let right = links::is_zero(records::value_at(file, r, records::RIGHT_AREA));
+    let left = permitted::is_zero(records::value_at(file, r, records::LEFT_AREA));
+    let right = permitted::is_zero(records::value_at(file, r, records::RIGHT_AREA));
     if permitted::same(left, right) {
         return 0;
     }

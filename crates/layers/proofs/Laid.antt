@@ -25,7 +25,7 @@ use Rattle.layers.specs.Naming.{rowWord, wordsBefore}
 use Rattle.layers.specs.Passing.{isLayer, layerAt, basesIn, layerOf}
 use Rattle.layers.proofs.Rows.{gathered, passes}
 use Rattle.layers.proofs.Sections.{Section, wordOf, baseIn, wordsFor, manyIn, firstIn, recordIn, totalIn, dueIn, dueNow, countIn, ownIn, cameIn}
-use Rattle.layers.proofs.Sections.{Tally, tallyOf, oneMore, newRow, noneLeft, tallyAt, Turn, own, head, mesh, other, turn-at, none-yet}
+use Rattle.layers.proofs.Sections.{Tally, tallyOf, cameOne, newRow, noneLeft, tallyAt, Effect, own, head, mesh, other, effect-at, none-yet}
 use Rattle.layers.proofs.Sections.{came-most, came-all, own-word, due-number, head-total, many-is, first-is, many-words, word-in, named}
 
 -- ---- the words of the rows, added up
@@ -68,7 +68,7 @@ record Part (t : List ℕ) (j : ℕ) (v : Tally) : Type 0 where
   last : 0 < v .own → v .own ≡ rowWord t (v .rows - 1) j
 
 -- another one came
-part-one : {t : List ℕ} {j : ℕ} {v : Tally} → Part t j v → Part t j (oneMore v)
+part-one : {t : List ℕ} {j : ℕ} {v : Tally} → Part t j v → Part t j (cameOne v)
 part-one p = record { all = omega (arith, p .all); some = p .some; last = p .last }
 
 -- none is left, and another layer begins, or a mesh
@@ -115,7 +115,7 @@ wordless x d r code m n e =
     absurd (omega arith)
 
 module _ {x : Section} {s : State} {c : Counts} {r : List ℕ} {d : Due} where
-  part-next : {t : List ℕ} → Turn x s c r d → cameIn x s ≤ ownIn x s → (isLayer d ≡ true → rowWord t (c .layers) (wordOf x) ≡ totalIn x r)
+  part-next : {t : List ℕ} → Effect x s c r d → cameIn x s ≤ ownIn x s → (isLayer d ≡ true → rowWord t (c .layers) (wordOf x) ≡ totalIn x r)
       → Part t (wordOf x) (tallyOf x c s) → Part t (wordOf x) (tallyOf x (countedFor d c r) (nextFor d s r))
   part-next (own e l q) o h p = part-is q (part-one p)
   part-next (head n e l q) o h p = part-is q (part-row (totalIn x r) (omega arith) (h e) p)
@@ -123,14 +123,14 @@ module _ {x : Section} {s : State} {c : Counts} {r : List ℕ} {d : Due} where
   part-next (other n q) o h p = part-is q p
 
   -- where one is due: its number, and that the layer has not all yet
-  due-by : (code m : ℕ) → Turn x s c r d → d ≡ dueIn x code m → (m ≡ cameIn x s) × (cameIn x s < ownIn x s)
+  due-by : (code m : ℕ) → Effect x s c r d → d ≡ dueIn x code m → (m ≡ cameIn x s) × (cameIn x s < ownIn x s)
   due-by code m (own e l q) f = (due-number x code _ m (cameIn x s) (sym f ∙ e), l)
   due-by code m (head n e l q) f = wordless x d r code m n f
   due-by code m (mesh n l q) f = wordless x d r code m n f
   due-by code m (other n q) f = wordless x d r code m n f
 
   -- where their count comes past p, one is due
-  passed : {p : ℕ} → Turn x s c r d → countIn x c ≤ p → p < countIn x (countedFor d c r) → (d ≡ dueNow x s (cameIn x s)) × (countIn x c ≡ p)
+  passed : {p : ℕ} → Effect x s c r d → countIn x c ≤ p → p < countIn x (countedFor d c r) → (d ≡ dueNow x s (cameIn x s)) × (countIn x c ≡ p)
   passed (own e l q) a b = (e, omega (arith, count-is q))
   passed (head n e l q) a b = absurd (omega (arith, count-is q))
   passed (mesh n l q) a b = absurd (omega (arith, count-is q))
@@ -146,7 +146,7 @@ module _ (x : Section) (file : List ℕ) where
   parts : (k : ℕ) → k ≤ recordsOf file → Part (tableOf file) (wordOf x) (tallyAt x file k)
   unfolding countsAt stateAt nextOf wordsBefore
   parts zero l = part-is (none-yet x) (record { all = refl; some = λ m. m; last = λ m. absurd (omega arith) })
-  parts (suc k) l = part-next (turn-at x file k) (came-most x file k) (head-total x file k l) (parts k (omega arith))
+  parts (suc k) l = part-next (effect-at x file k) (came-most x file k) (head-total x file k l) (parts k (omega arith))
 
   -- where the file may end, all that the rows say has come
   pub all-came : mayEnd (dueOf (stateAt file (recordsOf file))) ≡ true
@@ -161,7 +161,7 @@ module _ (x : Section) (file : List ℕ) where
   nth n l =
       let z : countIn x (countsAt file 0) ≡ 0 = count-is (none-yet x) in
       let q = passes (λ k. countIn x (countsAt file k)) n (recordsOf file) (omega arith) l in
-      let d = passed (turn-at x file (q .0)) (q .1 .above) (q .1 .below) in
+      let d = passed (effect-at x file (q .0)) (q .1 .above) (q .1 .below) in
       (q .0, record { within = q .1 .before; due = d .0; before = d .1 })
 
 -- ---- a record's word
@@ -176,7 +176,7 @@ pub record Place (x : Section) (file : List ℕ) (k i m : ℕ) : Type 0 where
 module _ (x : Section) (file : List ℕ) (k : ℕ) (l : k < recordsOf file) (code m : ℕ) (e : dueOf (stateAt file k) ≡ dueIn x code m) where
   -- m of the layer came, and it has not all yet
   pub number-of : (m ≡ cameIn x (stateAt file k)) × (cameIn x (stateAt file k) < ownIn x (stateAt file k))
-  number-of = due-by code m (turn-at x file k) e
+  number-of = due-by code m (effect-at x file k) e
 
   -- the layers that came up to here are among those of the file
   here : countsAt file k .layers - 1 ≤ countsAt file (recordsOf file) .layers

@@ -110,8 +110,8 @@ abbrev pub noTally : Tally
 noTally = record { rows = 0; count = 0; own = 0; came = 0 }
 
 -- another record of it came; another layer began, which has n; a mesh began
-abbrev pub oneMore : Tally → Tally
-oneMore v = record { rows = v .rows; count = v .count + 1; own = v .own; came = v .came + 1 }
+abbrev pub cameOne : Tally → Tally
+cameOne v = record { rows = v .rows; count = v .count + 1; own = v .own; came = v .came + 1 }
 
 abbrev pub newRow : ℕ → Tally → Tally
 newRow n v = record { rows = v .rows + 1; count = v .count; own = n; came = 0 }
@@ -126,18 +126,18 @@ tallyAt x file k = tallyOf x (countsAt file k) (stateAt file k)
 -- ---- what a record does to a section
 
 -- the record r, due as d in the state s behind the counts c: one of the section, an H, an M, or another that leaves the section as it is
-pub data Turn (x : Section) (s : State) (c : Counts) (r : List ℕ) (d : Due) : Type 0 where
+pub data Effect (x : Section) (s : State) (c : Counts) (r : List ℕ) (d : Due) : Type 0 where
   own : d ≡ dueNow x s (cameIn x s) → cameIn x s < ownIn x s
-      → tallyOf x (countedFor d c r) (nextFor d s r) ≡ oneMore (tallyOf x c s) → Turn x s c r d
+      → tallyOf x (countedFor d c r) (nextFor d s r) ≡ cameOne (tallyOf x c s) → Effect x s c r d
   head : wordsFor x d r 0 ≡ [] → isLayer d ≡ true → ownIn x s ≤ cameIn x s
-      → tallyOf x (countedFor d c r) (nextFor d s r) ≡ newRow (totalIn x r) (tallyOf x c s) → Turn x s c r d
+      → tallyOf x (countedFor d c r) (nextFor d s r) ≡ newRow (totalIn x r) (tallyOf x c s) → Effect x s c r d
   mesh : wordsFor x d r 0 ≡ [] → ownIn x s ≤ cameIn x s
-      → tallyOf x (countedFor d c r) (nextFor d s r) ≡ noneLeft (tallyOf x c s) → Turn x s c r d
-  other : wordsFor x d r 0 ≡ [] → tallyOf x (countedFor d c r) (nextFor d s r) ≡ tallyOf x c s → Turn x s c r d
+      → tallyOf x (countedFor d c r) (nextFor d s r) ≡ noneLeft (tallyOf x c s) → Effect x s c r d
+  other : wordsFor x d r 0 ≡ [] → tallyOf x (countedFor d c r) (nextFor d s r) ≡ tallyOf x c s → Effect x s c r d
 
-turn : (x : Section) (s : State) (c : Counts) (r : List ℕ) → Turn x s c r (dueOf s)
-turn lines s c r =
-    by-due (λ d. Turn lines s c r d) s
+effect : (x : Section) (s : State) (c : Counts) (r : List ℕ) → Effect x s c r (dueOf s)
+effect lines s c r =
+    by-due (λ d. Effect lines s c r d) s
     (λ _. other refl refl)
     (λ l. other refl (ap (tallyOf lines c) (next-entries s r l)))
     (λ _. other refl refl)
@@ -146,8 +146,8 @@ turn lines s c r =
     (λ _ _. other refl refl)
     (λ i. head refl refl (i .lines) refl)
     (λ i. mesh refl (i .lines) refl)
-turn areas s c r =
-    by-due (λ d. Turn areas s c r d) s
+effect areas s c r =
+    by-due (λ d. Effect areas s c r d) s
     (λ _. other refl refl)
     (λ l. other refl (ap (tallyOf areas c) (next-entries s r l)))
     (λ _. other refl refl)
@@ -157,8 +157,8 @@ turn areas s c r =
     (λ i. head refl refl (i .areas) refl)
     (λ i. mesh refl (i .areas) refl)
 
-pub turn-at : (x : Section) (file : List ℕ) (k : ℕ) → Turn x (stateAt file k) (countsAt file k) (recordOf file (suc k)) (dueOf (stateAt file k))
-turn-at x file k = turn x (stateAt file k) (countsAt file k) (recordOf file (suc k))
+pub effect-at : (x : Section) (file : List ℕ) (k : ℕ) → Effect x (stateAt file k) (countsAt file k) (recordOf file (suc k)) (dueOf (stateAt file k))
+effect-at x file k = effect x (stateAt file k) (countsAt file k) (recordOf file (suc k))
 
 -- ---- what holds of each section
 

@@ -7,7 +7,8 @@ use Rattle.records.specs.View.{numberIn}
 use Rattle.verdict.proofs.Holding.{Holding, both-hold, slot-holds}
 use Rattle.layers.specs.declared.Layer.{Layer}
 use Rattle.layers.specs.Naming.{names, namesLine}
-use Rattle.links.specs.Links.{isZero, lineEndChecks, sideChecks, lineChecks, loopEntry, entryChecks}
+use Rattle.links.specs.Links.{lineEndChecks, sideChecks, lineChecks, loopEntry, entryChecks}
+use Rattle.permitted.specs.Permitted.{isZero}
 
 -- 11 of the side whose code stands at column c and whose area number stands at column a
 side-named : (file t : List ℕ) (l : Layer) (r c a : ℕ) → Holding (sideChecks file t l r c a)

@@ -14,11 +14,11 @@ use Rattle.verdict.specs.declared.Verdict.{Verdict}
 use Rattle.verdict.specs.declared.Verdict.the-variants.{Fine, Broken}
 use Rattle.verdict.specs.Rules.{Check, check, firstBroken, block, rows}
 use Rattle.verdict.proofs.Parts.{stands, goes-on, rows-pass, block-append, check-none, check-kept, check-broken}
-use Rattle.permitted.specs.Permitted.{size}
+use Rattle.permitted.specs.Permitted.{size, isZero}
 use Rattle.permitted.proofs.Signs.{passed-on}
 use Rattle.layers.specs.declared.Layer.{Layer}
 use Rattle.layers.specs.Naming.{names, namesLine, nodeOf, areaOf}
-use Rattle.links.specs.Links.{isZero, equal, entryIs, some, serialIn, nodeEntry, listed, linkFits, lineEndChecks, sideChecks, atNode}
+use Rattle.links.specs.Links.{equal, entryIs, some, serialIn, nodeEntry, listed, linkFits, lineEndChecks, sideChecks, atNode}
 use Rattle.links.specs.Links.{firstPointChecks, lastPointChecks, pointChecks, loopEntry, entryChecks, fifth}
 use Rattle.links.proofs.Numbers.{asked, told-both}
 use Rattle.links.proofs.Scans.{some-none, some-more, some-hit, slotRules, slots-stop, slots-done}

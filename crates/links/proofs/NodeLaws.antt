@@ -3,13 +3,14 @@ use mathlib.Core.Bool.{Bool, true, false, not, _||_}
 use mathlib.Core.List.{List, [], _∷_}
 use mathlib.Core.Path.{_≡_, refl, _∙_}
 use Prim.Native.Nat.{ℕ, _+_, _*_}
+use Rattle.permitted.specs.Permitted.{isZero}
 use Rattle.layers.specs.declared.Layer.{Layer}
 use Rattle.layers.specs.Naming.{namesLine}
 use Rattle.verdict.specs.declared.Verdict.{Verdict}
 use Rattle.verdict.specs.declared.Verdict.the-variants.{Fine, Broken}
 use Rattle.verdict.specs.Rules.{check, firstBroken, block}
 use Rattle.verdict.proofs.Parts.{fine-broken, check-kept, check-broken}
-use Rattle.links.specs.Links.{isZero, repeats, nodeEntry, meets, repeatsNode, nodeSlot, fifth}
+use Rattle.links.specs.Links.{repeats, nodeEntry, meets, repeatsNode, nodeSlot, fifth}
 use Rattle.links.specs.Scanning.{clean}
 
 module _ (file t : List ℕ) (l : Layer) (r i row : ℕ) where

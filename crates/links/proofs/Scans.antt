@@ -17,7 +17,8 @@ use Rattle.verdict.specs.declared.Verdict.{Verdict}
 use Rattle.verdict.specs.declared.Verdict.the-variants.{Fine, Broken}
 use Rattle.verdict.specs.Rules.{Rule, Check, firstBroken, block, rows, spread}
 use Rattle.verdict.proofs.Parts.{spread-rows, rows-stop, rows-done}
-use Rattle.links.specs.Links.{isZero, equal, some, repeats, loopEntry, slotOf}
+use Rattle.permitted.specs.Permitted.{isZero}
+use Rattle.links.specs.Links.{equal, some, repeats, loopEntry, slotOf}
 use Rattle.links.specs.Scanning.{clean, FirstRepeat}
 
 -- ---- some of the first n

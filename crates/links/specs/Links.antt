@@ -17,7 +17,7 @@ use Rattle.records.specs.View.{numberIn}
 use Rattle.records.specs.Columns.{Column, spanOf}
 use Rattle.records.specs.Columns as column
 use Rattle.verdict.specs.Rules.{Rule, Check, check, spread}
-use Rattle.permitted.specs.Permitted.{natural, size, same}
+use Rattle.permitted.specs.Permitted.{natural, size, isZero, same}
 use Rattle.rules.specs.declared.Due.{Due}
 use Rattle.rules.specs.declared.Due.the-variants.{Mesh, Layer, Node, Line, Coordinates, Area, Loop}
 use Rattle.walk.specs.States.{dueOf}
@@ -28,9 +28,6 @@ use Rattle.layers.specs.Naming.{names, namesLine, nodeOf, lineOf, areaOf}
 use Rattle.layers.specs.Standing.{stageOf}
 
 -- ---- numbers
-
-abbrev pub isZero : ℤ → Bool
-isZero v = eqb (size v) 0
 
 -- the same sign and size
 unfoldable pub equal : ℤ → ℤ → Bool

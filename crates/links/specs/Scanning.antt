@@ -8,10 +8,11 @@ use Rattle.verdict.specs.declared.Verdict.the-variants.{Fine}
 use Rattle.verdict.specs.Rules.{firstBroken, block}
 use Rattle.walk.specs.declared.State.{State}
 use Rattle.walk.specs.Quiet.{quietDue}
+use Rattle.permitted.specs.Permitted.{isZero}
 use Rattle.layers.specs.declared.Layer.{Layer}
 use Rattle.links.specs.declared.Owner.{Owner}
 use Rattle.links.specs.declared.Owner.the-variants.{Node, Area}
-use Rattle.links.specs.Links.{isZero, repeats, nodeEntry, slotOf, linkChecks, fifth}
+use Rattle.links.specs.Links.{repeats, nodeEntry, slotOf, linkChecks, fifth}
 
 -- the slots of the N at record f; or those of the loop records from f on
 abbrev pub slotBy : Owner → List ℕ → ℕ → ℕ → ℤ

@@ -14,16 +14,11 @@ ghost use Prim.Native.Nat.{_+_, _-_, _≤_, _<_};
 ghost use lib.ListN.{getD};
 ghost use Rattle.verdict.specs.declared.Verdict.the-variants.{Broken};
 ghost use Rattle.verdict.specs.Rules.{firstBroken, block};
-ghost use Rattle.links.specs.Links.{isZero, equal, entryIs, serialIn, nodeEntry, handIn, meets, nodeSlot, nodeChecks, listed, linkFits, lineEndChecks, sideChecks, lineChecks, atNode, firstPointChecks, lastPointChecks, pointChecks, slotOf, entryChecks, linkChecks, fifth, stageFour};
+ghost use Rattle.permitted.specs.Permitted.{isZero};
+ghost use Rattle.links.specs.Links.{equal, entryIs, serialIn, nodeEntry, handIn, meets, nodeSlot, nodeChecks, listed, linkFits, lineEndChecks, sideChecks, lineChecks, atNode, firstPointChecks, lastPointChecks, pointChecks, slotOf, entryChecks, linkChecks, fifth, stageFour};
 ghost use Rattle.links.specs.Scanning.{slotBy, slotCount, clean, FirstRepeat, Between};
 
 // ---- numbers
-
-pub fn is_zero(v: i32) -> bool
-    ensures { λ r. ⌜ r ≡ isZero v ⌝ }
-{
-    permitted::size(v) == 0
-}
 
 // The same sign and size.
 pub fn equal(a: i32, b: i32) -> bool
@@ -87,7 +82,7 @@ pub enum Owner {
 
 // How many of them a record has.
 fn slot_count(o: Owner) -> usize
-    ensures { λ r. ⌜ r ≡ slotCount o ⌝ }
+    ensures { λ r. ⌜ (r ≡ slotCount o) × (r ≤ 12) ⌝ }
 {
     match o {
         Owner::Node => 9,
@@ -110,7 +105,7 @@ fn slot_by(o: Owner, file: &[u8], f: usize, e: usize) -> i32
 fn earlier(v: i32, e: usize) -> usize
     ensures { λ x. ⌜ x ≡ cond (isZero v) 0 e ⌝ }
 {
-    if is_zero(v) {
+    if permitted::is_zero(v) {
         return 0;
     }
     e
@@ -186,7 +181,7 @@ fn judge_slot(
     ensures { λ x. ⌜ x ≡ firstBroken (block fifth row (nodeSlot (now (file .entry)) (now (table .entry)) l r i)) ⌝ }
 {
     let v = node_entry(file, r, i);
-    if is_zero(v) {
+    if permitted::is_zero(v) {
         return Verdict::Fine;
     }
     if !layers::names_line(l.lines, v) {
@@ -242,7 +237,7 @@ fn listed(file: &[u8], r: usize, back: bool, n: usize) -> bool
 fn link_fits(link: i32, frame: i32) -> bool
     ensures { λ x. ⌜ x ≡ linkFits link frame ⌝ }
 {
-    permitted::same(is_zero(link), is_zero(frame))
+    permitted::same(permitted::is_zero(link), permitted::is_zero(frame))
 }
 
 // One end of the line at record `r`: its node number at column `c`, its link at column `k`.
@@ -282,7 +277,7 @@ fn judge_side(
 {
     let v = records::number_at(file, r, a, 5);
     if !layers::names(l.areas, v) {
-        if is_zero(v) {
+        if permitted::is_zero(v) {
             return Verdict::Fine;
         }
         return broken(11, row, a);
@@ -402,7 +397,7 @@ fn judge_entries(file: &[u8], l: Layer, r: usize, row: u32) -> Verdict
     let mut i: usize = 0;
     while i < 12 {
         let v = slot_of(file, r, i);
-        if !is_zero(v) & !layers::names_line(l.lines, v) {
+        if !permitted::is_zero(v) & !layers::names_line(l.lines, v) {
             return broken(11, row, 10 + 5 * i);
         }
         i += 1;

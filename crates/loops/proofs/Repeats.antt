@@ -1,61 +1,29 @@
--- Repeated entries of an area: which slot the scan stops at; and that no slot repeats an earlier one where each found its place without
--- the area's mark, since equal entries leave their marks at one place. Assumes nothing.
-use mathlib.Core.Bool.{Bool, true, false, cond, not, _||_, _&&_, false≢true}
+-- Repeated entries of an area without a scan: no slot repeats an earlier one where each found its place without the area's mark, since equal
+-- entries leave their marks at one place. Assumes nothing.
+use mathlib.Core.Bool.{Bool, true, false, not, _||_, false≢true}
 use mathlib.Core.List.{List}
 use mathlib.Core.Path.{_≡_, refl, sym, _∙_, ap}
-use Prim.Native.Nat.{ℕ, zero, suc, _+_, _*_, _-_, _/_, _%_, _≤_, _<_}
+use Prim.Native.Nat.{ℕ, zero, suc, _+_, _≤_, _<_}
 use native.Mathlib.Omega.{arith}
-use lib.Dec.{leb, ltb}
 use lib.IntN.{ℤ, pos, negsuc}
 use lib.ListN.{length, getD, set, length-set}
 use lib.Seq.{getD-set-same, getD-set-other}
 use borrow.Author.Count.{below-none, below-more}
-use borrow.Author.Tests.{ltb-true, leb-true, eqb-true}
-use Rattle.verdict.proofs.Orders.{and-both}
-use Rattle.links.specs.Links.{isZero, equal, some, loopEntry}
-use Rattle.links.proofs.NodeLaws.{none-before, one-before}
-use Rattle.entries.specs.Entries.{slotOf}
-use Rattle.loops.specs.Loops.{repeatsArea}
-use Rattle.loops.specs.Scanning.{clean, FirstRepeat, markOf, Unrepeated, Marking}
-
--- ---- the scan
-
--- d records of the area stand before record r
-module _ (file : List ℕ) (a r i : ℕ) {d : ℕ} (q : d ≡ r - (a + 1)) where
-  -- the scan compared all slots that it had to
-  pub clean-passed : (j : ℕ) {stop : ℕ} → stop ≡ cond (isZero (loopEntry file r i)) 0 (12 * d + i) → j ≤ stop → stop ≤ j → some j (λ j. equal (slotOf file (a + 1) (12 * d + i)) (slotOf file (a + 1) j)) ≡ false → clean file a r i ≡ true
-  unfolding clean repeatsArea
-  clean-passed j {stop} e l m h =
-      let p : j ≡ stop = omega arith in
-      rw (← q) (none-before (isZero (loopEntry file r i)) (12 * d + i) j (λ j. equal (slotOf file (a + 1) (12 * d + i)) (slotOf file (a + 1) j)) (p ∙ e) h)
-
-  -- slot j is like this one
-  pub clean-not : (j : ℕ) {stop : ℕ} → stop ≡ cond (isZero (loopEntry file r i)) 0 (12 * d + i) → j < stop → equal (slotOf file (a + 1) (12 * d + i)) (slotOf file (a + 1) j) ≡ true → clean file a r i ≡ false
-  unfolding clean repeatsArea
-  clean-not j e l h = rw (← q) (one-before (isZero (loopEntry file r i)) (12 * d + i) j (λ j. equal (slotOf file (a + 1) (12 * d + i)) (slotOf file (a + 1) j)) (rw e at l) h)
+use borrow.Author.Tests.{eqb-true}
+use Rattle.permitted.specs.Permitted.{isZero}
+use Rattle.links.specs.Links.{equal, some, repeats, slotOf}
+use Rattle.links.specs.Scanning.{clean, FirstRepeat}
+use Rattle.loops.specs.Scanning.{markOf, Unrepeated, Marking}
 
 -- ---- without a scan
 
--- a slot of the area, as one of a record behind the A
-slot-at : (file : List ℕ) (a r i : ℕ) → a < r → i < 12 → slotOf file (a + 1) (12 * (r - (a + 1)) + i) ≡ loopEntry file r i
-unfolding slotOf
-slot-at file a r i l m =
-    let p : a + 1 + (12 * (r - (a + 1)) + i) / 12 ≡ r = omega arith in
-    let q : (12 * (r - (a + 1)) + i) % 12 ≡ i = omega arith in
-    rw (p, q)
-
--- all slots of a record are among those that are known to repeat none: the test of it, where d is what is left of r when a are taken
-pub repeats-none : (file : List ℕ) (a r d : ℕ) {known : ℕ} → Unrepeated file a known → d ≡ r - a → ltb a r && leb (12 * d) known ≡ true → FirstRepeat file a r 12
-unfolding clean
-repeats-none file a r d {known} u e h =
-    let s = and-both (ltb a r) (leb (12 * d) known) h in
-    let l = ltb-true a r (s .0) in
-    let k = leb-true (12 * d) known (s .1) in
-    record {
-      within = omega arith;
-      before = λ i m. rw (slot-at file a r i l m) at (u .unrepeated (12 * (r - (a + 1)) + i) (omega arith));
-      found = λ m. absurd (omega arith);
-    }
+-- all slots of a record, from slot `from` on, are among those that are known to repeat none
+pub repeats-none : (file : List ℕ) (a from : ℕ) {known : ℕ} → Unrepeated file a known → from + 12 ≤ known → FirstRepeat (slotOf file (a + 1)) from 12 12
+repeats-none file a from u l = record {
+  within = omega arith;
+  before = λ i m. u .unrepeated (from + i) (omega arith);
+  found = λ m. absurd (omega arith);
+}
 
 -- ---- marks
 
@@ -70,7 +38,11 @@ module _ {before : List ℕ} {v : ℤ} {a : ℕ} where
 
   -- the mark is left
   pub marking-left : (m : ℕ) → m ≡ markOf v → m < length before → (getD before m 0 ≡ a → ⊥) → Marking before v a true (set before m a)
-  marking-left m e l n = record { length = length-set before m a; fresh = λ t z. rw (← e) (n, getD-set-same before m a 0 l); kept = λ t i h. getD-set-other before m i a 0 (λ q. n (rw q at h)) ∙ h }
+  marking-left m e l n = record {
+    length = length-set before m a;
+    fresh = λ t z. rw (← e) (n, getD-set-same before m a 0 l);
+    kept = λ t i h. getD-set-other before m i a 0 (λ q. n (rw q at h)) ∙ h;
+  }
 
 -- the first e slots bear the mark
 pub record Marked (file : List ℕ) (a : ℕ) (marks : List ℕ) (e : ℕ) : Type 0 where
@@ -115,9 +87,9 @@ module _ (file : List ℕ) (a e : ℕ) {before after : List ℕ} (m : Marking be
           absurd (m .fresh refl z .0 (rw s (h .marked j l (rw s at z))))
 
   pub unrepeated-more : Unrepeated file a e → Unrepeated file a (e + 1)
-  unfolding repeatsArea
+  unfolding clean
   unrepeated-more u = record { unrepeated = below-more _ _ (u .unrepeated) (by (isZero (slotOf file (a + 1) e)) refl) }
     where
-      by : (b : Bool) → isZero (slotOf file (a + 1) e) ≡ b → b || not (repeatsArea file a e) ≡ true
+      by : (b : Bool) → isZero (slotOf file (a + 1) e) ≡ b → b || not (repeats (slotOf file (a + 1)) e) ≡ true
       by true z = refl
       by false z = rw (some-not e (λ j. equal (slotOf file (a + 1) e) (slotOf file (a + 1) j)) (not-like z))

@@ -16,7 +16,7 @@ use lib.Signed.{ltZ}
 use Rattle.records.specs.View.{numberIn}
 use Rattle.records.specs.Columns as column
 use Rattle.verdict.specs.Rules.{Rule, Check, check, spread}
-use Rattle.permitted.specs.Permitted.{natural, is}
+use Rattle.permitted.specs.Permitted.{natural, is, isZero}
 use Rattle.rules.specs.declared.Due.{Due}
 use Rattle.rules.specs.declared.Due.the-variants.{Mesh, Layer, Node, Line, Coordinates, Area, Loop}
 use Rattle.walk.specs.States.{dueOf}
@@ -24,7 +24,7 @@ use Rattle.layers.specs.declared.Bases.{Bases}
 use Rattle.layers.specs.declared.Layer as layers
 use Rattle.layers.specs.declared.Standing.{Standing}
 use Rattle.layers.specs.Standing.{stageOf}
-use Rattle.links.specs.Links.{isZero, equal, repeats, onHand, endNode, loopEntry, slotOf}
+use Rattle.links.specs.Links.{equal, repeats, onHand, endNode, loopEntry, slotOf}
 use Rattle.entries.specs.Entries.{countAt}
 use Rattle.entries.specs.Loops.{loopMeasureIn}
 

@@ -7,7 +7,7 @@ use Prim.Native.Nat.{ℕ, _+_, _*_, _-_, _≤_, _<_}
 use lib.IntN.{ℤ}
 use lib.ListN as ListN
 use lib.ListN.{getD, take}
-use Rattle.permitted.specs.Permitted.{natural, size}
+use Rattle.permitted.specs.Permitted.{natural, size, isZero}
 use Rattle.rules.specs.declared.Due.{Due}
 use Rattle.rules.specs.declared.Due.the-variants as due
 use Rattle.walk.specs.States.{countsAt}
@@ -16,7 +16,7 @@ use Rattle.layers.specs.declared.Bases.{Bases}
 use Rattle.layers.specs.declared.Layer.{Layer}
 use Rattle.layers.specs.Naming.{layerIn}
 use Rattle.entries.specs.Keeping.{Kept, SoundLayer}
-use Rattle.links.specs.Links.{isZero, slotOf}
+use Rattle.links.specs.Links.{slotOf}
 use Rattle.links.specs.Scanning.{clean}
 use Rattle.loops.specs.Loops.{areaRecord}
 

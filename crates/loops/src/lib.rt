@@ -9,16 +9,17 @@ use links::Owner;
 use rules::Due;
 use verdict::Verdict;
 ghost use mathlib.Core.Path.{_≡_};
-ghost use mathlib.Core.Bool.{cond, not};
+ghost use mathlib.Core.Bool.{not};
 ghost use Prim.Native.Nat.{_+_, _*_, _-_, _≤_, _<_};
 ghost use lib.ListN.{length};
 ghost use Rattle.verdict.specs.declared.Verdict.the-variants.{Broken};
 ghost use Rattle.verdict.specs.Rules.{firstBroken, block, spread};
 ghost use Rattle.layers.specs.Passing.{isLayer};
-ghost use Rattle.links.specs.Links.{isZero, loopEntry};
+ghost use Rattle.links.specs.Links.{slotOf};
+ghost use Rattle.links.specs.Scanning.{clean, FirstRepeat};
 ghost use Rattle.entries.specs.Keeping.{keptLoop, Kept};
-ghost use Rattle.loops.specs.Loops.{lastNode, entryBefore, joins, rightArea, loopSlot, winds, windChecks, firstRecord, areaRecord, loopChecks, areaChecks, sixth, stageFive};
-ghost use Rattle.loops.specs.Scanning.{clean, FirstRepeat, markOf, Unrepeated, Marking, KeptFor, KeptBehind, SoundTable, KnownBehind};
+ghost use Rattle.loops.specs.Loops.{entryBefore, joins, slotFrom, loopSlot, winds, windChecks, firstRecord, areaRecord, loopChecks, areaChecks, sixth, stageFive};
+ghost use Rattle.loops.specs.Scanning.{markOf, Unrepeated, Marking, KeptFor, KeptBehind, SoundTable, KnownBehind};
 
 // ---- repeated entries
 
@@ -37,7 +38,7 @@ fn mark_of(v: i32) -> usize
 fn mark(marks: &mut [usize], v: i32, a: usize) -> bool
     ensures { λ r. ⌜ Marking (now (marks .entry)) v a r (now (marks .exit)) ⌝ }
 {
-    if links::is_zero(v) {
+    if permitted::is_zero(v) {
         return true;
     }
     let i = mark_of(v);
@@ -73,12 +74,13 @@ fn unrepeated(file: &[u8], a: usize, marks: &mut [usize]) -> usize
 // 12; without a scan where the first `known` slots of the area are known to repeat none.
 fn repeat_in(file: &[u8], a: usize, r: usize, known: usize) -> usize
     requires { ⌜ (a ≤ 4294967295) × (r ≤ 6399936) × Unrepeated (now file) a known ⌝ }
-    ensures { λ x. ⌜ FirstRepeat (now (file .entry)) a r x ⌝ }
+    ensures { λ x. ⌜ FirstRepeat (slotOf (now (file .entry)) (a + 1)) (12 * (r - (a + 1))) 12 x ⌝ }
 {
-    if (a < r) & (12 * walk::less(r, a) <= known) {
+    let from = 12 * walk::less(r, a + 1);
+    if from + 12 <= known {
         return 12;
     }
-    links::first_repeat(Owner::Area, file, a + 1, 12 * walk::less(r, a + 1))
+    links::first_repeat(Owner::Area, file, a + 1, from)
 }
 
 // ---- slots
@@ -128,20 +130,21 @@ fn judge_slot(
     i: usize,
     again: bool,
 ) -> Verdict
-    requires { ⌜ (i < 12) × (r ≤ 6399936) × (again ≡ not (clean (now file) a r i)) ⌝ }
+    requires { ⌜ (i < 12) × (r ≤ 6399936) × (again ≡ not (clean (slotOf (now file) (a + 1)) (slotFrom (a + 1) r i))) ⌝ }
     ensures { λ x. ⌜ x ≡ firstBroken (block sixth r (loopSlot (now (file .entry)) (now (table .entry)) l a area f r i)) ⌝ }
 {
     if again {
         return broken(13, r, i);
     }
     let v = links::slot_of(file, r, i);
-    if links::is_zero(v) {
+    if permitted::is_zero(v) {
         return Verdict::Fine;
     }
     if !joins(file, table, l, f, 12 * walk::less(r, f) + i, v) {
         return broken(15, r, i);
     }
-    if !permitted::is(links::on_hand(file, table, l, records::RIGHT_AREA, records::LEFT_AREA, v), area) {
+    let right = links::on_hand(file, table, l, records::RIGHT_AREA, records::LEFT_AREA, v);
+    if !permitted::is(right, area) {
         return broken(17, r, i);
     }
     Verdict::Fine
@@ -158,7 +161,7 @@ fn judge_slots(
     r: usize,
     at: usize,
 ) -> Verdict
-    requires { ⌜ (r ≤ 6399936) × FirstRepeat (now file) a r at ⌝ }
+    requires { ⌜ (r ≤ 6399936) × FirstRepeat (slotOf (now file) (a + 1)) (12 * (r - (a + 1))) 12 at ⌝ }
     ensures { λ x. ⌜ x ≡ firstBroken (block sixth r (spread 12 (loopSlot (now (file .entry)) (now (table .entry)) l a area f r))) ⌝ }
 {
     let mut i: usize = 0;

@@ -8,35 +8,35 @@ use native.Mathlib.Omega.{arith}
 use lib.Dec.{eqb}
 use lib.IntN.{ℤ, pos, negℤ, _+ℤ_, +ℤ-idl, +ℤ-idr, +ℤ-invr}
 use borrow.Author.Tests.{eqb-true, eq-eqb, ne-eqb, le-leb}
-use Rattle.measures.specs.Ground.{same, stands, Each, areaOf, Named, Known, NoRepeat, Listed}
+use Rattle.measures.specs.Ground.{sameEntry, listedIn, Each, entryArea, Named, Known, NoRepeat, Listed}
 use Rattle.measures.specs.Measures.{Entry, plus, minus, entryMeasure, loopMeasure, outside}
 use Rattle.measures.specs.Sum.{sum, upTo, sumTo}
 use Rattle.measures.proofs.SumLaws.{sum-append, sum-map, sum-ext, sum-zero, sum-add, sum-exchange, sumTo-ext, inside, inside-zero, only, sumTo-one}
 
 -- ---- an entry stands in its own area, and in no other
 
-same-true : (e x : Entry) → same e x ≡ true → e ≡ x
+same-true : (e x : Entry) → sameEntry e x ≡ true → e ≡ x
 same-true (plus k) (plus i) h = ap plus (eqb-true k i h)
 same-true (plus k) (minus i) h = absurd (false≢true h)
 same-true (minus k) (plus i) h = absurd (false≢true h)
 same-true (minus k) (minus i) h = ap minus (eqb-true k i h)
 
 -- what holds of every entry holds of one that stands there
-pub stands-each : (P : Entry → Type 0) (es : List Entry) → Each P es → (e : Entry) → stands e es ≡ true → P e
-unfolding stands
+pub stands-each : (P : Entry → Type 0) (es : List Entry) → Each P es → (e : Entry) → listedIn e es ≡ true → P e
+unfolding listedIn
 stands-each P [] h e s = absurd (false≢true s)
-stands-each P (x ∷ es) h e s = by (stands-each P es (h .1) e) (same x e) refl s
+stands-each P (x ∷ es) h e s = by (stands-each P es (h .1) e) (sameEntry x e) refl s
   where
-    by : (stands e es ≡ true → P e) → (t : Bool) → same x e ≡ t → t || stands e es ≡ true → P e
+    by : (listedIn e es ≡ true → P e) → (t : Bool) → sameEntry x e ≡ t → t || listedIn e es ≡ true → P e
     by rest true q s = subst P (same-true x e q) (h .0)
     by rest false q s = rest s
 
 -- by 17 and 18, an entry stands in area a if that is its own, and only then
 pub listed-stands : {n : ℕ} {left right : ℕ → ℕ} {a : ℕ} {es : List Entry}
-    → Listed n left right a es → (e : Entry) → Named n e → stands e es ≡ eqb (areaOf left right e) a
-listed-stands {left = left} {right = right} {a = a} {es = es} h e n = by (stands e es) refl
+    → Listed n left right a es → (e : Entry) → Named n e → listedIn e es ≡ eqb (entryArea left right e) a
+listed-stands {left = left} {right = right} {a = a} {es = es} h e n = by (listedIn e es) refl
   where
-    by : (t : Bool) → stands e es ≡ t → t ≡ eqb (areaOf left right e) a
+    by : (t : Bool) → listedIn e es ≡ t → t ≡ eqb (entryArea left right e) a
     by true s = sym (eq-eqb _ _ (stands-each _ es (h .own) e s))
     by false s = sym (ne-eqb _ _ (λ q. false≢true (sym s ∙ h .present e n q)))
 
@@ -61,9 +61,9 @@ sides-ext n f g h =
 line-alone : (n k : ℕ) (z : ℤ) → 0 < k → k ≤ n → sumTo n (λ i. only (eqb k i) z) ≡ z
 line-alone n k z p q = sumTo-one n k z ∙ rw (le-leb 1 k p, le-leb k n q)
 
-sides-one : (n : ℕ) (e : Entry) (z : ℤ) → Named n e → sum (λ x. only (same e x) z) (sidesTo n) ≡ z
-sides-one n (plus k) z h = sides-sum n (λ x. only (same (plus k) x) z) ∙ ap₂ _+ℤ_ (line-alone n k z (h .0) (h .1)) (sum-zero (upTo n)) ∙ +ℤ-idr z
-sides-one n (minus k) z h = sides-sum n (λ x. only (same (minus k) x) z) ∙ ap₂ _+ℤ_ (sum-zero (upTo n)) (line-alone n k z (h .0) (h .1)) ∙ +ℤ-idl z
+sides-one : (n : ℕ) (e : Entry) (z : ℤ) → Named n e → sum (λ x. only (sameEntry e x) z) (sidesTo n) ≡ z
+sides-one n (plus k) z h = sides-sum n (λ x. only (sameEntry (plus k) x) z) ∙ ap₂ _+ℤ_ (line-alone n k z (h .0) (h .1)) (sum-zero (upTo n)) ∙ +ℤ-idr z
+sides-one n (minus k) z h = sides-sum n (λ x. only (sameEntry (minus k) x) z) ∙ ap₂ _+ℤ_ (sum-zero (upTo n)) (line-alone n k z (h .0) (h .1)) ∙ +ℤ-idl z
 
 -- ---- a loop's measure, line by line
 
@@ -73,21 +73,21 @@ picked n m p = sum (λ e. only (p e) (entryMeasure m e)) (sidesTo n)
 
 module _ (n : ℕ) (m : ℕ → ℤ) where
   -- e before entries that it is not one of
-  entry-first : (e x : Entry) (es : List Entry) → stands e es ≡ false → (t : Bool) → same e x ≡ t
-      → only t (entryMeasure m e) +ℤ only (stands x es) (entryMeasure m x) ≡ only (t || stands x es) (entryMeasure m x)
+  entry-first : (e x : Entry) (es : List Entry) → listedIn e es ≡ false → (t : Bool) → sameEntry e x ≡ t
+      → only t (entryMeasure m e) +ℤ only (listedIn x es) (entryMeasure m x) ≡ only (t || listedIn x es) (entryMeasure m x)
   entry-first e x es s true q =
       let p : e ≡ x = same-true e x q in
       rw (← p, s) (+ℤ-idr (entryMeasure m e))
-  entry-first e x es s false q = +ℤ-idl (only (stands x es) (entryMeasure m x))
+  entry-first e x es s false q = +ℤ-idl (only (listedIn x es) (entryMeasure m x))
 
   -- by 13, a loop's measure is that of the entries that stand in it
-  loop-sides : (es : List Entry) → Known n es → NoRepeat es → loopMeasure m es ≡ picked n m (λ e. stands e es)
-  unfolding loopMeasure sum stands
+  loop-sides : (es : List Entry) → Known n es → NoRepeat es → loopMeasure m es ≡ picked n m (λ e. listedIn e es)
+  unfolding loopMeasure sum listedIn
   loop-sides [] h o = sym (sum-zero (sidesTo n))
   loop-sides (e ∷ es) h o =
       ap₂ _+ℤ_ (sym (sides-one n e (entryMeasure m e) (h .0))) (loop-sides es (h .1) (o .1))
-      ∙ sym (sum-add (λ x. only (same e x) (entryMeasure m e)) (λ x. only (stands x es) (entryMeasure m x)) (sidesTo n))
-      ∙ sum-ext _ _ (λ x. entry-first e x es (o .0) (same e x) refl) (sidesTo n)
+      ∙ sym (sum-add (λ x. only (sameEntry e x) (entryMeasure m e)) (λ x. only (listedIn x es) (entryMeasure m x)) (sidesTo n))
+      ∙ sum-ext _ _ (λ x. entry-first e x es (o .0) (sameEntry e x) refl) (sidesTo n)
 
   picked-lines : (p : Entry → Bool) → picked n m p ≡ sumTo n (λ i. only (p (plus i)) (m i) +ℤ only (p (minus i)) (negℤ (m i)))
   picked-lines p =
@@ -95,8 +95,8 @@ module _ (n : ℕ) (m : ℕ → ℤ) where
 
   -- each line counts where it stands: forwards, backwards, or both
   pub loop-lines : (es : List Entry) → Known n es → NoRepeat es
-      → loopMeasure m es ≡ sumTo n (λ i. only (stands (plus i) es) (m i) +ℤ only (stands (minus i) es) (negℤ (m i)))
-  loop-lines es h o = loop-sides es h o ∙ picked-lines (λ e. stands e es)
+      → loopMeasure m es ≡ sumTo n (λ i. only (listedIn (plus i) es) (m i) +ℤ only (listedIn (minus i) es) (negℤ (m i)))
+  loop-lines es h o = loop-sides es h o ∙ picked-lines (λ e. listedIn e es)
 
 -- ---- all areas
 
@@ -113,12 +113,12 @@ module _ (n : ℕ) (m : ℕ → ℤ) (left right : ℕ → ℕ) (k : ℕ) (entri
   pub ground-prefix : (j : ℕ) → j ≤ k
       → sumTo j (λ a. loopMeasure m (entries a)) ≡ sumTo n (λ i. only (inside (right i) j) (m i) +ℤ only (inside (left i) j) (negℤ (m i)))
   ground-prefix j l =
-      sumTo-ext j _ (λ a. picked n m (λ e. eqb (areaOf left right e) a)) area
-      ∙ sum-exchange (λ a e. only (eqb (areaOf left right e) a) (entryMeasure m e)) (upTo j) (sidesTo n)
-      ∙ sum-ext _ _ (λ e. sumTo-one j (areaOf left right e) (entryMeasure m e)) (sidesTo n)
-      ∙ picked-lines n m (λ e. inside (areaOf left right e) j)
+      sumTo-ext j _ (λ a. picked n m (λ e. eqb (entryArea left right e) a)) area
+      ∙ sum-exchange (λ a e. only (eqb (entryArea left right e) a) (entryMeasure m e)) (upTo j) (sidesTo n)
+      ∙ sum-ext _ _ (λ e. sumTo-one j (entryArea left right e) (entryMeasure m e)) (sidesTo n)
+      ∙ picked-lines n m (λ e. inside (entryArea left right e) j)
     where
-      area : (a : ℕ) → 0 < a → a ≤ j → loopMeasure m (entries a) ≡ picked n m (λ e. eqb (areaOf left right e) a)
+      area : (a : ℕ) → 0 < a → a ≤ j → loopMeasure m (entries a) ≡ picked n m (λ e. eqb (entryArea left right e) a)
       area a p q =
           let h = listed a p (omega arith) in
           loop-sides n m (entries a) (h .known) (h .once)

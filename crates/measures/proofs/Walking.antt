@@ -17,7 +17,7 @@ use borrow.Author.Tests.{ltb-true, ltb-false}
 use Rattle.measures.specs.Measures.{Point, cross, lineMeasure}
 use Rattle.measures.specs.Points.{pairBy, pointBy, countOf, pointCount, firstOf, pointsBy, measureBy}
 use Rattle.measures.specs.Sound.{addedUp}
-use Rattle.measures.specs.Walks.{Small, Near, far, Seven, stepTo, along, begin}
+use Rattle.measures.specs.Walks.{Small, Near, far, Seven, stepTo, walkAlong, begin}
 use Rattle.measures.specs.declared.Walk.{Walk}
 use Rattle.records.specs.View.{recordOf, numberIn}
 use Rattle.records.proofs.Numbers.{number-none}
@@ -51,8 +51,8 @@ none-near : (m k : ℕ) → m + 0 * k ≡ m
 none-near m k = omega arith
 
 pub along-near : {b m : ℕ} {w : Walk} (f : ℕ → Point) (n : ℕ) → ((i : ℕ) → i < n → Small b (f i .x) × Small b (f i .y))
-    → Near b m w → Near b (m + n * (b * b + b * b)) (along w f n)
-unfolding along
+    → Near b m w → Near b (m + n * (b * b + b * b)) (walkAlong w f n)
+unfolding walkAlong
 along-near {b} {m} f zero h g = rw (none-near m (b * b + b * b)) g
 along-near {b} {m} f (suc n) h g =
     let p = h n (omega arith) in
@@ -66,14 +66,14 @@ pair-small : (s : List ℕ) (i : ℕ) → Small far (pairBy addedUp s i .x) × S
 unfolding pairBy
 pair-small s i = (added-small s (1 + 10 * i), added-small s (6 + 10 * i))
 
-pub record-near : {m : ℕ} {w : Walk} (s : List ℕ) → Near far m w → (n : ℕ) → Near far (m + n * 55554444450) (along w (pairBy addedUp s) n)
+pub record-near : {m : ℕ} {w : Walk} (s : List ℕ) → Near far m w → (n : ℕ) → Near far (m + n * 55554444450) (walkAlong w (pairBy addedUp s) n)
 record-near s g n = along-near (pairBy addedUp s) n (λ i l. pair-small s i) g
 
 point-small : (file : List ℕ) (r i : ℕ) → Small far (pointBy addedUp file r i .x) × Small far (pointBy addedUp file r i .y)
 unfolding pointBy
 point-small file r i = pair-small (recordOf file (r + 1 + i / 7)) (i % 7)
 
-pub line-near : (file : List ℕ) (r n : ℕ) → Near far (n * 55554444450) (along begin (pointBy addedUp file r) n)
+pub line-near : (file : List ℕ) (r n : ℕ) → Near far (n * 55554444450) (walkAlong begin (pointBy addedUp file r) n)
 line-near file r n =
     let z : 0 + n * 55554444450 ≡ n * 55554444450 = omega arith in
     rw z at (along-near (pointBy addedUp file r) n (λ i l. point-small file r i) (begin-near far))
@@ -82,18 +82,18 @@ pub near-le : {b m : ℕ} {w : Walk} (n : ℕ) → Near b m w → m ≤ n → Ne
 near-le n g h = record { sum = small-le n (g .sum) h; x = g .x; y = g .y }
 
 -- one point more, as the code's turn goes
-pub along-next : (w : Walk) (f : ℕ → Point) (n : ℕ) → stepTo (along w f n) (f n) ≡ along w f (n + 1)
-unfolding along
+pub along-next : (w : Walk) (f : ℕ → Point) (n : ℕ) → stepTo (walkAlong w f n) (f n) ≡ walkAlong w f (n + 1)
+unfolding walkAlong
 along-next w f n = rw add-one
 
 -- the points behind the first d
-along-more : (w : Walk) (f : ℕ → Point) (d n : ℕ) → along w f (d + n) ≡ along (along w f d) (λ i. f (d + i)) n
-unfolding along
+along-more : (w : Walk) (f : ℕ → Point) (d n : ℕ) → walkAlong w f (d + n) ≡ walkAlong (walkAlong w f d) (λ i. f (d + i)) n
+unfolding walkAlong
 along-more w f d zero = rw add-zero
 along-more w f d (suc n) = rw (add-suc, along-more w f d n)
 
-along-ext : (w : Walk) (f g : ℕ → Point) (n : ℕ) → ((i : ℕ) → i < n → f i ≡ g i) → along w f n ≡ along w g n
-unfolding along
+along-ext : (w : Walk) (f g : ℕ → Point) (n : ℕ) → ((i : ℕ) → i < n → f i ≡ g i) → walkAlong w f n ≡ walkAlong w g n
+unfolding walkAlong
 along-ext w f g zero h = refl
 along-ext w f g (suc n) h = rw (along-ext w f g n (λ i l. h i (omega arith)), h n (omega arith))
 
@@ -108,7 +108,7 @@ module _ (read : List ℕ → ℕ → ℤ) (file : List ℕ) (r : ℕ) where
 
   -- on along the next record
   line-next : (q n : ℕ) → n ≤ 7
-      → along (along begin (pointBy read file r) (7 * q)) (pairBy read (recordOf file (r + 1 + q))) n ≡ along begin (pointBy read file r) (7 * q + n)
+      → walkAlong (walkAlong begin (pointBy read file r) (7 * q)) (pairBy read (recordOf file (r + 1 + q))) n ≡ walkAlong begin (pointBy read file r) (7 * q + n)
   line-next q n h =
       sym (along-more begin (pointBy read file r) (7 * q) n
       ∙ along-ext _ (λ i. pointBy read file r (7 * q + i)) (pairBy read (recordOf file (r + 1 + q))) n (λ i l. points-of q i (omega arith)))
@@ -140,8 +140,8 @@ module _ (file : List ℕ) (r : ℕ) (v : ℤ) (f : SFits w32 v) (e : v ≡ numb
 
 -- ---- the walk's sum is the line's measure
 
-walk-measure : (f : ℕ → Point) (n : ℕ) → along begin f n .sum ≡ lineMeasure (firstOf f n)
-unfolding along firstOf
+walk-measure : (f : ℕ → Point) (n : ℕ) → walkAlong begin f n .sum ≡ lineMeasure (firstOf f n)
+unfolding walkAlong firstOf
 walk-measure f zero = sym line-none
 walk-measure f (suc zero) = rw (cross-origin (f 0), +ℤ-idl) (sym (line-one (f 0)))
 walk-measure f (suc (suc n)) =
@@ -154,7 +154,7 @@ unfolding measureBy pointsBy pointCount firstOf
 measure-none read file r h = rw (number-none file r 50 6 h) line-none
 
 pub measure-is : (read : List ℕ → ℕ → ℤ) (file : List ℕ) (r : ℕ) {n : ℕ}
-    → n ≡ pointCount file r → along begin (pointBy read file r) n .sum ≡ measureBy read file r
+    → n ≡ pointCount file r → walkAlong begin (pointBy read file r) n .sum ≡ measureBy read file r
 unfolding measureBy pointsBy
 measure-is read file r e = rw e (walk-measure (pointBy read file r) (pointCount file r))
 
@@ -169,8 +169,8 @@ full {left} {part} s h = by (ltb part 7) refl
     by false e = omega (arith, s .few, ltb-false part 7 e)
 
 -- something is left, so the record takes something
-pub some : {left part : ℕ} → Seven left part → 0 < left → 0 < part
-some {left} {part} s h = by (ltb part 7) refl
+pub one-or-more : {left part : ℕ} → Seven left part → 0 < left → 0 < part
+one-or-more {left} {part} s h = by (ltb part 7) refl
   where
     by : (t : Bool) → ltb part 7 ≡ t → 0 < part
     by true e = omega (arith, s .all (ltb-true part 7 e))
@@ -178,16 +178,16 @@ some {left} {part} s h = by (ltb part 7) refl
 
 -- a turn of the code's loop: the record behind k takes `part` of what is left
 pub turn : (read : List ℕ → ℕ → ℤ) (file : List ℕ) (line n left k part : ℕ) → line ≤ k → left ≤ n → part ≤ left → part ≤ 7 → n - left ≡ 7 * (k - line)
-    → {w w′ : Walk} {s : List ℕ} → w ≡ along begin (pointBy read file line) (n - left) → s ≡ recordOf file (k + 1) → w′ ≡ along w (pairBy read s) part
-    → w′ ≡ along begin (pointBy read file line) (n - (left - part))
+    → {w w′ : Walk} {s : List ℕ} → w ≡ walkAlong begin (pointBy read file line) (n - left) → s ≡ recordOf file (k + 1) → w′ ≡ walkAlong w (pairBy read s) part
+    → w′ ≡ walkAlong begin (pointBy read file line) (n - (left - part))
 turn read file line n left k part a b c d e p q r =
     let i : k + 1 ≡ line + 1 + (k - line) = omega arith in
     let j : n - (left - part) ≡ 7 * (k - line) + part = omega arith in
     r ∙ rw (p, q, i, e, j) (line-next read file line (k - line) part d)
 
 -- the sum, as the machine gives it back
-pub sum-back : (file : List ℕ) (r n : ℕ) → n ≤ 999999 → {w : Walk} → w ≡ along begin (pointBy addedUp file r) n
-    → toZ w64 (ofZ w64 (w .sum)) ≡ along begin (pointBy addedUp file r) n .sum
+pub sum-back : (file : List ℕ) (r n : ℕ) → n ≤ 999999 → {w : Walk} → w ≡ walkAlong begin (pointBy addedUp file r) n
+    → toZ w64 (ofZ w64 (w .sum)) ≡ walkAlong begin (pointBy addedUp file r) n .sum
 sum-back file r n h e = rw e (read-back w64 (small-le 60000000000000000 (line-near file r n .sum) (omega arith)) tt)
 
 -- ---- how many points a line can count, whatever stands in the file

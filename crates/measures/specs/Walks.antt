@@ -10,17 +10,17 @@ pub record Small (m : ℕ) (z : ℤ) : Type 0 where
   pub small : natAbs z ≤ m
 
 -- where the walk stands
-abbrev pub standing : Walk → Point
-standing w = record { x = w .x; y = w .y }
+abbrev pub whereAt : Walk → Point
+whereAt w = record { x = w .x; y = w .y }
 
 -- the walk, gone on to a point
 abbrev pub stepTo : Walk → Point → Walk
-stepTo w q = record { sum = w .sum +ℤ cross (standing w) q; x = q .x; y = q .y }
+stepTo w q = record { sum = w .sum +ℤ cross (whereAt w) q; x = q .x; y = q .y }
 
 -- the walk along f 0, f 1, .. f (n - 1)
-unfoldable pub along : Walk → (ℕ → Point) → ℕ → Walk
-along w f zero = w
-along w f (suc n) = stepTo (along w f n) (f n)
+unfoldable pub walkAlong : Walk → (ℕ → Point) → ℕ → Walk
+walkAlong w f zero = w
+walkAlong w f (suc n) = stepTo (walkAlong w f n) (f n)
 
 -- nowhere yet: the corner (0,0), from where a first step adds 0
 abbrev pub begin : Walk

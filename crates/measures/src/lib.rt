@@ -6,10 +6,10 @@
 ghost use mathlib.Core.Path.{_≡_};
 ghost use Prim.Native.Nat.{_≤_};
 ghost use Rattle.measures.specs.Points.{pairBy, pointCount, measureBy};
-ghost use Rattle.measures.specs.Walks.{Small, Near, far, Seven, stepTo, along};
+ghost use Rattle.measures.specs.Walks.{Small, Near, far, Seven, stepTo, walkAlong};
 ghost use Rattle.measures.specs.Sound.{addedUp};
 
-// A walk along points: the sum so far, and the point where it stands.
+// A walk walkAlong points: the sum so far, and the point where it stands.
 struct Walk {
     sum: i64,
     x: i64,
@@ -38,10 +38,10 @@ fn step(w: Walk, x: i64, y: i64) -> Walk
     }
 }
 
-// On along the first `count` points of a coordinate record.
+// On walkAlong the first `count` points of a coordinate record.
 fn walk_record(s: &[u8], count: usize, w: Walk) -> Walk
     requires { ⌜ (count ≤ 7) × (Near far 900000000000000000 w) ⌝ }
-    ensures { λ r. ⌜ r ≡ along w (pairBy addedUp (now (s .entry))) count ⌝ }
+    ensures { λ r. ⌜ r ≡ walkAlong w (pairBy addedUp (now (s .entry))) count ⌝ }
 {
     let mut at = w;
     let mut i = 0;

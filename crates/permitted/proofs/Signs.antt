@@ -14,8 +14,8 @@ use borrow.Author.Tests.{le-leb, ltb-true}
 use Rattle.permitted.specs.Permitted.{natural, size}
 
 -- `v as i64`, read back from its bits
-abbrev pub wide : ℤ → ℤ
-wide v = toZ w64 (ofZ w64 (toZ w32 (ofZ w32 v)))
+abbrev pub asWide : ℤ → ℤ
+asWide v = toZ w64 (ofZ w64 (toZ w32 (ofZ w32 v)))
 
 module _ {v : ℤ} (f : SFits w32 v) where
   -- `0 <= v` is the definition's test, by v's sign
@@ -30,11 +30,11 @@ module _ {v : ℤ} (f : SFits w32 v) where
   pub widens : SFits w64 (toZ w32 (ofZ w32 v))
   widens = rw (toZ-ofZ f) (sfits-widen {w = w32} {w′ = w64} tt f)
 
-  pub widened : wide v ≡ v
+  pub widened : asWide v ≡ v
   widened = toZ-ofZ widens ∙ toZ-ofZ f
 
   -- below 0 the difference `0 - v` is v's size, by v's sign
-  turned : ltZ (wide v) (pos 0) ≡ true → pos 0 -ℤ wide v ≡ pos (size v)
+  turned : ltZ (asWide v) (pos 0) ≡ true → pos 0 -ℤ asWide v ≡ pos (size v)
   turned t = rw widened (by v (rw widened at t))
     where
       by : (v : ℤ) → ltZ v (pos 0) ≡ true → pos 0 -ℤ v ≡ pos (size v)
@@ -42,10 +42,10 @@ module _ {v : ℤ} (f : SFits w32 v) where
       by (negsuc n) t = +ℤ-idl (pos (natAbs (negsuc n)))
 
   -- it fits 64 bits, since a size of 32 bits does, and is read back as it was
-  pub turned-fits : ltZ (wide v) (pos 0) ≡ true → SFits w64 (pos 0 -ℤ wide v)
+  pub turned-fits : ltZ (asWide v) (pos 0) ≡ true → SFits w64 (pos 0 -ℤ asWide v)
   turned-fits t = rw (turned t) (record { sfits = omega (arith, fits-natAbs {w = w32} {w′ = w32} tt f .fits) })
 
-  pub turned-is : ltZ (wide v) (pos 0) ≡ true → toZ w64 (ofZ w64 (pos 0 -ℤ wide v)) ≡ pos (size v)
+  pub turned-is : ltZ (asWide v) (pos 0) ≡ true → toZ w64 (ofZ w64 (pos 0 -ℤ asWide v)) ≡ pos (size v)
   turned-is t = toZ-ofZ (turned-fits t) ∙ turned t
 
   -- the size fits a usize
@@ -53,7 +53,7 @@ module _ {v : ℤ} (f : SFits w32 v) where
   size-fits = fits-natAbs {w = w32} {w′ = w64} tt f
 
   -- what is not below 0 is 0 or more, by v's sign
-  pub not-below : ltZ (wide v) (pos 0) ≡ false → T (nonNeg (wide v))
+  pub not-below : ltZ (asWide v) (pos 0) ≡ false → T (nonNeg (asWide v))
   not-below t = rw widened (by v (rw widened at t))
     where
       by : (v : ℤ) → ltZ v (pos 0) ≡ false → T (nonNeg v)

@@ -1,5 +1,6 @@
 -- Permitted values (RULES 5, and the tables of RULES 4), of a number v. Assumes nothing.
 --   natural v, size v     v is 0 or more; v without its sign
+--   isZero v              v is 0
 --   within low high v     v is one of low to high
 --   the others            one rule each, with its section
 use mathlib.Core.Bool.{Bool, true, false, cond, _&&_, _||_, not}
@@ -13,6 +14,9 @@ natural (negsuc n) = false
 
 abbrev pub size : ℤ → ℕ
 size v = natAbs v
+
+abbrev pub isZero : ℤ → Bool
+isZero v = eqb (size v) 0
 
 unfoldable pub within : ℕ → ℕ → ℤ → Bool
 within low high v = natural v && (leb low (size v) && leb (size v) high)

@@ -6,7 +6,7 @@
 ghost use mathlib.Core.Path.{_≡_};
 ghost use mathlib.Core.Bool.{_&&_};
 ghost use lib.Dec.{leb};
-ghost use Rattle.permitted.specs.Permitted.{natural, size, within, is, atLeast, isMeshCode, followsMesh, oneOrFive, isLayerCode, followsLayer};
+ghost use Rattle.permitted.specs.Permitted.{natural, size, isZero, within, is, atLeast, isMeshCode, followsMesh, oneOrFive, isLayerCode, followsLayer};
 ghost use Rattle.permitted.specs.Permitted.{isDate, nodeItemOne, nodeItemFive, isNodeItem, onFrame, layered, isFrame, lineItemOne};
 ghost use Rattle.permitted.specs.Permitted.{lineItemFive, isLineItem, lineKindOne, lineKindFive, same, isLineKind, linkSize, isLink, isCode};
 ghost use Rattle.permitted.specs.Permitted.{isSide, isAreaCode, isSlot, isPoint, isNext, isLoopSerial};
@@ -27,6 +27,13 @@ pub fn size(v: i32) -> usize
         return (0 - w) as usize;
     }
     w as usize
+}
+
+// Just 0.
+pub fn is_zero(v: i32) -> bool
+    ensures { λ r. ⌜ r ≡ isZero v ⌝ }
+{
+    size(v) == 0
 }
 
 // One of `low` to `high`.

@@ -15,7 +15,7 @@ use Rattle.fields.specs.Spelling.{spell}
 use Rattle.fields.specs.declared.Writing as writings
 use Rattle.fields.specs.declared.Writing.the-variants as writing
 use Rattle.records.specs.Layout.{layoutOf, startOf, widthOf, numbersOf, bytesOf}
-use Rattle.records.specs.Writing.{fieldText, fieldFits, textOf, noNumbers, noBytes, fits, fitsAll, lineOf, SpelledAs, Written}
+use Rattle.records.specs.Writing.{fieldText, fieldFits, textOf, noNumbers, noBytes, fits, fitsAll, recordBytes, SpelledAs, Written}
 use Rattle.records.specs.declared.Field.the-variants.{End, Letters, Number, Name, Blank}
 use Rattle.records.specs.declared.Field.{Field}
 use Rattle.records.specs.declared.Kind.{Kind}
@@ -202,5 +202,5 @@ module _ (before : List ℕ) (r : Record) where
     pub written-unfit : fitsAll r ≡ false → Written before r 20 before
     written-unfit n = record { answer = rw (le-leb _ _ h, n); buffer = rw (le-leb _ _ h, n) }
 
-    pub written-all : fitsAll r ≡ true → (after : List ℕ) → after ≡ lineOf r ++ drop 74 before → Written before r 0 after
+    pub written-all : fitsAll r ≡ true → (after : List ℕ) → after ≡ recordBytes r ++ drop 74 before → Written before r 0 after
     written-all y after e = record { answer = rw (le-leb _ _ h, y); buffer = rw (le-leb _ _ h, y) e }

@@ -11,7 +11,8 @@ use lib.Seq.{length-sets, getD-at, getD-append-add, drop-cons}
 use borrow.Author.Tests.{eq-eqb, eqb-true}
 use Rattle.records.specs.Layout.{layoutOf, numbersOf, bytesOf, total}
 use Rattle.records.specs.Reading.{numbersIn, nameIn, over, firstFault, zeros, noName, accepted, refusedAt, valueIn, fieldsBy, fieldsOf, readingOf}
-use Rattle.records.specs.Writing.{isZero, textOf, fits, lineOf, fitsAll}
+use Rattle.records.specs.Writing.{textOf, fits, recordBytes, fitsAll}
+use Rattle.permitted.specs.Permitted.{isZero}
 use Rattle.records.specs.declared.Kind.{Kind}
 use Rattle.records.specs.declared.Reading.{Reading}
 use Rattle.records.specs.declared.Record.{Record}
@@ -61,8 +62,8 @@ read-back k ns nm i j h =
     rw (eq-eqb _ 74 n, eq-eqb _ 13 r, eq-eqb _ 10 f, b .sound, b .numbers, b .name, u, v)
 
 -- WRITTEN THEN READ: a value that fits is read back from its bytes
-pub written-then-read : (r : Record) → Sized r → fitsAll r ≡ true → readingOf (r .kind) (lineOf r) ≡ accepted r
-unfolding fitsAll lineOf
+pub written-then-read : (r : Record) → Sized r → fitsAll r ≡ true → readingOf (r .kind) (recordBytes r) ≡ accepted r
+unfolding fitsAll recordBytes
 written-then-read r z h = read-back (r .kind) (r .numbers) (r .name) (z .numbers) (z .name) h
 
 -- what acceptance says of the bytes
@@ -97,8 +98,8 @@ line-is s l p q =
     rw (← d) (take-append-drop 72 s)
 
 -- and that fits and is written as it stood
-kept-value : (k : Kind) (s : List ℕ) → Accepted k s → (fitsAll (valueIn k s) ≡ true) × (lineOf (valueIn k s) ≡ s)
-unfolding fitsAll lineOf
+kept-value : (k : Kind) (s : List ℕ) → Accepted k s → (fitsAll (valueIn k s) ≡ true) × (recordBytes (valueIn k s) ≡ s)
+unfolding fitsAll recordBytes
 kept-value k s a =
     let ns = over numbersIn (layoutOf k) s in
     let nm = over nameIn (layoutOf k) s in
@@ -112,16 +113,16 @@ kept-value k s a =
 
 -- READ THEN WRITTEN: the value that was read fits, is of the kind that was asked for, and is written as the bytes that were read
 pub read-then-written : (k : Kind) (s : List ℕ) → readingOf k s .number ≡ 0
-    → (fitsAll (readingOf k s .value) ≡ true) × (lineOf (readingOf k s .value) ≡ s) × (readingOf k s .value .kind ≡ k)
+    → (fitsAll (readingOf k s .value) ≡ true) × (recordBytes (readingOf k s .value) ≡ s) × (readingOf k s .value .kind ≡ k)
 read-then-written k s e =
     let a = accepts k s e in
     let v = kept-value k s a in
     rw (accepted-value k s a) (v .0, v .1, refl)
 
 -- THE ONLY ANSWER: a value of the kind that fits and has these bytes is what is read ..
-pub reading-only : (k : Kind) (s : List ℕ) (r : Record) → Sized r → r .kind ≡ k → fitsAll r ≡ true → lineOf r ≡ s → readingOf k s ≡ accepted r
+pub reading-only : (k : Kind) (s : List ℕ) (r : Record) → Sized r → r .kind ≡ k → fitsAll r ≡ true → recordBytes r ≡ s → readingOf k s ≡ accepted r
 reading-only k s r z q h e = rw (← q, ← e) (written-then-read r z h)
 
 -- .. so bytes that are refused are no value's
-pub reading-refused : (k : Kind) (s : List ℕ) (r : Record) → Sized r → r .kind ≡ k → fitsAll r ≡ true → lineOf r ≡ s → (readingOf k s .number ≡ 0 → ⊥) → ⊥
+pub reading-refused : (k : Kind) (s : List ℕ) (r : Record) → Sized r → r .kind ≡ k → fitsAll r ≡ true → recordBytes r ≡ s → (readingOf k s .number ≡ 0 → ⊥) → ⊥
 reading-refused k s r z q h e n = n (rw (reading-only k s r z q h e))

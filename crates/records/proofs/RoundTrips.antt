@@ -23,7 +23,8 @@ use Rattle.fields.specs.declared.Text as fields-text
 use Rattle.fields.specs.declared.Text.the-variants as text
 use Rattle.records.specs.Layout.{startOf, widthOf, numbersOf, bytesOf, total}
 use Rattle.records.specs.Reading.{lettersFault, faultOf, numbersIn, nameIn, over, Fault, noFault, faultAt, firstFault}
-use Rattle.records.specs.Writing.{every, fieldText, fieldFits, textOf, isZero, noNumbers, noBytes, fits}
+use Rattle.records.specs.Writing.{every, fieldText, fieldFits, textOf, noNumbers, noBytes, fits}
+use Rattle.permitted.specs.Permitted.{isZero}
 use Rattle.records.specs.declared.Field.the-variants.{End, Letters, Number, Name, Blank}
 use Rattle.records.specs.declared.Field.{Field}
 use Rattle.fields.proofs.Columns.{spell-length}
@@ -216,7 +217,7 @@ fits-rest (f ∷ fs) ns nm h =
 pub zero-number : (z : ℤ) → isZero z ≡ true → z ≡ pos 0
 zero-number (pos n) h = ap pos (eqb-true n 0 h)
 zero-number (negsuc n) h =
-    let z : _≡_ {A = ℕ} 0 1 = cc in
+    let z = eqb-true (suc n) 0 h in
     absurd (omega arith)
 
 -- where p holds of a alone, a list of which it holds throughout is a row of a ..

@@ -2,7 +2,7 @@
 use mathlib.Core.Bool.{Bool, true, false}
 use mathlib.Core.List.{List}
 use mathlib.Core.Path.{_≡_, refl}
-use Prim.Native.Nat.{ℕ, _+_, _≤_, _<_, _-_}
+use Prim.Native.Nat.{ℕ, suc, _+_, _≤_, _<_, _-_}
 use native.Mathlib.Numerals.{add-one}
 use native.Mathlib.Omega.{arith}
 use lib.IntN.{ℤ, pos, negsuc}
@@ -11,7 +11,8 @@ use lib.Seq.{drop-cons}
 use mir.Syntax.{w32}
 use mir.Val.{SFits, ofZ}
 use borrow.Author.Tests.{eq-eqb, ne-eqb}
-use Rattle.records.specs.Writing.{every, isZero}
+use Rattle.records.specs.Writing.{every}
+use Rattle.permitted.specs.Permitted.{isZero}
 
 module _ {A : Type 0} (p : A → Bool) (l : List A) (i : ℕ) (d : A) where
   pub every-end : length l ≤ i → every p (drop i l) ≡ true
@@ -33,4 +34,4 @@ zero-bits (negsuc n) f e = absurd (omega (arith, f .sfits, e))
 
 pub some-bits : (z : ℤ) → (ofZ w32 z ≡ 0 → ⊥) → isZero z ≡ false
 some-bits (pos n) e = ne-eqb n 0 e
-some-bits (negsuc n) e = refl
+some-bits (negsuc n) e = ne-eqb (suc n) 0 (λ p. omega arith)

@@ -1,7 +1,7 @@
 -- How a record's value is written (RULES 9.5, the writer), over any layout. Assumes nothing.
 --   textOf L ns nm   the columns of the layout L for the numbers ns and the name bytes nm
 --   fits L ns nm     whether each field holds its own and the unused entries are 0
---   lineOf r         the record's 74 bytes
+--   recordBytes r    the record's 74 bytes
 --   Written          the writer's answer and its buffer afterwards
 use mathlib.Core.Path.{_≡_}
 use mathlib.Core.Bool.{Bool, true, false, cond, _&&_}
@@ -10,6 +10,7 @@ use Prim.Native.Nat.{ℕ}
 use lib.Dec.{leb, eqb}
 use lib.IntN.{ℤ, pos, negsuc}
 use lib.ListN.{length, getD, take, drop, replicate}
+use Rattle.permitted.specs.Permitted.{isZero}
 use Rattle.fields.specs.Number.{holds}
 use Rattle.fields.specs.Spelling.{spell}
 use Rattle.fields.specs.Text.{isName}
@@ -46,10 +47,6 @@ unfoldable pub every : {A : Type 0} → (A → Bool) → List A → Bool
 every p [] = true
 every p (x ∷ xs) = p x && every p xs
 
-abbrev pub isZero : ℤ → Bool
-isZero (pos n) = eqb n 0
-isZero (negsuc n) = false
-
 abbrev pub noNumbers : List ℤ → Bool
 noNumbers ns = every isZero ns
 
@@ -63,8 +60,8 @@ fits (f ∷ fs) ns nm = fieldFits f ns nm && fits fs (drop (numbersOf f) ns) (dr
 -- ---- a record's 74 bytes
 
 -- RULES 2.1: 72 columns, then CR and LF
-unfoldable pub lineOf : Record → List ℕ
-lineOf r = textOf (layoutOf (r .kind)) (r .numbers) (r .name) ++ (13 ∷ 10 ∷ [])
+unfoldable pub recordBytes : Record → List ℕ
+recordBytes r = textOf (layoutOf (r .kind)) (r .numbers) (r .name) ++ (13 ∷ 10 ∷ [])
 
 unfoldable pub fitsAll : Record → Bool
 fitsAll r = fits (layoutOf (r .kind)) (r .numbers) (r .name)
@@ -72,10 +69,10 @@ fitsAll r = fits (layoutOf (r .kind)) (r .numbers) (r .name)
 -- whether its values fit, and then its bytes
 pub record SpelledAs (r : Record) (ok : Bool) (bytes : List ℕ) : Type 0 where
   pub answer : ok ≡ fitsAll r
-  pub text : ok ≡ true → bytes ≡ lineOf r
+  pub text : ok ≡ true → bytes ≡ recordBytes r
 
 -- RULES 9.5: 21 for a buffer under 74 bytes, judged first; 20 for what does not fit; on success the record stands in the first 74
 -- bytes and nothing else changes; on a refusal nothing does
 pub record Written (before : List ℕ) (r : Record) (number : ℕ) (after : List ℕ) : Type 0 where
   pub answer : number ≡ cond (leb 74 (length before)) (cond (fitsAll r) 0 20) 21
-  pub buffer : after ≡ cond (leb 74 (length before) && fitsAll r) (lineOf r ++ drop 74 before) before
+  pub buffer : after ≡ cond (leb 74 (length before) && fitsAll r) (recordBytes r ++ drop 74 before) before

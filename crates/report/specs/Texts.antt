@@ -1,7 +1,7 @@
 -- What the programs `check` and `measure` print (RULES 12). Assumes nothing.
 --   decimal n          a number below 10^20: digits, no leading zeros
 --   signed z           a signed one: "-" before the digits where it is below 0
---   lineOf name n      a line: the name, the number, a line feed
+--   textLine name n   a line: the name, the number, a line feed
 --   refusedText, okText, outcomeText   what `check` prints of an outcome
 --   areasText file ms k   what `measure` prints of the areas of the first k records
 --   checkText, measureText   what the programs print of an input
@@ -38,8 +38,8 @@ signed (negsuc n) = 45 ∷ decimal (suc n)
 abbrev pub lineFeed : List ℕ
 lineFeed = 10 ∷ []
 
-abbrev pub lineOf : List ℕ → ℕ → List ℕ
-lineOf name n = (name ++ decimal n) ++ lineFeed
+abbrev pub textLine : List ℕ → ℕ → List ℕ
+textLine name n = (name ++ decimal n) ++ lineFeed
 
 -- RULES 12.1: "status=ok\n"
 abbrev pub statusOk : List ℕ
@@ -113,20 +113,20 @@ measureName = 32 ∷ 109 ∷ 101 ∷ 97 ∷ 115 ∷ 117 ∷ 114 ∷ 101 ∷ 61 �
 unfoldable pub refusedText : Outcome → List ℕ
 refusedText o =
     statusRefused
-    ++ (lineOf numberName (o .number)
-    ++ (lineOf recordName (o .place)
-    ++ lineOf columnName (o .column)))
+    ++ (textLine numberName (o .number)
+    ++ (textLine recordName (o .place)
+    ++ textLine columnName (o .column)))
 
 -- RULES 12.1: of an accepted file seven lines, with the counts over the whole file
 unfoldable pub okText : Outcome → List ℕ
 okText o =
     statusOk
-    ++ (lineOf meshesName (o .meshes)
-    ++ (lineOf layersName (o .layers)
-    ++ (lineOf nodesName (o .nodes)
-    ++ (lineOf linesName (o .lines)
-    ++ (lineOf areasName (o .areas)
-    ++ lineOf recordsName (o .records))))))
+    ++ (textLine meshesName (o .meshes)
+    ++ (textLine layersName (o .layers)
+    ++ (textLine nodesName (o .nodes)
+    ++ (textLine linesName (o .lines)
+    ++ (textLine areasName (o .areas)
+    ++ textLine recordsName (o .records))))))
 
 -- RULES 12.1: number 0 is acceptance
 unfoldable pub outcomeText : Outcome → List ℕ
@@ -182,8 +182,8 @@ areasText file ms (suc k) =
 abbrev pub mostBytes : ℕ
 mostBytes = 65490
 
-abbrev pub bounded : List ℕ → List ℕ → List ℕ
-bounded input text = cond (ltb mostBytes (length input)) statusTooLong text
+abbrev pub orTooLong : List ℕ → List ℕ → List ℕ
+orTooLong input text = cond (ltb mostBytes (length input)) statusTooLong text
 
 -- RULES 12.3: the judge's answer, with as much room as the file needs
 abbrev pub answerTo : List ℕ → Outcome
@@ -191,9 +191,9 @@ answerTo file = outcomeOf file (needOf file) (needOf file)
 
 -- RULES 12.1: the program `check`
 unfoldable pub checkText : List ℕ → List ℕ
-checkText input = bounded input (outcomeText (answerTo input))
+checkText input = orTooLong input (outcomeText (answerTo input))
 
 -- RULES 12.2: the program `measure`: of an accepted file one line an area, in file order; otherwise what `check` prints
 unfoldable pub measureText : List ℕ → List ℕ
 measureText input =
-    bounded input (cond (eqb (answerTo input .number) 0) (areasText input (measuresOf input) (recordsOf input)) (refusedText (answerTo input)))
+    orTooLong input (cond (eqb (answerTo input .number) 0) (areasText input (measuresOf input) (recordsOf input)) (refusedText (answerTo input)))

@@ -13,7 +13,7 @@ ghost use Prim.Native.Nat.{_+_, _*_, _≤_};
 ghost use lib.IntN.{pos};
 ghost use lib.ListN.{length, getD};
 ghost use Rattle.walk.specs.Stages.{recordsOf};
-ghost use Rattle.report.specs.Texts.{decimal, signed, lineOf, refusedText, okText, shownIn, areaText, recordText, areaCount, areasText, checkText, measureText};
+ghost use Rattle.report.specs.Texts.{decimal, signed, textLine, refusedText, okText, shownIn, areaText, recordText, areaCount, areasText, checkText, measureText};
 ghost use Rattle.report.specs.Putting.{Put};
 
 // What is printed of an area, beside its measure.
@@ -74,7 +74,7 @@ fn put_named(out: &mut [u8; 120000], n: usize, name: &[u8], v: usize) -> usize
 // A line: a name and a number.
 fn put_line(out: &mut [u8; 120000], n: usize, name: &[u8], v: u32) -> usize
     requires { ⌜ n + (length (now name) + 21) ≤ 120000 ⌝ }
-    ensures { λ r. ⌜ Put (now (out .entry)) n (now (out .exit)) r (lineOf (now (name .entry)) v) × (r ≤ n + (length (now (name .entry)) + 21)) ⌝ }
+    ensures { λ r. ⌜ Put (now (out .entry)) n (now (out .exit)) r (textLine (now (name .entry)) v) × (r ≤ n + (length (now (name .entry)) + 21)) ⌝ }
 {
     let m = put_named(out, n, name, v as usize);
     put(out, m, b"\n")

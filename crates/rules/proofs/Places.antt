@@ -10,26 +10,26 @@ use Rattle.asks.specs.Asks.{from, meshAsks, layerAsks, nodeAsks, lineAsks, coor
 use Rattle.rules.specs.Checks.{asksOf, askedOf, formChecks, valueChecks, along, checksOf}
 
 -- the refusals ns at column c
-abbrev pub at : ℕ → List ℕ → List (List ℕ)
-at c [] = []
-at c (n ∷ ns) = (c ∷ n ∷ []) ∷ at c ns
+abbrev pub atColumn : ℕ → List ℕ → List (List ℕ)
+atColumn c [] = []
+atColumn c (n ∷ ns) = (c ∷ n ∷ []) ∷ atColumn c ns
 
 -- type letters; a number whose value is not asked; one that has to be permitted; one that has to be in step; one that has to be both;
 -- a name or blanks
 abbrev pub letters : List (List ℕ)
-letters = at 1 (3 ∷ 7 ∷ [])
+letters = atColumn 1 (3 ∷ 7 ∷ [])
 
 abbrev pub formed : ℕ → List (List ℕ)
-formed c = at c (5 ∷ [])
+formed c = atColumn c (5 ∷ [])
 
 abbrev pub permitted : ℕ → List (List ℕ)
-permitted c = at c (5 ∷ 6 ∷ [])
+permitted c = atColumn c (5 ∷ 6 ∷ [])
 
 abbrev pub inStep : ℕ → List (List ℕ)
-inStep c = at c (5 ∷ 8 ∷ [])
+inStep c = atColumn c (5 ∷ 8 ∷ [])
 
-abbrev pub both : ℕ → List (List ℕ)
-both c = at c (5 ∷ 6 ∷ 8 ∷ [])
+abbrev pub fiveSixEight : ℕ → List (List ℕ)
+fiveSixEight c = atColumn c (5 ∷ 6 ∷ 8 ∷ [])
 
 -- all of these
 abbrev pub page : List (List (List ℕ)) → List (List ℕ)
@@ -37,24 +37,24 @@ page [] = []
 page (p ∷ ps) = p ++ page ps
 
 pub mesh-places : (last : ℕ) (t : List ℕ) → map spotOf (checksOf (Mesh last) t) ≡ page (
-    letters ∷ both 3 ∷ formed 9 ∷ permitted 29 ∷ permitted 32 ∷ permitted 37 ∷ permitted 42 ∷ permitted 47 ∷ permitted 52 ∷ formed 57 ∷ [])
+    letters ∷ fiveSixEight 3 ∷ formed 9 ∷ permitted 29 ∷ permitted 32 ∷ permitted 37 ∷ permitted 42 ∷ permitted 47 ∷ permitted 52 ∷ formed 57 ∷ [])
 unfolding layoutOf meshAsks asksOf askedOf formChecks valueChecks along checksOf
 mesh-places last t = refl
 
 pub layer-places : (last : ℕ) (t : List ℕ) → map spotOf (checksOf (Layer last) t) ≡ page (
-    letters ∷ both 3 ∷ permitted 5 ∷ permitted 10 ∷ permitted 15 ∷ permitted 20 ∷ permitted 25 ∷ formed 30 ∷ permitted 31 ∷ formed 35 ∷ permitted 36 ∷ formed 40 ∷ [])
+    letters ∷ fiveSixEight 3 ∷ permitted 5 ∷ permitted 10 ∷ permitted 15 ∷ permitted 20 ∷ permitted 25 ∷ formed 30 ∷ permitted 31 ∷ formed 35 ∷ permitted 36 ∷ formed 40 ∷ [])
 unfolding layoutOf layerAsks asksOf askedOf formChecks valueChecks along checksOf
 layer-places last t = refl
 
 pub node-places : (layer last : ℕ) (t : List ℕ) → map spotOf (checksOf (Node layer last) t) ≡ page (
-    letters ∷ both 3 ∷ permitted 5 ∷ inStep 7 ∷ permitted 12 ∷ permitted 17 ∷ permitted 22 ∷ permitted 24
+    letters ∷ fiveSixEight 3 ∷ permitted 5 ∷ inStep 7 ∷ permitted 12 ∷ permitted 17 ∷ permitted 22 ∷ permitted 24
     ∷ permitted 26 ∷ permitted 31 ∷ permitted 36 ∷ permitted 41 ∷ permitted 46 ∷ permitted 51 ∷ permitted 56 ∷ permitted 61 ∷ permitted 66
     ∷ formed 71 ∷ [])
 unfolding layoutOf from nodeAsks asksOf askedOf formChecks valueChecks along checksOf
 node-places layer last t = refl
 
 pub line-places : (layer last : ℕ) (t : List ℕ) → map spotOf (checksOf (Line layer last) t) ≡ page (
-    letters ∷ both 3 ∷ permitted 5 ∷ inStep 7 ∷ permitted 12 ∷ formed 18 ∷ permitted 23 ∷ formed 24 ∷ permitted 29
+    letters ∷ fiveSixEight 3 ∷ permitted 5 ∷ inStep 7 ∷ permitted 12 ∷ formed 18 ∷ permitted 23 ∷ formed 24 ∷ permitted 29
     ∷ permitted 30 ∷ permitted 35 ∷ permitted 40 ∷ permitted 45 ∷ permitted 50 ∷ permitted 56 ∷ permitted 58 ∷ formed 61 ∷ [])
 unfolding layoutOf lineAsks asksOf askedOf formChecks valueChecks along checksOf
 line-places layer last t = refl
@@ -66,12 +66,12 @@ unfolding layoutOf from coordinateAsks asksOf askedOf formChecks valueChecks alo
 coordinates-places left t = refl
 
 pub area-places : (layer last : ℕ) (t : List ℕ) → map spotOf (checksOf (Area layer last) t) ≡ page (
-    letters ∷ both 3 ∷ permitted 5 ∷ inStep 10 ∷ permitted 15 ∷ permitted 20 ∷ permitted 25 ∷ permitted 29 ∷ formed 33 ∷ [])
+    letters ∷ fiveSixEight 3 ∷ permitted 5 ∷ inStep 10 ∷ permitted 15 ∷ permitted 20 ∷ permitted 25 ∷ permitted 29 ∷ formed 33 ∷ [])
 unfolding layoutOf areaAsks asksOf askedOf formChecks valueChecks along checksOf
 area-places layer last t = refl
 
 pub loop-places : (last count left : ℕ) (t : List ℕ) → map spotOf (checksOf (Loop last count left) t) ≡ page (
-    inStep 1 ∷ both 6 ∷ permitted 10 ∷ permitted 15 ∷ permitted 20 ∷ permitted 25 ∷ permitted 30 ∷ permitted 35 ∷ permitted 40 ∷ permitted 45
+    inStep 1 ∷ fiveSixEight 6 ∷ permitted 10 ∷ permitted 15 ∷ permitted 20 ∷ permitted 25 ∷ permitted 30 ∷ permitted 35 ∷ permitted 40 ∷ permitted 45
     ∷ permitted 50 ∷ permitted 55 ∷ permitted 60 ∷ permitted 65 ∷ formed 70 ∷ [])
 unfolding layoutOf from loopAsks asksOf askedOf formChecks valueChecks along checksOf
 loop-places last count left t = refl

@@ -25,10 +25,10 @@ use Rattle.walk.proofs.Passing.{by-quiet}
 use Rattle.layers.specs.declared.Layer.{Layer}
 use Rattle.layers.specs.declared.Standing.{Standing}
 use Rattle.layers.specs.Naming.{areaOf}
-use Rattle.links.specs.Links.{isZero}
+use Rattle.permitted.specs.Permitted.{isZero}
 use Rattle.links.proofs.Numbers.{asked}
 use Rattle.sides.specs.Sides.{lists, sideListed, listChecks, lineListChecks, sidesAt, seventh}
-use Rattle.sides.specs.Marking.{Countable}
+use Rattle.sides.specs.Marking.{LineCountable}
 
 -- ---- a side: z is its area number, and y says whether it is 0
 
@@ -75,14 +75,14 @@ unfolding stateAt nextOf
 lines-small file zero = lit≤ tt
 lines-small file (suc k) = lines-next (dueOf (stateAt file k)) (stateAt file k) (recordOf file (suc k)) (lines-small file k)
 
-state-countable : (s : State) → s .layer .lines ≤ 999999 → Countable (dueOf s)
-state-countable s h = by-due Countable s (λ _. tt) (λ _. tt) (λ _. tt) (λ _. tt) (λ l. omega arith) (λ _ _. tt) (λ _. tt) (λ _. tt)
+state-countable : (s : State) → s .layer .lines ≤ 999999 → LineCountable (dueOf s)
+state-countable s h = by-due LineCountable s (λ _. tt) (λ _. tt) (λ _. tt) (λ _. tt) (λ l. omega arith) (λ _ _. tt) (λ _. tt) (λ _. tt)
 
-pub due-countable : (file : List ℕ) (k : ℕ) {s : State} {d : Due} → s ≡ stateAt file k → d ≡ dueOf s → Countable d
+pub due-countable : (file : List ℕ) (k : ℕ) {s : State} {d : Due} → s ≡ stateAt file k → d ≡ dueOf s → LineCountable d
 due-countable file k e f = rw (f, e) (state-countable (stateAt file k) (lines-small file k))
 
 -- the line behind line `last`
-pub line-countable : {d : Due} {layer last : ℕ} → d ≡ due.Line layer last → Countable d → last ≤ 999999
+pub line-countable : {d : Due} {layer last : ℕ} → d ≡ due.Line layer last → LineCountable d → last ≤ 999999
 line-countable e h = rw e at h
 
 -- ---- a quiet record is no line

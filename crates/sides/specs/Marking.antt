@@ -27,11 +27,11 @@ unfoldable pub bears : List ℕ → Bool → ℕ → ℕ → Bool
 bears marks back n a = leb n 999999 && (ltb (markAt back n) (length marks) && (ltb 0 a && eqb (getD marks (markAt back n) 0) a))
 
 -- the line that is due can be counted
-abbrev pub Countable : Due → Type 0
-Countable (Mesh last) = Unit {0}
-Countable (Layer last) = Unit {0}
-Countable (Node layer last) = Unit {0}
-Countable (Line layer last) = last ≤ 999999
-Countable (Coordinates left) = Unit {0}
-Countable (Area layer last) = Unit {0}
-Countable (Loop last count left) = Unit {0}
+abbrev pub LineCountable : Due → Type 0
+LineCountable (Mesh last) = Unit {0}
+LineCountable (Layer last) = Unit {0}
+LineCountable (Node layer last) = Unit {0}
+LineCountable (Line layer last) = last ≤ 999999
+LineCountable (Coordinates left) = Unit {0}
+LineCountable (Area layer last) = Unit {0}
+LineCountable (Loop last count left) = Unit {0}

@@ -17,7 +17,8 @@ use Rattle.layers.specs.declared.Layer as layers
 use Rattle.layers.specs.declared.Standing.{Standing}
 use Rattle.layers.specs.Naming.{areaOf}
 use Rattle.layers.specs.Standing.{stageOf}
-use Rattle.links.specs.Links.{isZero, entryIs, some}
+use Rattle.links.specs.Links.{entryIs, some}
+use Rattle.permitted.specs.Permitted.{isZero}
 use Rattle.entries.specs.Entries.{slotOf, slotsOf}
 
 -- RULES 6.9, 18: some entry of the area, in whichever loop, is +n or, backwards, -n

@@ -10,7 +10,7 @@ ghost use mathlib.Core.Path.{_≡_};
 ghost use Prim.Native.Nat.{_≤_};
 ghost use Rattle.verdict.specs.Rules.{firstBroken, block};
 ghost use Rattle.sides.specs.Sides.{lists, sideListed, listChecks, lineListChecks, seventh, stageSix};
-ghost use Rattle.sides.specs.Marking.{markAt, Marks, putMark, bears, Countable};
+ghost use Rattle.sides.specs.Marking.{markAt, Marks, putMark, bears, LineCountable};
 
 // ---- marks
 
@@ -123,7 +123,7 @@ fn side_listed(
     ensures { λ x. ⌜ x ≡ sideListed (now (file .entry)) (now (table .entry)) l r c back n ⌝ }
 {
     let v = records::number_at(file, r, c, 5);
-    if links::is_zero(v) {
+    if permitted::is_zero(v) {
         return true;
     }
     has_entry(file, layers::area_of(table, l, v), back, n, marks)
@@ -155,7 +155,7 @@ fn judge_line(file: &[u8], table: &[u32], l: Layer, r: usize, n: usize, marks: &
 
 // Record `r`, due as `d`, in the layer `l`.
 fn judge_record(d: Due, file: &[u8], table: &[u32], l: Layer, r: usize, marks: &[usize]) -> Verdict
-    requires { ⌜ (r ≤ 6399936) × Countable d × Marks (now file) (now marks) ⌝ }
+    requires { ⌜ (r ≤ 6399936) × LineCountable d × Marks (now file) (now marks) ⌝ }
     ensures { λ x. ⌜ x ≡ firstBroken (block seventh r (lineListChecks d (now (file .entry)) (now (table .entry)) l r)) ⌝ }
 {
     match d {

@@ -168,12 +168,12 @@ room-one (Loop last count left) t c b p q n fx fy fz bl ba = omega arith
 -- ---- the loop that fills
 
 -- the sections behind k records, in a buffer o that has room for the words of n
-abbrev pub filledTo : List ℕ → ℕ → ℕ → List ℕ → List ℕ
-filledTo file n k o = Sections file (rowLength * countsAt file n .layers) (countsAt file n .lines) k o
+abbrev pub storedTo : List ℕ → ℕ → ℕ → List ℕ → List ℕ
+storedTo file n k o = Sections file (rowLength * countsAt file n .layers) (countsAt file n .lines) k o
 
 -- where the sections begin
-abbrev pub basesOf : Counts → Bases
-basesOf c = record { lines = rowLength * c .layers; areas = rowLength * c .layers + c .lines }
+abbrev pub storeBases : Counts → Bases
+storeBases c = record { lines = rowLength * c .layers; areas = rowLength * c .layers + c .lines }
 
 -- a file of n records, which count up to total, and a buffer o that has room for their words
 module _ (file o : List ℕ) {n : ℕ} {total : Counts} (en : n ≡ recordsOf file) (et : total ≡ countsAt file (recordsOf file))
@@ -192,12 +192,12 @@ module _ (file o : List ℕ) {n : ℕ} {total : Counts} (en : n ≡ recordsOf fi
   fits = subst (λ (c : Counts). rowLength * c .layers + (c .lines + c .areas) ≤ length o) all room
 
   -- behind no record the buffer is as it was
-  pub none-filled : o ≡ filledTo file n 0 o
+  pub none-filled : o ≡ storedTo file n 0 o
   unfolding Sections gather
   none-filled = sym (ap (λ (l : List ℕ). take p o ++ l) (take-append-drop q (drop p o)) ∙ take-append-drop p o)
 
   -- behind k records it is v, as long as it was
-  pub filled-many : (k : ℕ) {v : List ℕ} → k ≤ n → v ≡ filledTo file n k o → length v ≡ length o
+  pub filled-many : (k : ℕ) {v : List ℕ} → k ≤ n → v ≡ storedTo file n k o → length v ≡ length o
   unfolding Sections
   filled-many k l m =
       let g = grown file n k l in
@@ -212,38 +212,38 @@ module _ (file o : List ℕ) {n : ℕ} {total : Counts} (en : n ≡ recordsOf fi
       rw m (f ∙ omega (arith, a, b, e, h))
 
   -- record k + 1 is due as d, behind the counts c, and the buffer is v
-  module _ (k : ℕ) {d : Due} {c : Counts} {v : List ℕ} (l : k < n) (ed : d ≡ dueOf (stateAt file k)) (ec : c ≡ countsAt file k) (ev : v ≡ filledTo file n k o) where
+  module _ (k : ℕ) {d : Due} {c : Counts} {v : List ℕ} (l : k < n) (ed : d ≡ dueOf (stateAt file k)) (ec : c ≡ countsAt file k) (ev : v ≡ storedTo file n k o) where
     within : Grown (countsAt file (suc k)) (countsAt file n)
     within = grown file n (suc k) (omega arith)
 
     -- there is room for its words
-    pub room-left : Roomy d c (basesOf total) (length v)
+    pub room-left : Roomy d c (storeBases total) (length v)
     unfolding countsAt
     room-left =
         let g = within in
         let u = fits in
         let m : length v ≡ length o = filled-many k (omega arith) ev in
-        record { room = rw (ed, ec, all, m) (room-one (dueOf (stateAt file k)) (recordOf file (suc k)) (countsAt file k) (basesOf (countsAt file n)) p q (length o) (omega (arith, g .layers)) (omega (arith, g .lines)) (omega (arith, g .areas)) refl refl) }
+        record { room = rw (ed, ec, all, m) (room-one (dueOf (stateAt file k)) (recordOf file (suc k)) (countsAt file k) (storeBases (countsAt file n)) p q (length o) (omega (arith, g .layers)) (omega (arith, g .lines)) (omega (arith, g .areas)) refl refl) }
 
     -- and with them the buffer is w
-    pub one-filled : {t w : List ℕ} → t ≡ recordOf file (k + 1) → w ≡ sets v (storedAt d c (basesOf total)) (recordWords d t (k + 1)) → w ≡ filledTo file n (k + 1) o
+    pub one-filled : {t w : List ℕ} → t ≡ recordOf file (k + 1) → w ≡ sets v (storedAt d c (storeBases total)) (recordWords d t (k + 1)) → w ≡ storedTo file n (k + 1) o
     unfolding Sections gather countsAt
     one-filled e h =
         let g = within in
         let s = counted file k in
         let u = fits in
         h ∙ rw (e, ev, ed, ec, all, add-one)
-        (turn (dueOf (stateAt file k)) (recordOf file (suc k)) (suc k) (countsAt file k) (basesOf (countsAt file n)) (gather rowWords file k) (gather lineWords file k) (gather areaWords file k) o p q
+        (turn (dueOf (stateAt file k)) (recordOf file (suc k)) (suc k) (countsAt file k) (storeBases (countsAt file n)) (gather rowWords file k) (gather lineWords file k) (gather areaWords file k) o p q
         (s .rows) (s .lines) (s .areas) (omega (arith, g .layers)) (omega (arith, g .lines)) (omega (arith, g .areas)) refl refl)
 
   -- quiet records have no words
-  pub quiet-filled : (k : ℕ) {h : ℕ} {s : State} {v : List ℕ} → s ≡ stateAt file k → Quiet s h → v ≡ filledTo file n k o → v ≡ filledTo file n (k + h) o
+  pub quiet-filled : (k : ℕ) {h : ℕ} {s : State} {v : List ℕ} → s ≡ stateAt file k → Quiet s h → v ≡ storedTo file n k o → v ≡ storedTo file n (k + h) o
   unfolding Sections
   quiet-filled k {h} e f ev =
       ev ∙ sym (rw (passed-words file k e f rowWords row-quiet h (le-refl h), passed-words file k e f lineWords line-quiet h (le-refl h), passed-words file k e f areaWords area-quiet h (le-refl h)))
 
   -- all records: the table stands in front, and the rest is as it was
-  pub all-filled : (k : ℕ) {v : List ℕ} → k ≤ n → n ≤ k → v ≡ filledTo file n k o → v ≡ filled (tableOf file) o
+  pub all-filled : (k : ℕ) {v : List ℕ} → k ≤ n → n ≤ k → v ≡ storedTo file n k o → v ≡ filled (tableOf file) o
   unfolding Sections tableOf
   all-filled k l m ev =
       let s = counted file n in

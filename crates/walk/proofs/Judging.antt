@@ -81,27 +81,27 @@ length-broken n r t = sym (check-broken 1 r 1 1 _ [] t)
 -- ---- stage 2
 
 -- the rules of record k + 1, as it is due
-abbrev pub rulesOf : List ℕ → ℕ → List Rule
-rulesOf file k = block 2 (k + 1) (checksOf (dueOf (stateAt file k)) (recordOf file (k + 1)))
+abbrev pub stageTwoRules : List ℕ → ℕ → List Rule
+stageTwoRules file k = block 2 (k + 1) (checksOf (dueOf (stateAt file k)) (recordOf file (k + 1)))
 
 -- the answer v to t, which is record k + 1, due as d
-pub rule-is : (file : List ℕ) (k : ℕ) {s : State} {d : Due} {t : List ℕ} {v : Verdict} → s ≡ stateAt file k → d ≡ dueOf s → t ≡ recordOf file (k + 1) → v ≡ firstBroken (block 2 (k + 1) (checksOf d t)) → v ≡ firstBroken (rulesOf file k)
+pub rule-is : (file : List ℕ) (k : ℕ) {s : State} {d : Due} {t : List ℕ} {v : Verdict} → s ≡ stateAt file k → d ≡ dueOf s → t ≡ recordOf file (k + 1) → v ≡ firstBroken (block 2 (k + 1) (checksOf d t)) → v ≡ firstBroken (stageTwoRules file k)
 rule-is file k p q e h = rw (← p, ← q, ← e) h
 
 module _ (file : List ℕ) {n : ℕ} (m : n ≡ recordsOf file) where
   -- it is broken and is returned
-  pub two-stops : (k : ℕ) {v : Verdict} {a b c : ℕ} → v ≡ Broken a b c → v ≡ firstBroken (rulesOf file k) → firstBroken (rows k (rulesOf file)) ≡ Fine → k < n → v ≡ firstBroken (stageTwo file)
+  pub two-stops : (k : ℕ) {v : Verdict} {a b c : ℕ} → v ≡ Broken a b c → v ≡ firstBroken (stageTwoRules file k) → firstBroken (rows k (stageTwoRules file)) ≡ Fine → k < n → v ≡ firstBroken (stageTwo file)
   unfolding stageTwo
-  two-stops k q e h l = stands (rows (recordsOf file) (rulesOf file)) _ q (rows-stop (rulesOf file) (recordsOf file) k (rw (← m) l) h e q)
+  two-stops k q e h l = stands (rows (recordsOf file) (stageTwoRules file)) _ q (rows-stop (stageTwoRules file) (recordsOf file) k (rw (← m) l) h e q)
 
   -- all records are fine; v is the answer to the end, where d is due
-  pub two-done : (k : ℕ) {s : State} {d : Due} {v : Verdict} → s ≡ stateAt file k → d ≡ dueOf s → v ≡ firstBroken (block 2 (n + 1) (lastChecks d)) → firstBroken (rows k (rulesOf file)) ≡ Fine → k ≤ n → n ≤ k → v ≡ firstBroken (stageTwo file)
+  pub two-done : (k : ℕ) {s : State} {d : Due} {v : Verdict} → s ≡ stateAt file k → d ≡ dueOf s → v ≡ firstBroken (block 2 (n + 1) (lastChecks d)) → firstBroken (rows k (stageTwoRules file)) ≡ Fine → k ≤ n → n ≤ k → v ≡ firstBroken (stageTwo file)
   unfolding stageTwo
   two-done k {s} {d} e p q h l g =
       let z : k ≡ recordsOf file = by-bounds l g ∙ m in
-      let f = rows-done (rulesOf file) n k l g h in
+      let f = rows-done (stageTwoRules file) n k l g h in
       let y : d ≡ dueOf (stateAt file (recordsOf file)) = p ∙ ap dueOf (e ∙ ap (stateAt file) z) in
-      goes-on (rows (recordsOf file) (rulesOf file)) _ refl (rw m at f) (rw (← y) (rw m at q))
+      goes-on (rows (recordsOf file) (stageTwoRules file)) _ refl (rw m at f) (rw (← y) (rw m at q))
     where
       by-bounds : {a b : ℕ} → a ≤ b → b ≤ a → a ≡ b
       by-bounds l g = omega arith
@@ -195,9 +195,9 @@ pub ended : (file : List ℕ) → firstBroken (stageTwo file) ≡ Fine → mayEn
 unfolding stageTwo lastChecks
 ended file h =
     let d = dueOf (stateAt file (recordsOf file)) in
-    check-fine 2 (recordsOf file + 1) 1 4 (mayEnd d) (both-fine (rows (recordsOf file) (rulesOf file)) (block 2 (recordsOf file + 1) (lastChecks d)) h .1)
+    check-fine 2 (recordsOf file + 1) 1 4 (mayEnd d) (both-fine (rows (recordsOf file) (stageTwoRules file)) (block 2 (recordsOf file + 1) (lastChecks d)) h .1)
 
 -- of record k + 1, due as d, all checks hold
 pub two-holds : (file : List ℕ) → firstBroken (stageTwo file) ≡ Fine → (k : ℕ) → k < recordsOf file → {d : Due} → dueOf (stateAt file k) ≡ d → Holding (checksOf d (recordOf file (k + 1)))
 unfolding stageTwo
-two-holds file h k l e = rw (← e) (all-hold 2 (k + 1) _ (row-fine (rulesOf file) (recordsOf file) (both-fine _ _ h .0) k l))
+two-holds file h k l e = rw (← e) (all-hold 2 (k + 1) _ (row-fine (stageTwoRules file) (recordsOf file) (both-fine _ _ h .0) k l))

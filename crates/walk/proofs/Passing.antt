@@ -20,7 +20,7 @@ use Rattle.walk.specs.States.{dueOf, nextFor, nextOf, stateAt, countedFo
 use Rattle.walk.specs.Table.{gather}
 use Rattle.walk.specs.Quiet.{isQuiet, passed, quietDue, Quiet, quietAhead, countedPast, isFineAt, fineAhead}
 use Rattle.walk.proofs.Dues.{by-due}
-use Rattle.walk.proofs.Judging.{rulesOf}
+use Rattle.walk.proofs.Judging.{stageTwoRules}
 
 -- ---- one more
 
@@ -328,5 +328,5 @@ module _ (file : List ℕ) (points k n : ℕ) where
 
 -- the rules of stage 2, over records that were found fine
 pub fine-rows : (file : List ℕ) (k : ℕ) {h m : ℕ} {s : State} → s ≡ stateAt file k → Quiet s h → Fit file (s .line .points) k m → h ≤ m
-    → firstBroken (rows k (rulesOf file)) ≡ Fine → firstBroken (rows (k + h) (rulesOf file)) ≡ Fine
-fine-rows file k {h} {m} {s} e q f l r = rows-past (rulesOf file) k h r (λ j i. rw (passed-due file k e q j i, lt-ltb 0 (s .line .points) (f .left (omega arith))) (f .fine j (omega arith)))
+    → firstBroken (rows k (stageTwoRules file)) ≡ Fine → firstBroken (rows (k + h) (stageTwoRules file)) ≡ Fine
+fine-rows file k {h} {m} {s} e q f l r = rows-past (stageTwoRules file) k h r (λ j i. rw (passed-due file k e q j i, lt-ltb 0 (s .line .points) (f .left (omega arith))) (f .fine j (omega arith)))

@@ -67,5 +67,5 @@ tabled-is file room e q = rw (q, e)
 pub untouched : (file words : List ℕ) {v u : Verdict} {a b c : ℕ} → v ≡ u → v ≡ Broken a b c → words ≡ filledBy u file words
 untouched file words e q = rw (← e, q)
 
-pub standing : (file words : List ℕ) {v u : Verdict} {ws : List ℕ} → v ≡ u → v ≡ Fine → ws ≡ filled (tableOf file) words → ws ≡ filledBy u file words
-standing file words e q h = rw (← e, q) h
+pub table-stands : (file words : List ℕ) {v u : Verdict} {ws : List ℕ} → v ≡ u → v ≡ Fine → ws ≡ filled (tableOf file) words → ws ≡ filledBy u file words
+table-stands file words e q h = rw (← e, q) h

@@ -44,17 +44,17 @@ dueOf s =
 
 -- ---- the parts of a state, behind each kind of record
 
-abbrev pub noMesh : MeshPart
-noMesh = record { code = 0; layers = 0 }
+abbrev pub noMeshPart : MeshPart
+noMeshPart = record { code = 0; layers = 0 }
 
-abbrev pub noLayer : LayerPart
-noLayer = record { code = 0; nodes = 0; node = 0; lines = 0; line = 0; areas = 0; area = 0 }
+abbrev pub noLayerPart : LayerPart
+noLayerPart = record { code = 0; nodes = 0; node = 0; lines = 0; line = 0; areas = 0; area = 0 }
 
-abbrev pub noLine : LinePart
-noLine = record { points = 0 }
+abbrev pub noLinePart : LinePart
+noLinePart = record { points = 0 }
 
-abbrev pub noArea : AreaPart
-noArea = record { loops = 0; begun = 0; count = 0; entries = 0 }
+abbrev pub noAreaPart : AreaPart
+noAreaPart = record { loops = 0; begun = 0; count = 0; entries = 0 }
 
 -- RULES 2.5: an M has the mesh code and how many layers follow
 abbrev pub meshPart : List ℕ → MeshPart
@@ -123,8 +123,8 @@ abbrev pub areaPart : List ℕ → AreaPart
 areaPart t = record { loops = sizeAt t areaLoops; begun = 0; count = 0; entries = 0 }
 
 -- RULES 2.5, 2.6: a loop's first record has its line count n; it and each later one take twelve of the entries
-abbrev pub loopMore : AreaPart → ℕ → AreaPart
-loopMore a n = record { loops = a .loops; begun = a .begun + 1; count = n; entries = n - 12 }
+abbrev pub loopBegun : AreaPart → ℕ → AreaPart
+loopBegun a n = record { loops = a .loops; begun = a .begun + 1; count = n; entries = n - 12 }
 
 abbrev pub entriesLess : AreaPart → AreaPart
 entriesLess a = record { loops = a .loops; begun = a .begun; count = a .count; entries = a .entries - 12 }
@@ -133,15 +133,15 @@ entriesLess a = record { loops = a .loops; begun = a .begun; count = a .count; e
 
 -- before the first record
 abbrev pub start : State
-start = record { mesh = noMesh; layer = noLayer; line = noLine; area = noArea }
+start = record { mesh = noMeshPart; layer = noLayerPart; line = noLinePart; area = noAreaPart }
 
 -- behind an M
 abbrev pub meshed : List ℕ → State
-meshed t = record { mesh = meshPart t; layer = noLayer; line = noLine; area = noArea }
+meshed t = record { mesh = meshPart t; layer = noLayerPart; line = noLinePart; area = noAreaPart }
 
 -- behind an H
 abbrev pub headed : State → List ℕ → State
-headed s t = record { mesh = layerLess (s .mesh); layer = layerPart t; line = noLine; area = noArea }
+headed s t = record { mesh = layerLess (s .mesh); layer = layerPart t; line = noLinePart; area = noAreaPart }
 
 -- behind an N: a node is one record
 abbrev pub noded : State → State
@@ -156,12 +156,12 @@ abbrev pub pointed : State → State
 pointed s = record { mesh = s .mesh; layer = s .layer; line = pointsLess (s .line) 1; area = s .area }
 
 -- behind an A
-abbrev pub bounded : State → List ℕ → State
-bounded s t = record { mesh = s .mesh; layer = areaMore (s .layer); line = s .line; area = areaPart t }
+abbrev pub areaBegun : State → List ℕ → State
+areaBegun s t = record { mesh = s .mesh; layer = areaMore (s .layer); line = s .line; area = areaPart t }
 
 -- behind a loop's first record; behind a later one
 abbrev pub begunLoop : State → ℕ → State
-begunLoop s n = record { mesh = s .mesh; layer = s .layer; line = s .line; area = loopMore (s .area) n }
+begunLoop s n = record { mesh = s .mesh; layer = s .layer; line = s .line; area = loopBegun (s .area) n }
 
 abbrev pub wentOn : State → State
 wentOn s = record { mesh = s .mesh; layer = s .layer; line = s .line; area = entriesLess (s .area) }
@@ -172,7 +172,7 @@ nextFor (Layer last) s t = headed s t
 nextFor (Node layer last) s t = noded s
 nextFor (Line layer last) s t = lined s t
 nextFor (Coordinates left) s t = pointed s
-nextFor (Area layer last) s t = bounded s t
+nextFor (Area layer last) s t = areaBegun s t
 nextFor (Loop last count zero) s t = begunLoop s (sizeAt t loopCount)
 nextFor (Loop last count (suc left)) s t = wentOn s
 

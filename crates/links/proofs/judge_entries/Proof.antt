@@ -58,11 +58,10 @@ loop-again c =
     let v = c .before .before .before in
     let t = v .before in
     let l = t .before in
-    let e = v .slot-of .ensures ∙ slot-first _ _ _ (t .loop-test .taken) in
-    (
+    let e = v .slot-of .ensures ∙ slot-first _ _ _ (t .loop-test .taken) in (
       search needs,
       entries-pass _ (l .before .before .args .l) _ _ _ (v .slot-of .ok) e (c .before .before .is-zero .ensures) (c .before .names-line .ensures) (c .if1 .left)
-      (l .loop .inv .1),
+          (l .loop .inv .1),
     )
 
 returns-2 : tie.Need-returns-2 Inv-loop μ-loop

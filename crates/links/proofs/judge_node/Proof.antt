@@ -1,7 +1,9 @@
 -- `links::judge_node` meets its contract: a slot that is fine is clean, so the loop never passes the slot that the scan found. Assumes nothing.
 use mathlib.Core.Path.{_≡_, sym, _∙_}
 use Prim.Native.Nat.{_-_, _≤_}
+use native.Mathlib.Nat.{zero-add}
 use native.Mathlib.Omega.{arith}
+use lib.Dec.{lit≤}
 use borrow.Author.Needs.{needs}
 use Rattle.verdict.specs.declared.Verdict.the-variants.{Fine}
 use Rattle.verdict.specs.Rules.{firstBroken, rows}
@@ -27,7 +29,8 @@ loop-holds c = (search needs, search needs, rows-none _)
 judge-slot-requires : tie.Need-judge-slot-requires Inv-loop μ-loop
 judge-slot-requires c κs =
     let l = c .before in
-    (c .loop-test .taken, repeats-at (nodeEntry _ _) 0 9 _ _ (l .before .first-repeat .ensures (omega arith)) (c .loop-test .taken) (l .loop .inv .1))
+    let q = repeats-at (nodeEntry _ _) 0 9 _ _ (l .before .first-repeat .ensures (lit≤ tt)) (c .loop-test .taken) (l .loop .inv .1) in
+    (c .loop-test .taken, rw zero-add at q)
 
 enum-told : tie.Need-enum-told Inv-loop μ-loop
 enum-told c = search needs
@@ -52,7 +55,11 @@ loop-again c =
     let v = c .before .before in
     let l = v .before .before in
     let f = c .enum-told2 .given .1 in
-    (search needs, goes-past (nodeEntry _ _) 0 9 _ _ (l .before .first-repeat .ensures (omega arith)) (v .before .loop-test .taken) (l .loop .inv .1) (slot-clean _ _ _ _ _ _ (sym (v .judge-slot .ensures) ∙ f)), rows-pass _ _ (l .loop .inv .2) (v .judge-slot .ensures) f)
+    let q = slot-clean _ _ _ _ _ _ (sym (v .judge-slot .ensures) ∙ f) in (
+      search needs,
+      goes-past (nodeEntry _ _) 0 9 _ _ (l .before .first-repeat .ensures (lit≤ tt)) (v .before .loop-test .taken) (l .loop .inv .1) (rw zero-add q),
+      rows-pass _ _ (l .loop .inv .2) (v .judge-slot .ensures) f,
+    )
 
 returns-2 : tie.Need-returns-2 Inv-loop μ-loop
 unfolding nodeChecks

@@ -3,7 +3,8 @@ use mathlib.Core.Path.{sym, _∙_}
 use borrow.Author.Tests.{not-true, not-false}
 use borrow.Author.Needs.{needs}
 use Rattle.layers.specs.Naming.{namesLine}
-use Rattle.links.specs.Links.{isZero, meets}
+use Rattle.links.specs.Links.{meets}
+use Rattle.permitted.specs.Permitted.{isZero}
 use Rattle.links.proofs.Numbers.{asked}
 use Rattle.links.proofs.NodeLaws.{slot-none, slot-eleven, slot-twelve, slot-thirteen, slot-fine}
 use Rattle.links.proofs.judge_slot.Statement.{statement}

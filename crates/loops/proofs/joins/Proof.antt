@@ -11,24 +11,27 @@ use Rattle.loops.proofs.joins.Tie as tie
 entry-before-requires : tie.Need-entry-before-requires
 entry-before-requires c κs = search needs
 
-last-node-requires : tie.Need-last-node-requires
-last-node-requires c κs = search needs
+on-hand-requires : tie.Need-on-hand-requires
+on-hand-requires c κs = search needs
 
-end-node-requires : tie.Need-end-node-requires
-end-node-requires c κs = search needs
+on-hand-requires-2 : tie.Need-on-hand-requires-2
+on-hand-requires-2 c κs = search needs
 
 equal-requires : tie.Need-equal-requires
 equal-requires c κs = search needs
 
 returns : tie.Need-returns
-unfolding joins
+unfolding joins endNode lastNode
 returns c =
-    let p = c .before .before in
+    let p = c .before in
     let q = p .before in
-    let a = q .before .before .before in
-    sym (told-both equal (c .before .end-node .ok) (own-told (endNode _ _ _) (a .fits .v) (c .before .end-node .ensures)) (p .last-node .ok) (told (lastNode _ _ _) (q .entry-before .ok) (q .entry-before .ensures) (p .last-node .ensures)) (c .equal .ensures))
+    let w = q .before in
+    let a = w .before .before .before in
+    let first = own-told (endNode _ _ _) (a .fits .v) (p .on-hand2 .ensures) in
+    let last = told (lastNode _ _ _) (w .entry-before .ok) (w .entry-before .ensures) (q .on-hand .ensures) in
+    sym (told-both equal (p .on-hand2 .ok) first (q .on-hand .ok) last (c .equal .ensures))
 
 pub joins-spec : {M : Type 1} → statement M
 joins-spec =
     tie.close
-    (tie.spec entry-before-requires last-node-requires end-node-requires equal-requires returns)
+    (tie.spec entry-before-requires on-hand-requires on-hand-requires-2 equal-requires returns)

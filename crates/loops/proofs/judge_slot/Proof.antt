@@ -1,30 +1,37 @@
 -- `loops::judge_slot` meets its contract: each test is that of the check whose number it gives. Assumes nothing.
 use mathlib.Core.Path.{sym, _∙_}
 use borrow.Author.Tests.{not-true, not-false}
-use Rattle.loops.proofs.SlotLaws.{slot-none, slot-thirteen, slot-fifteen, slot-seventeen, slot-fine}
+use Rattle.links.proofs.Scans.{slot-first}
+use Rattle.loops.specs.Loops.{rightArea}
+use Rattle.loops.proofs.SlotLaws.{slot-thirteen, slot-none, slot-fifteen, slot-seventeen, slot-fine}
 use borrow.Author.Needs.{needs}
 use Rattle.loops.proofs.judge_slot.Statement.{statement}
 use Rattle.loops.proofs.judge_slot.Tie as tie
 
-loop-entry-requires : tie.Need-loop-entry-requires
-loop-entry-requires c κs = search needs
+broken-requires : tie.Need-broken-requires
+broken-requires c κs = search needs
+
+returns : tie.Need-returns
+returns c =
+    let g = c .before in
+    let a = g .before .before .before in
+    slot-thirteen _ _ _ _ _ _ _ _ (c .broken .ensures) (not-true _ (sym (a .pre .2) ∙ g .if1 .taken))
+
+slot-of-requires : tie.Need-slot-of-requires
+slot-of-requires c κs = search needs
 
 is-zero-requires : tie.Need-is-zero-requires
 is-zero-requires c κs = search needs
 
-returns : tie.Need-returns
-returns c = slot-none _ _ _ _ _ _ _ _ (c .before .before .loop-entry .ok) (c .before .before .loop-entry .ensures) (c .before .is-zero .ensures) (c .if1 .taken)
-
-broken-requires : tie.Need-broken-requires
-broken-requires c κs = search needs
-
 returns-2 : tie.Need-returns-2
 returns-2 c =
-    let i = c .before .before in
-    let z = i .before in
-    let e = z .before in
-    let a = e .before .before .before in
-    slot-thirteen _ _ _ _ _ _ _ _ (e .loop-entry .ok) (e .loop-entry .ensures) (z .is-zero .ensures) (i .if1 .left) (c .broken .ensures) (not-true _ (sym (a .pre .2) ∙ c .before .if2 .taken))
+    let z = c .before in
+    let v = z .before in
+    let g = v .before in
+    let a = g .before .before .before in
+    let e = v .slot-of .ensures ∙ slot-first _ _ _ (a .pre .0) in
+    let d = not-false _ (sym (a .pre .2) ∙ g .if1 .left) in
+    slot-none _ _ _ _ _ _ _ _ d (v .slot-of .ok) e (z .is-zero .ensures) (c .if2 .taken)
 
 less-requires : tie.Need-less-requires
 less-requires c κs = search needs
@@ -45,15 +52,18 @@ returns-3 : tie.Need-returns-3
 returns-3 c =
     let j = c .before .before in
     let s = j .before in
-    let g = s .before in
-    let i = g .before in
-    let z = i .before in
-    let e = z .before in
-    let a = e .before .before .before in
-    slot-fifteen _ _ _ _ _ _ _ _ (e .loop-entry .ok) (e .loop-entry .ensures) (z .is-zero .ensures) (i .if1 .left) (not-false _ (sym (a .pre .2) ∙ g .if2 .left)) (s .less .ensures) (j .joins .ensures) (c .broken2 .ensures) (c .before .if3 .taken)
+    let h = s .before in
+    let z = h .before in
+    let v = z .before in
+    let g = v .before in
+    let a = g .before .before .before in
+    let e = v .slot-of .ensures ∙ slot-first _ _ _ (a .pre .0) in
+    let d = not-false _ (sym (a .pre .2) ∙ g .if1 .left) in
+    slot-fifteen _ _ _ _ _ _ _ _ d (v .slot-of .ok) e (z .is-zero .ensures) (h .if2 .left) (s .less .ensures) (j .joins .ensures)
+    (c .broken2 .ensures) (c .before .if3 .taken)
 
-right-area-requires : tie.Need-right-area-requires
-right-area-requires c κs = search needs
+on-hand-requires : tie.Need-on-hand-requires
+on-hand-requires c κs = search needs
 
 is-requires : tie.Need-is-requires
 is-requires c κs = search needs
@@ -62,40 +72,49 @@ broken-requires-3 : tie.Need-broken-requires-3
 broken-requires-3 c κs = search needs
 
 returns-4 : tie.Need-returns-4
+unfolding rightArea
 returns-4 c =
     let k = c .before .before in
     let w = k .before in
     let o = w .before in
     let j = o .before in
     let s = j .before in
-    let g = s .before in
-    let i = g .before in
-    let z = i .before in
-    let e = z .before in
-    let a = e .before .before .before in
-    slot-seventeen _ _ _ _ _ _ _ _ (e .loop-entry .ok) (e .loop-entry .ensures) (z .is-zero .ensures) (i .if1 .left) (not-false _ (sym (a .pre .2) ∙ g .if2 .left)) (s .less .ensures) (j .joins .ensures) (o .if3 .left) (w .right-area .ok) (w .right-area .ensures) (k .is .ensures) (c .broken3 .ensures) (c .before .if4 .taken)
+    let h = s .before in
+    let z = h .before in
+    let v = z .before in
+    let g = v .before in
+    let a = g .before .before .before in
+    let e = v .slot-of .ensures ∙ slot-first _ _ _ (a .pre .0) in
+    let d = not-false _ (sym (a .pre .2) ∙ g .if1 .left) in
+    slot-seventeen _ _ _ _ _ _ _ _ d (v .slot-of .ok) e (z .is-zero .ensures) (h .if2 .left) (s .less .ensures) (j .joins .ensures) (o .if3 .left)
+    (w .on-hand .ok) (w .on-hand .ensures) (k .is .ensures) (c .broken3 .ensures) (c .before .if4 .taken)
 
 returns-5 : tie.Need-returns-5
+unfolding rightArea
 returns-5 c =
-    let w = c .before .before in
+    let k = c .before in
+    let w = k .before in
     let o = w .before in
     let j = o .before in
     let s = j .before in
-    let g = s .before in
-    let i = g .before in
-    let z = i .before in
-    let e = z .before in
-    let a = e .before .before .before in
-    slot-fine _ _ _ _ _ _ _ _ (e .loop-entry .ok) (e .loop-entry .ensures) (z .is-zero .ensures) (i .if1 .left) (not-false _ (sym (a .pre .2) ∙ g .if2 .left)) (s .less .ensures) (j .joins .ensures) (o .if3 .left) (w .right-area .ok) (w .right-area .ensures) (c .before .is .ensures) (c .if4 .left)
+    let h = s .before in
+    let z = h .before in
+    let v = z .before in
+    let g = v .before in
+    let a = g .before .before .before in
+    let e = v .slot-of .ensures ∙ slot-first _ _ _ (a .pre .0) in
+    let d = not-false _ (sym (a .pre .2) ∙ g .if1 .left) in
+    slot-fine _ _ _ _ _ _ _ _ d (v .slot-of .ok) e (z .is-zero .ensures) (h .if2 .left) (s .less .ensures) (j .joins .ensures) (o .if3 .left)
+    (w .on-hand .ok) (w .on-hand .ensures) (k .is .ensures) (c .if4 .left)
 
 pub judge-slot-spec : {M : Type 1} → statement M
 judge-slot-spec =
     tie.close
     (tie.spec
-    loop-entry-requires
-    is-zero-requires
-    returns
     broken-requires
+    returns
+    slot-of-requires
+    is-zero-requires
     returns-2
     less-requires
     mul-joins
@@ -103,7 +122,7 @@ judge-slot-spec =
     joins-requires
     broken-requires-2
     returns-3
-    right-area-requires
+    on-hand-requires
     is-requires
     broken-requires-3
     returns-4

@@ -1,7 +1,7 @@
 -- `loops::mark` meets its contract: the one place that it changes is the entry's. Assumes nothing.
 use native.Mathlib.Omega.{arith}
 use borrow.Author.Needs.{needs}
-use Rattle.links.specs.Links.{isZero}
+use Rattle.permitted.specs.Permitted.{isZero}
 use Rattle.permitted.proofs.Signs.{own-told, own-asked}
 use Rattle.loops.specs.Scanning.{markOf}
 use Rattle.loops.proofs.Repeats.{marking-none, marking-not, marking-left}

@@ -7,9 +7,9 @@ use native.Mathlib.Omega.{arith}
 use borrow.Author.Needs.{needs}
 use Rattle.measures.specs.Points.{pointBy}
 use Rattle.measures.specs.Sound.{addedUp}
-use Rattle.measures.specs.Walks.{along, begin}
+use Rattle.measures.specs.Walks.{walkAlong, begin}
 use Rattle.records.proofs.Numbers.{record-past}
-use Rattle.measures.proofs.Walking.{some, turn, sum-back, near-le, line-near, measure-none, measure-is, full}
+use Rattle.measures.proofs.Walking.{one-or-more, turn, sum-back, near-le, line-near, measure-none, measure-is, full}
 use Rattle.measures.proofs.line_measure.Statement.{statement}
 use Rattle.measures.proofs.line_measure.Tie as tie
 
@@ -18,7 +18,7 @@ Inv-loop file line n left₀ k₀ w₀ left k w =
     (left ≤ n)
     × (line ≤ k)
     × (k - line ≤ n - left)
-    × (w ≡ along begin (pointBy addedUp file line) (n - left))
+    × (w ≡ walkAlong begin (pointBy addedUp file line) (n - left))
     × (0 < left → n - left ≡ 7 * (k - line))
 
 abbrev μ-loop : tie.MeasureT-loop
@@ -31,7 +31,7 @@ point-count-requires : tie.Need-point-count-requires Inv-loop μ-loop
 point-count-requires c κs = search needs
 
 loop-holds : tie.Need-loop-holds Inv-loop μ-loop
-unfolding along
+unfolding walkAlong
 loop-holds c =
     let z : c .point-count .result - c .point-count .result ≡ 0 = omega arith in
     (omega arith, omega arith, omega arith, rw z, λ h. omega arith)
@@ -60,7 +60,7 @@ sub-left c = omega (arith, c .before .before .seven-of .ensures .within)
 
 loop-less : tie.Need-loop-less Inv-loop μ-loop
 loop-less c =
-    omega (arith, some (c .before .before .seven-of .ensures) (omega arith), c .before .before .seven-of .ensures .within)
+    omega (arith, one-or-more (c .before .before .seven-of .ensures) (omega arith), c .before .before .seven-of .ensures .within)
 
 loop-again : tie.Need-loop-again Inv-loop μ-loop
 loop-again c =
@@ -68,7 +68,7 @@ loop-again c =
     let l = b .loop .inv in
     let s = c .before .before .seven-of .ensures in
     let e = l .4 (omega arith) in
-    let p = some s (omega arith) in (
+    let p = one-or-more s (omega arith) in (
       omega (arith, s .within),
       omega arith,
       omega (arith, s .within),

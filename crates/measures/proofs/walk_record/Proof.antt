@@ -10,14 +10,14 @@ use Rattle.records.specs.Columns.{pointsX, pointsY, slotColumn}
 use Rattle.records.proofs.Named.{start-there}
 use Rattle.measures.specs.Points.{pairBy}
 use Rattle.measures.specs.Sound.{addedUp}
-use Rattle.measures.specs.Walks.{Small, far, along}
+use Rattle.measures.specs.Walks.{Small, far, walkAlong}
 use Rattle.measures.proofs.Stepping.{back}
 use Rattle.measures.proofs.Walking.{near-le, record-near, added-small, along-next}
 use Rattle.measures.proofs.walk_record.Statement.{statement}
 use Rattle.measures.proofs.walk_record.Tie as tie
 
 abbrev Inv-loop : tie.InvT-loop
-Inv-loop s count at₀ i₀ at i = (i ≤ count) × (at ≡ along at₀ (pairBy addedUp s) i)
+Inv-loop s count at₀ i₀ at i = (i ≤ count) × (at ≡ walkAlong at₀ (pairBy addedUp s) i)
 
 abbrev μ-loop : tie.MeasureT-loop
 μ-loop s count at₀ i₀ at i = count - i
@@ -36,7 +36,7 @@ y-is c =
     ∙ ap (addedUp _) (c .before .slot-column2 .ensures ∙ start-there 6 10 7 _ (omega arith))
 
 loop-holds : tie.Need-loop-holds Inv-loop μ-loop
-unfolding along
+unfolding walkAlong
 loop-holds c = (search needs, refl)
 
 slot-column-requires : tie.Need-slot-column-requires Inv-loop μ-loop

@@ -5,7 +5,8 @@ use Prim.Native.Nat.{_-_}
 use lib.IntN.{pos}
 use lib.ListN.{length, drop, getD}
 use borrow.Author.Needs.{needs}
-use Rattle.records.specs.Writing.{noNumbers, isZero}
+use Rattle.records.specs.Writing.{noNumbers}
+use Rattle.permitted.specs.Permitted.{isZero}
 use Rattle.records.proofs.Unused.{every-end, every-more, every-stop, zero-bits, some-bits}
 use Rattle.records.proofs.no_numbers.Statement.{statement}
 use Rattle.records.proofs.no_numbers.Tie as tie

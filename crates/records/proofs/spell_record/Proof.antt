@@ -8,7 +8,7 @@ use mir.Facts.{toZ-ofZ}
 use mir.Syntax.{w32}
 use borrow.Author.Needs.{needs}
 use Rattle.records.specs.Layout.{layoutOf}
-use Rattle.records.specs.Writing.{fitsAll, lineOf}
+use Rattle.records.specs.Writing.{fitsAll, recordBytes}
 use Rattle.records.specs.declared.Field.the-variants.{End, Letters, Number, Name, Blank}
 use Rattle.records.proofs.Layouts.{Room}
 use Rattle.records.proofs.Lines.{refused-line, Lines, start, room, ends, letters-next, number-next, number-unfit, name-next, name-unfit, blank-next}
@@ -77,7 +77,7 @@ no-bytes-requires : tie.Need-no-bytes-requires Inv-loop μ-loop
 no-bytes-requires c κs = search needs
 
 returns : tie.Need-returns Inv-loop μ-loop
-unfolding fitsAll lineOf
+unfolding fitsAll recordBytes
 returns c =
     let d = ends (c .before .before .before .before .before .before .before .loop .inv) (sym (c .before .before .before .before .enum-told .given .1) ∙ c .before .before .before .before .before .before .field-of .ensures) in
     record { answer = rw (c .before .before .no-numbers .ensures, c .no-bytes .ensures) (sym (d .0)); text = λ y. d .1 }

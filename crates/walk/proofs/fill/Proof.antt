@@ -9,12 +9,12 @@ use borrow.Author.Needs.{needs}
 use Rattle.walk.specs.States.{dueOf, stateAt, countsAt}
 use Rattle.walk.proofs.Walking.{at-none, next-state, counts-none, next-counts, countable}
 use Rattle.walk.proofs.Passing.{pass-most, pass-are-quiet, passed-state, passed-counts}
-use Rattle.walk.proofs.Filling.{filledTo, none-filled, room-left, one-filled, quiet-filled, filled-many, all-filled}
+use Rattle.walk.proofs.Filling.{storedTo, none-filled, room-left, one-filled, quiet-filled, filled-many, all-filled}
 use Rattle.walk.proofs.fill.Statement.{statement}
 use Rattle.walk.proofs.fill.Tie as tie
 
 abbrev Inv-loop : tie.InvT-loop
-Inv-loop file table₀ n rows b s₀ c₀ k₀ table s c k = (k ≤ n) × (s ≡ stateAt file k) × (c ≡ countsAt file k) × (table ≡ filledTo file n k table₀)
+Inv-loop file table₀ n rows b s₀ c₀ k₀ table s c k = (k ≤ n) × (s ≡ stateAt file k) × (c ≡ countsAt file k) × (table ≡ storedTo file n k table₀)
 
 abbrev μ-loop : tie.MeasureT-loop
 μ-loop file table₀ n rows b s₀ c₀ k₀ table s c k = n - k

@@ -1,7 +1,7 @@
 -- `walk::fill_table` meets its contract: a refusal returns before the table is touched, and behind it the table has room. Assumes nothing.
 use denote.Ref.{now}
 use lib.ListN.{length}
-use Rattle.walk.proofs.Tabling.{early-broken, all-counted, short, long-enough, room-enough, tabled-is, untouched, standing}
+use Rattle.walk.proofs.Tabling.{early-broken, all-counted, short, long-enough, room-enough, tabled-is, untouched, table-stands}
 use borrow.Author.Needs.{needs}
 use Rattle.walk.proofs.fill_table.Statement.{statement}
 use Rattle.walk.proofs.fill_table.Tie as tie
@@ -31,7 +31,7 @@ same-length : tie.Need-same-length
 same-length c = search needs
 
 returns-3 : tie.Need-returns-3
-returns-3 c = let v = long-enough _ (c .before .before .before .before .before .before .before .before .before .walk-file .ensures) (c .before .before .before .before .before .before .enum-told2 .given .1) (length (now (c .before .before .before .before .before .before .before .before .before .before .before .before .args .table))) (search needs) in (tabled-is _ _ (c .before .before .before .before .before .before .before .before .before .walk-file .ensures) v, standing _ _ v (c .before .before .before .before .before .before .enum-told2 .given .1) (c .before .before .fill .ensures))
+returns-3 c = let v = long-enough _ (c .before .before .before .before .before .before .before .before .before .walk-file .ensures) (c .before .before .before .before .before .before .enum-told2 .given .1) (length (now (c .before .before .before .before .before .before .before .before .before .before .before .before .args .table))) (search needs) in (tabled-is _ _ (c .before .before .before .before .before .before .before .before .before .walk-file .ensures) v, table-stands _ _ v (c .before .before .before .before .before .before .enum-told2 .given .1) (c .before .before .fill .ensures))
 
 pub fill-table-spec : {M : Type 1} → statement M
 fill-table-spec =

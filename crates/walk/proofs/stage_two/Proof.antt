@@ -11,12 +11,12 @@ use Rattle.verdict.proofs.Parts.{rows-none, rows-pass}
 use Rattle.walk.specs.States.{dueOf, stateAt, countsAt}
 use Rattle.walk.proofs.Walking.{at-none, next-state, counts-none, next-counts, countable}
 use Rattle.walk.proofs.Passing.{past-counts, pass-most, pass-are-quiet, passed-state, passed-counts, found-most, found-fit, fine-rows}
-use Rattle.walk.proofs.Judging.{rulesOf, rule-is, two-stops, two-done, counts-done, walked-broken, walked-kept}
+use Rattle.walk.proofs.Judging.{stageTwoRules, rule-is, two-stops, two-done, counts-done, walked-broken, walked-kept}
 use Rattle.walk.proofs.stage_two.Statement.{statement}
 use Rattle.walk.proofs.stage_two.Tie as tie
 
 abbrev Inv-loop : tie.InvT-loop
-Inv-loop file n s₀ c₀ k₀ s c k = (k ≤ n) × (s ≡ stateAt file k) × (c ≡ countsAt file k) × (firstBroken (rows k (rulesOf file)) ≡ Fine)
+Inv-loop file n s₀ c₀ k₀ s c k = (k ≤ n) × (s ≡ stateAt file k) × (c ≡ countsAt file k) × (firstBroken (rows k (stageTwoRules file)) ≡ Fine)
 
 abbrev μ-loop : tie.MeasureT-loop
 μ-loop file n s₀ c₀ k₀ s c k = n - k

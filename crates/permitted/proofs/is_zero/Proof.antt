@@ -1,8 +1,8 @@
--- `links::is_zero` meets its contract: the size that it asks for is the definition's. Assumes nothing.
+-- `permitted::is_zero` meets its contract: the size that it asks for is the definition's. Assumes nothing.
 use mir.Facts.{toZ-ofZ}
 use borrow.Author.Needs.{needs}
-use Rattle.links.proofs.is_zero.Statement.{statement}
-use Rattle.links.proofs.is_zero.Tie as tie
+use Rattle.permitted.proofs.is_zero.Statement.{statement}
+use Rattle.permitted.proofs.is_zero.Tie as tie
 
 size-requires : tie.Need-size-requires
 size-requires c κs = search needs
