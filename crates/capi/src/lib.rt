@@ -135,7 +135,7 @@ pub extern "C" fn stragumella_read_record(kind: u32, bytes: &[u8]) -> Found
     let Meant::A(k) = meant else {
         return no_kind();
     };
-    let reading = records::read_record(k, bytes);
+    let reading = record_reader::read_record(k, bytes);
     let value = reading.value;
     let same = value.kind;
     let numbers = value.numbers;
@@ -166,7 +166,7 @@ pub extern "C" fn stragumella_write_record(value: Value, buffer: &mut [u8]) -> u
     };
     let numbers = value.numbers;
     let name = value.name;
-    records::write_record(
+    record_writer::write_record(
         buffer,
         Record {
             kind,

@@ -10,7 +10,7 @@ use lib.ListN.{length, getD, take, drop, set, length-append, List·getD-append}
 use lib.Seq.{sets, sets-eq, take-at, getD-at}
 use borrow.Author.Tests.{ltb-true, ltb-false}
 use Rattle.measures.specs.Points.{firstOf}
-use Rattle.records.proofs.Along.{sets-append}
+use Rattle.records.proofs.Stores.{sets-append}
 
 module _ {A : Type 0} (f : ℕ → A) where
   pub first-many : (n : ℕ) → length (firstOf f n) ≡ n

@@ -2,8 +2,6 @@
 pub mod RecordLaws
 pub mod RoundTrips
 pub mod Layouts
-pub mod Along
+pub mod Stores
 pub mod Numbers
-pub mod Unused
-pub mod Lines
 pub mod Named

@@ -1,19 +1,13 @@
-// The records of a file (RULES 4, and the calls of RULES 9.4 to 9.6): read, written
-// and viewed. The layout of each kind stands once, in the functions named after the kinds, and is
-// read by one reader and one writer. Every public function takes every input.
+// The records of a file (RULES 4, and the view of RULES 9.6): the kinds, their layouts, and the numbers
+// of a record. The layout of each kind stands once, in the functions named after the kinds; the crates
+// `record_reader` and `record_writer` go along it. Every public function takes every input.
 //
 // The contracts cite `specs/`: `Layout` has the layouts, `Reading` and `Writing` say what a record's
 // bytes and a record's value are to each other, `View` is a record of a file.
-use fields::Number;
-use fields::Text;
-use fields::Writing;
 ghost use mathlib.Core.Path.{_≡_};
-ghost use Prim.Native.Nat.{_+_, _≤_};
-ghost use lib.ListN.{length, getD, drop};
-ghost use lib.Seq.{sets};
+ghost use lib.ListN.{getD};
 ghost use Rattle.records.specs.Layout.{meshLayout, layerLayout, nodeLayout, lineLayout, coordinatesLayout, areaLayout, loopLayout, layoutOf};
-ghost use Rattle.records.specs.Reading.{lettersFault, accepted, refusedAt, fieldsOf, readingOf};
-ghost use Rattle.records.specs.Writing.{noNumbers, noBytes, SpelledAs, Written};
+ghost use Rattle.records.specs.Reading.{lettersFault};
 ghost use Rattle.records.specs.View.{recordOf, numberIn};
 ghost use Rattle.records.specs.Columns.{slotStart, slotIn};
 
@@ -280,41 +274,7 @@ pub fn field_of(kind: Kind, j: usize) -> Field
     }
 }
 
-// ---- reading
-
-// A refusal at a column: record 1, and the named kind with all else 0.
-fn refused(kind: Kind, number: u32, column: usize) -> Reading
-    ensures { λ r. ⌜ r ≡ refusedAt kind number column ⌝ }
-{
-    let numbers = [0i32; 16];
-    let name = [0u8; 40];
-    Reading {
-        number,
-        place: 1,
-        column,
-        value: Record {
-            kind,
-            numbers,
-            name,
-        },
-    }
-}
-
-// Acceptance with a value.
-fn taken(kind: Kind, numbers: [i32; 16], name: [u8; 40]) -> Reading
-    ensures { λ r. ⌜ r ≡ accepted (record { kind = kind; numbers = numbers; name = name }) ⌝ }
-{
-    Reading {
-        number: 0,
-        place: 0,
-        column: 0,
-        value: Record {
-            kind,
-            numbers,
-            name,
-        },
-    }
-}
+// ---- type letters
 
 // Letters `a`, `b` are due and `x`, `y` stand there: 0 where they are the same, 7 for H1 where an H
 // is due, else 3.
@@ -328,195 +288,6 @@ pub fn letters_fault(a: u8, b: u8, x: u8, y: u8) -> u32
         return 7;
     }
     3
-}
-
-// `name` with the bytes `p` from index `m` on.
-fn put_name(name: [u8; 40], m: usize, p: &[u8]) -> [u8; 40]
-    requires { ⌜ m + length (now p) ≤ 40 ⌝ }
-    ensures { λ r. ⌜ r ≡ sets name m (now (p .entry)) ⌝ }
-{
-    let mut longer = name;
-    let mut i = 0;
-    while i < p.len() {
-        longer[m + i] = p[i];
-        i += 1;
-    }
-    longer
-}
-
-// The fields of 74 bytes along the layout of the kind: the first ill-formed one, or the value.
-fn read_fields(kind: Kind, s: &[u8]) -> Reading
-    requires { ⌜ length (now s) ≡ 74 ⌝ }
-    ensures { λ r. ⌜ r ≡ fieldsOf kind (now (s .entry)) ⌝ }
-{
-    let mut numbers = [0i32; 16];
-    let mut name = [0u8; 40];
-    let mut n: usize = 0;
-    let mut m: usize = 0;
-    let mut j: usize = 0;
-    loop {
-        let f = field_of(kind, j);
-        match f {
-            Field::End => {
-                return taken(kind, numbers, name);
-            }
-            Field::Letters(a, b) => {
-                let fault = letters_fault(a, b, s[0], s[1]);
-                if fault != 0 {
-                    return refused(kind, fault, 1);
-                }
-                j += 1;
-            }
-            Field::Number(c, w) => {
-                let answer = numerals::read_number(s, c, w);
-                let Number::Value(v) = answer else {
-                    return refused(kind, 5, c);
-                };
-                numbers[n] = v;
-                n += 1;
-                j += 1;
-            }
-            Field::Name(c, w) => {
-                let answer = texts::read_name(s, c, w);
-                let Text::WellFormed = answer else {
-                    return refused(kind, 5, c);
-                };
-                let at = c - 1;
-                let longer = put_name(name, m, &s[at..at + w]);
-                name = longer;
-                m += w;
-                j += 1;
-            }
-            Field::Blank(c, w) => {
-                let answer = texts::read_blank(s, c, w);
-                let Text::WellFormed = answer else {
-                    return refused(kind, 5, c);
-                };
-                j += 1;
-            }
-        }
-    }
-}
-
-// Reads one record of the kind that the caller names. Refused: not 74 bytes (1 at column 1), then a
-// wrong line end (2 at 73 or 74), then wrong letters (3 at 1; 7 for H1 where an H is due), then the
-// first ill-formed field (5 at its start).
-pub fn read_record(kind: Kind, s: &[u8]) -> Reading
-    ensures { λ r. ⌜ r ≡ readingOf kind (now (s .entry)) ⌝ }
-{
-    if s.len() != 74 {
-        return refused(kind, 1, 1);
-    }
-    if s[72] != 13 {
-        return refused(kind, 2, 73);
-    }
-    if s[73] != 10 {
-        return refused(kind, 2, 74);
-    }
-    read_fields(kind, s)
-}
-
-// ---- writing
-
-// A record's 74 bytes, where its value fits.
-struct Spelled {
-    ok: bool,
-    line: [u8; 74],
-}
-
-// Whether the numbers from index `from` on are 0.
-fn no_numbers(numbers: &[i32], from: usize) -> bool
-    ensures { λ r. ⌜ r ≡ noNumbers (drop from (now (numbers .entry))) ⌝ }
-{
-    let mut i = from;
-    while i < numbers.len() {
-        if numbers[i] != 0 {
-            return false;
-        }
-        i += 1;
-    }
-    true
-}
-
-// Whether the name bytes from index `from` on are 0.
-fn no_bytes(name: &[u8], from: usize) -> bool
-    ensures { λ r. ⌜ r ≡ noBytes (drop from (now (name .entry))) ⌝ }
-{
-    let mut i = from;
-    while i < name.len() {
-        if name[i] != 0 {
-            return false;
-        }
-        i += 1;
-    }
-    true
-}
-
-// The record's bytes along the layout of its kind.
-fn spell_record(r: Record) -> Spelled
-    ensures { λ x. ⌜ SpelledAs r (x .ok) (x .line) ⌝ }
-{
-    let kind = r.kind;
-    let numbers = r.numbers;
-    let name = r.name;
-    let mut line = [32u8; 74];
-    let mut n: usize = 0;
-    let mut m: usize = 0;
-    let mut j: usize = 0;
-    loop {
-        let f = field_of(kind, j);
-        match f {
-            Field::End => {
-                line[72] = 13;
-                line[73] = 10;
-                let ok = no_numbers(&numbers, n) & no_bytes(&name, m);
-                return Spelled { ok, line };
-            }
-            Field::Letters(a, b) => {
-                line[0] = a;
-                line[1] = b;
-                j += 1;
-            }
-            Field::Number(c, w) => {
-                let answer = writers::write_number(&mut line, c, w, numbers[n]);
-                let Writing::Done = answer else {
-                    return Spelled { ok: false, line };
-                };
-                n += 1;
-                j += 1;
-            }
-            Field::Name(c, w) => {
-                let e = m + w;
-                let answer = writers::write_name(&mut line, c, w, &name[m..e]);
-                let Writing::Done = answer else {
-                    return Spelled { ok: false, line };
-                };
-                m = e;
-                j += 1;
-            }
-            Field::Blank(c, w) => {
-                writers::write_blank(&mut line, c, w);
-                j += 1;
-            }
-        }
-    }
-}
-
-// Writes a record into the first 74 bytes of `buf` and answers 0. Refused, with `buf` as it was: 21
-// where `buf` is under 74 bytes, then 20 for a value or an unused entry that doesn't fit.
-pub fn write_record(buf: &mut [u8], r: Record) -> u32
-    ensures { λ x. ⌜ Written (now (buf .entry)) r x (now (buf .exit)) ⌝ }
-{
-    if buf.len() < 74 {
-        return 21;
-    }
-    let spelled = spell_record(r);
-    let line = spelled.line;
-    if !spelled.ok {
-        return 20;
-    }
-    bytes::copy(&line, buf);
-    0
 }
 
 // ---- a record of a file

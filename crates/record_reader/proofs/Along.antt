@@ -3,7 +3,7 @@ use mathlib.Core.Bool.{true}
 use mathlib.Core.List.{List, [], _∷_, _++_}
 use mathlib.Core.Path.{_≡_, refl, sym, _∙_}
 use Prim.Native.Nat.{ℕ, zero, suc, _+_, _-_, _≤_, _<_}
-use native.Mathlib.Nat.{add-suc, add-zero, suc-add, le-of-lt}
+use native.Mathlib.Nat.{le-of-lt}
 use native.Mathlib.Numerals.{add-one}
 use native.Mathlib.Omega.{arith}
 use lib.IntN.{ℤ}
@@ -16,20 +16,17 @@ use Rattle.fields.specs.declared.Number as numbers
 use Rattle.fields.specs.declared.Number.the-variants as number
 use Rattle.fields.specs.declared.Text as texts
 use Rattle.fields.specs.declared.Text.the-variants as text
 use Rattle.records.specs.Layout.{layoutOf, startOf, numbersOf, bytesOf}
 use Rattle.records.specs.Reading.{lettersFault, faultOf, numbersIn, nameIn, over, Fault, noFault, faultAt, firstFault, zeros, noName, accepted, refusedAt, fieldsOf}
 use Rattle.records.specs.declared.Field.the-variants.{End, Letters, Number, Name, Blank}
 use Rattle.records.specs.declared.Field.{Field}
 use Rattle.records.specs.declared.Kind.{Kind}
 use Rattle.fields.proofs.FieldLaws.{text-formed}
 use Rattle.fields.proofs.Places.{part-is, bytes-length}
+use Rattle.records.proofs.Stores.{sets-append}
 use Rattle.records.proofs.Layouts.{Ahead, ahead, Room, split, room-ahead, next-ahead, isField, off-layout}
 
 -- ---- runs of stores
-
-pub sets-append : {A : Type 0} (l : List A) (i : ℕ) (us vs : List A) → sets l i (us ++ vs) ≡ sets (sets l i us) (i + length us) vs
-sets-append l i [] vs = rw add-zero
-sets-append l i (u ∷ us) vs = sets-append (set l i u) (suc i) us vs ∙ rw (add-suc, suc-add)
 
 pub sets-next : (l : List ℕ) (m : ℕ) (p : List ℕ) (i : ℕ) → i < length p → sets l m (take (i + 1) p) ≡ set (sets l m (take i p)) (m + i) (getD p i 0)
 sets-next l m p i h = rw (add-one, take-suc p i 0 h) (sets-append l m (take i p) (getD p i 0 ∷ []) ∙ rw (length-take-le i p (le-of-lt h)))

@@ -1,9 +1,9 @@
--- `records::read_record` meets its contract: its tests are the definition's, in the definition's order. Assumes nothing.
+-- `record_reader::read_record` meets its contract: its tests are the definition's, in the definition's order. Assumes nothing.
 use borrow.Author.Needs.{needs}
 use borrow.Author.Tests.{eq-eqb, ne-eqb}
 use Rattle.records.specs.Reading.{readingOf}
-use Rattle.records.proofs.read_record.Statement.{statement}
-use Rattle.records.proofs.read_record.Tie as tie
+use Rattle.record_reader.proofs.read_record.Statement.{statement}
+use Rattle.record_reader.proofs.read_record.Tie as tie
 
 refused-requires : tie.Need-refused-requires
 refused-requires c κs = search needs

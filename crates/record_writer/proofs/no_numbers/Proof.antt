@@ -1,15 +1,15 @@
--- `records::no_numbers` meets its contract. The loop's invariant: what is left is 0 exactly if the whole is. Assumes nothing.
+-- `record_writer::no_numbers` meets its contract. The loop's invariant: what is left is 0 exactly if the whole is. Assumes nothing.
 use denote.Ref.{now}
 use mathlib.Core.Path.{_≡_, refl, sym, _∙_}
 use Prim.Native.Nat.{_-_}
 use lib.IntN.{pos}
 use lib.ListN.{length, drop, getD}
 use borrow.Author.Needs.{needs}
 use Rattle.records.specs.Writing.{noNumbers}
 use Rattle.permitted.specs.Permitted.{isZero}
-use Rattle.records.proofs.Unused.{every-end, every-more, every-stop, zero-bits, some-bits}
-use Rattle.records.proofs.no_numbers.Statement.{statement}
-use Rattle.records.proofs.no_numbers.Tie as tie
+use Rattle.record_writer.proofs.Unused.{every-end, every-more, every-stop, zero-bits, some-bits}
+use Rattle.record_writer.proofs.no_numbers.Statement.{statement}
+use Rattle.record_writer.proofs.no_numbers.Tie as tie
 
 abbrev Inv-loop : tie.InvT-loop
 Inv-loop numbers from i₀ i = noNumbers (drop from numbers) ≡ noNumbers (drop i numbers)

@@ -1,13 +1,13 @@
--- `records::write_record` meets its contract: the line is spelled before the buffer is touched. Assumes nothing.
+-- `record_writer::write_record` meets its contract: the line is spelled before the buffer is touched. Assumes nothing.
 use mathlib.Core.Path.{_≡_, sym, _∙_}
 use native.Mathlib.Nat.{le-of-eq}
 use lib.ListN.{length}
 use lib.Seq.{take-all}
 use borrow.Author.Needs.{needs}
 use borrow.Author.Tests.{not-true, not-false}
-use Rattle.records.proofs.Lines.{written-short, written-unfit, written-all}
-use Rattle.records.proofs.write_record.Statement.{statement}
-use Rattle.records.proofs.write_record.Tie as tie
+use Rattle.record_writer.proofs.Lines.{written-short, written-unfit, written-all}
+use Rattle.record_writer.proofs.write_record.Statement.{statement}
+use Rattle.record_writer.proofs.write_record.Tie as tie
 
 -- the line is an array of 74
 line-74 : (c : tie.After-spell-record) → length (c .spell-record .result .line) ≡ 74

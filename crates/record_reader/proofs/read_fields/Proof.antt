@@ -1,4 +1,4 @@
--- `records::read_fields` meets its contract. The loop's invariant, `Going`: the fields that are left give the answer of the whole.
+-- `record_reader::read_fields` meets its contract. The loop's invariant, `Going`: the fields that are left give the answer of the whole.
 -- Assumes nothing.
 use denote.Ref.{now}
 use mathlib.Core.Path.{_≡_, refl, sym, _∙_}
@@ -8,13 +8,13 @@ use lib.ListN.{length, getD}
 use mir.Facts.{toZ-ofZ}
 use mir.Syntax.{w32}
 use borrow.Author.Needs.{needs}
 use Rattle.records.specs.Layout.{layoutOf}
 use Rattle.records.specs.declared.Field.the-variants.{End, Letters, Number, Name, Blank}
 use Rattle.fields.proofs.Places.{inside-bounds}
 use Rattle.records.proofs.Layouts.{Room}
-use Rattle.records.proofs.Along.{Going, start, room, accept, letters-refused, letters-next, number-refused, number-next, name-refused, name-inside, name-next, part-length, blank-refused, blank-next}
-use Rattle.records.proofs.read_fields.Statement.{statement}
-use Rattle.records.proofs.read_fields.Tie as tie
+use Rattle.record_reader.proofs.Along.{Going, start, room, accept, letters-refused, letters-next, number-refused, number-next, name-refused, name-inside, name-next, part-length, blank-refused, blank-next}
+use Rattle.record_reader.proofs.read_fields.Statement.{statement}
+use Rattle.record_reader.proofs.read_fields.Tie as tie
 
 abbrev Inv-loop : tie.InvT-loop
 Inv-loop kind s numbers₀ name₀ n₀ m₀ j₀ numbers name n m j = Going (layoutOf kind) s numbers name n m j

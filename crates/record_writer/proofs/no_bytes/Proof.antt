@@ -1,4 +1,4 @@
--- `records::no_bytes` meets its contract. The loop's invariant: what is left is 0 exactly if the whole is. Assumes nothing.
+-- `record_writer::no_bytes` meets its contract. The loop's invariant: what is left is 0 exactly if the whole is. Assumes nothing.
 use denote.Ref.{now}
 use mathlib.Core.Path.{_≡_, refl, sym, _∙_}
 use Prim.Native.Nat.{_-_}
@@ -6,10 +6,10 @@ use lib.Dec.{eqb}
 use lib.ListN.{length, drop}
 use borrow.Author.Needs.{needs}
 use borrow.Author.Tests.{eq-eqb, ne-eqb}
 use Rattle.records.specs.Writing.{noBytes}
-use Rattle.records.proofs.Unused.{every-end, every-more, every-stop}
-use Rattle.records.proofs.no_bytes.Statement.{statement}
-use Rattle.records.proofs.no_bytes.Tie as tie
+use Rattle.record_writer.proofs.Unused.{every-end, every-more, every-stop}
+use Rattle.record_writer.proofs.no_bytes.Statement.{statement}
+use Rattle.record_writer.proofs.no_bytes.Tie as tie
 
 abbrev Inv-loop : tie.InvT-loop
 Inv-loop name from i₀ i = noBytes (drop from name) ≡ noBytes (drop i name)

@@ -1,4 +1,4 @@
--- `records::spell_record` meets its contract. The loop's invariant, `Lines`: the columns so far are written, and what is left decides.
+-- `record_writer::spell_record` meets its contract. The loop's invariant, `Lines`: the columns so far are written, and what is left decides.
 -- Assumes nothing.
 use mathlib.Core.Path.{_≡_, refl, sym, _∙_}
 use Prim.Native.Nat.{_-_}
@@ -7,13 +7,13 @@ use lib.ListN.{length, getD}
 use mir.Facts.{toZ-ofZ}
 use mir.Syntax.{w32}
 use borrow.Author.Needs.{needs}
 use Rattle.records.specs.Layout.{layoutOf}
 use Rattle.records.specs.Writing.{fitsAll, recordBytes}
 use Rattle.records.specs.declared.Field.the-variants.{End, Letters, Number, Name, Blank}
 use Rattle.records.proofs.Layouts.{Room}
-use Rattle.records.proofs.Lines.{refused-line, Lines, start, room, ends, letters-next, number-next, number-unfit, name-next, name-unfit, blank-next}
-use Rattle.records.proofs.spell_record.Statement.{statement}
-use Rattle.records.proofs.spell_record.Tie as tie
+use Rattle.record_writer.proofs.Lines.{refused-line, Lines, start, room, ends, letters-next, number-next, number-unfit, name-next, name-unfit, blank-next}
+use Rattle.record_writer.proofs.spell_record.Statement.{statement}
+use Rattle.record_writer.proofs.spell_record.Tie as tie
 
 abbrev Inv-loop : tie.InvT-loop
 Inv-loop kind numbers name line₀ n₀ m₀ j₀ line n m j = Lines (layoutOf kind) numbers name line n m j

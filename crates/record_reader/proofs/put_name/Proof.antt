@@ -1,4 +1,4 @@
--- `records::put_name` meets its contract. The loop's invariant: the first `i` bytes are stored. Assumes nothing.
+-- `record_reader::put_name` meets its contract. The loop's invariant: the first `i` bytes are stored. Assumes nothing.
 use denote.Ref.{now}
 use mathlib.Core.Path.{_≡_, refl, ap, _∙_}
 use Prim.Native.Nat.{_≤_, _-_, _+_}
@@ -6,9 +6,9 @@ use native.Mathlib.Omega.{arith}
 use lib.ListN.{length, getD, take, set, length-set}
 use lib.Seq.{sets, take-length}
 use borrow.Author.Needs.{needs}
-use Rattle.records.proofs.Along.{sets-next}
-use Rattle.records.proofs.put_name.Statement.{statement}
-use Rattle.records.proofs.put_name.Tie as tie
+use Rattle.record_reader.proofs.Along.{sets-next}
+use Rattle.record_reader.proofs.put_name.Statement.{statement}
+use Rattle.record_reader.proofs.put_name.Tie as tie
 
 abbrev Inv-loop : tie.InvT-loop
 Inv-loop m p longer₀ i₀ longer i = (length longer ≡ 40) × (i ≤ length p) × (longer ≡ sets longer₀ m (take i p))

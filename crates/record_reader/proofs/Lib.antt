@@ -1,0 +1,2 @@
+-- What the proofs of `record_reader` go by.
+mod Along
