@@ -127,7 +127,7 @@ slot-by file t l a x count left r i e p q m z four five =
     let y : 12 * (r - (x + 1)) + i ≡ e = omega arith in
     record {
       known = rw (← p, ← q) (entry-named file l r four i m);
-      once = rw (← p, ← q) (rw (z, y) at (entry-once file t l a count left r five i m));
+      once = rw (z, y) at (entry-once file t l a count left r five i m);
       own = rw (← p, ← q) (entry-own file t l a count left r five i m);
     }
 

@@ -1,31 +1,35 @@
+-- `loops::joins` meets its contract: it compares the two nodes of the definition. Assumes nothing.
+use mathlib.Core.Path.{sym}
+use Rattle.permitted.proofs.Signs.{own-told}
+use Rattle.links.specs.Links.{equal, endNode}
+use Rattle.links.proofs.Numbers.{told, told-both}
+use Rattle.loops.specs.Loops.{lastNode, joins}
 use borrow.Author.Needs.{needs}
 use Rattle.loops.proofs.joins.Statement.{statement}
 use Rattle.loops.proofs.joins.Tie as tie
-use Rattle.loops.proofs.joins.Reads as reads
-use Rattle.loops.proofs.joins.Lts as lts
-use Rattle.links.proofs.equal.Reads as equal-reads
-use Rattle.links.proofs.on_hand.Reads as on-hand-reads
-use Rattle.loops.proofs.entry_before.Reads as entry-before-reads
 
--- src/lib.rt:102:9
 entry-before-requires : tie.Need-entry-before-requires
 entry-before-requires c κs = search needs
 
--- src/lib.rt:103:9
 on-hand-requires : tie.Need-on-hand-requires
 on-hand-requires c κs = search needs
 
--- src/lib.rt:104:9
 on-hand-requires-2 : tie.Need-on-hand-requires-2
 on-hand-requires-2 c κs = search needs
 
--- src/lib.rt:105:5
 equal-requires : tie.Need-equal-requires
 equal-requires c κs = search needs
 
--- src/lib.rt:99:1
 returns : tie.Need-returns
-returns c = search needs
+unfolding joins endNode lastNode
+returns c =
+    let p = c .before in
+    let q = p .before in
+    let w = q .before in
+    let a = w .before .before .before in
+    let first = own-told (endNode _ _ _) (a .fits .v) (p .on-hand2 .ensures) in
+    let last = told (lastNode _ _ _) (w .entry-before .ok) (w .entry-before .ensures) (q .on-hand .ensures) in
+    sym (told-both equal (p .on-hand2 .ok) first (q .on-hand .ok) last (c .equal .ensures))
 
 pub joins-spec : {M : Type 1} → statement M
 joins-spec =

@@ -1,42 +1,39 @@
+-- `loops::repeat_in` meets its contract: a record whose slots are all known to repeat none needs no scan. Assumes nothing.
+use native.Mathlib.Omega.{arith}
+use Rattle.loops.proofs.Repeats.{repeats-none}
 use borrow.Author.Needs.{needs}
 use Rattle.loops.proofs.repeat_in.Statement.{statement}
 use Rattle.loops.proofs.repeat_in.Tie as tie
-use Rattle.loops.proofs.repeat_in.Reads as reads
-use Rattle.loops.proofs.repeat_in.Lts as lts
-use Rattle.links.proofs.first_repeat.Reads as first-repeat-reads
-use Rattle.walk.proofs.less.Reads as less-reads
 
--- src/lib.rt:79:35
 add-less : tie.Need-add-less
 add-less c = search needs
 
--- src/lib.rt:79:21
 less-requires : tie.Need-less-requires
 less-requires c κs = search needs
 
--- src/lib.rt:79:16
 mul-from : tie.Need-mul-from
 mul-from c = search needs
 
--- src/lib.rt:80:8
 add-if1 : tie.Need-add-if1
 add-if1 c = search needs
 
--- src/lib.rt:81:9
 returns : tie.Need-returns
-returns c = search needs
+returns c =
+    let s = c .before in
+    let a = s .before .before in
+    rw (← s .less .ensures) (repeats-none _ _ _ (a .pre .2) (c .if1 .taken))
 
--- src/lib.rt:83:44
 add-first-repeat : tie.Need-add-first-repeat
 add-first-repeat c = search needs
 
--- src/lib.rt:83:5
 first-repeat-requires : tie.Need-first-repeat-requires
 first-repeat-requires c κs = search needs
 
--- src/lib.rt:75:1
 returns-2 : tie.Need-returns-2
-returns-2 c = search needs
+returns-2 c =
+    let s = c .before .before in
+    let a = s .before .before in
+    rw (← s .less .ensures) (c .first-repeat .ensures (omega (arith, s .less .ensures, a .pre .1)))
 
 pub repeat-in-spec : {M : Type 1} → statement M
 repeat-in-spec =
