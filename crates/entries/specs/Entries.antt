@@ -1,4 +1,4 @@
--- The entries of a loop and of an area (RULES 2.3, 2.6, 4.7): a loop record has its line count at 6 and twelve slots of width 5 from 10 on,
+-- The entries of a loop and of an area (RULES 2.3, 2.6, 4.7): a loop record has its line count and twelve slots,
 -- and a loop of n lines takes n/12 records, rounded up. An area's loops follow its A one after another, so its slots stand in one
 -- row, twelve a record. A slot that is 0 is no entry (RULES 1.3); those past the count are 0 (RULES 5.9). Assumes nothing.
 --   slotOf file f e      slot e, counted from 0, of the loop records from record f on (links)
@@ -11,7 +11,7 @@
 use mathlib.Core.List.{List, [], _∷_, _++_}
 use Prim.Native.Nat.{ℕ, zero, suc, _+_, _*_, _-_, _/_}
 use lib.IntN.{ℤ, pos, negsuc}
-use Rattle.records.specs.View.{numberIn}
+use Rattle.records.specs.Columns.{areaLoops, loopCount, valueAt}
 use Rattle.permitted.specs.Permitted.{size}
 use Rattle.measures.specs.Measures.{Entry, plus, minus}
 unfoldable pub use Rattle.links.specs.Links.{slotOf}
@@ -32,13 +32,13 @@ entriesTo file f (suc n) = entriesTo file f n ++ entryOf (slotOf file f n)
 unfoldable pub recordsFor : ℕ → ℕ
 recordsFor n = (n - 1) / 12 + 1
 
--- RULES 4.7: a loop's line count, at 6
+-- RULES 4.7: a loop's line count
 unfoldable pub countAt : List ℕ → ℕ → ℕ
-countAt file f = size (numberIn file f 6 4)
+countAt file f = size (valueAt file f loopCount)
 
--- RULES 4.6: an A's loops, at 25
+-- RULES 4.6: an A's loops
 unfoldable pub loopsAt : List ℕ → ℕ → ℕ
-loopsAt file a = size (numberIn file a 25 4)
+loopsAt file a = size (valueAt file a areaLoops)
 
 -- RULES 2.3, 2.6: each loop begins behind the one before it, the first behind the A
 unfoldable pub recordsTo : List ℕ → ℕ → ℕ → ℕ

@@ -29,7 +29,7 @@ fn records_for(n: usize) -> usize
 pub fn count_at(file: &[u8], f: usize) -> usize
     ensures { λ r. ⌜ (r ≡ countAt (now (file .entry)) f) × (r ≤ 9999) ⌝ }
 {
-    permitted::size(records::number_at(file, f, 6, 4))
+    permitted::size(records::value_at(file, f, records::LOOP_COUNT))
 }
 
 // The records of the loop whose first one is `f`.
@@ -43,7 +43,7 @@ pub fn loop_records(file: &[u8], f: usize) -> usize
 pub fn loops_at(file: &[u8], a: usize) -> usize
     ensures { λ r. ⌜ (r ≡ loopsAt (now (file .entry)) a) × (r ≤ 9999) ⌝ }
 {
-    permitted::size(records::number_at(file, a, 25, 4))
+    permitted::size(records::value_at(file, a, records::AREA_LOOPS))
 }
 
 // The slots of the area whose A is record `a`.

@@ -10,8 +10,7 @@ use lib.Dec.{eqb}
 use lib.IntN.{ℤ, pos, negsuc}
 use lib.ListN.{getD}
 use borrow.Author.Tests.{eqb-true}
-use Rattle.records.specs.View.{numberIn}
-use Rattle.records.specs.Columns.{leftArea, rightArea, valueAt}
+use Rattle.records.specs.Columns.{Span, spanOf, numberOn, leftArea, rightArea, valueAt}
 use Rattle.verdict.specs.declared.Verdict.the-variants.{Fine}
 use Rattle.verdict.specs.Rules.{firstBroken}
 use Rattle.verdict.proofs.Holding.{row-fine, Holding, all-hold}
@@ -86,11 +85,11 @@ names-natural n (negsuc i) h = absurd (by (eqb (suc i) 0) refl h)
     by false e h = false≢true h
 
 -- 18 of the side whose area, not 0, stands at column c
-side-lists : (file t : List ℕ) (l : layers.Layer) (r c : ℕ) (back : Bool) (n : ℕ)
-    → (isZero (numberIn file r c 5) || names (l .areas) (numberIn file r c 5)) ≡ true → sideListed file t l r c back n ≡ true → 0 < size (numberIn file r c 5)
-    → lists file (areaOf t l (pos (size (numberIn file r c 5)))) back n ≡ true
+side-lists : (file t : List ℕ) (l : layers.Layer) (r : ℕ) (c : Span) (back : Bool) (n : ℕ)
+    → (isZero (numberOn file r c) || names (l .areas) (numberOn file r c)) ≡ true → sideListed file t l r c back n ≡ true → 0 < size (numberOn file r c)
+    → lists file (areaOf t l (pos (size (numberOn file r c)))) back n ≡ true
 unfolding sideListed
-side-lists file t l r c back n e h a = by (numberIn file r c 5) (isZero (numberIn file r c 5)) refl e h a
+side-lists file t l r c back n e h a = by (numberOn file r c) (isZero (numberOn file r c)) refl e h a
   where
     by : (v : ℤ) (b : Bool) → isZero v ≡ b → (isZero v || names (l .areas) v) ≡ true → (b || lists file (areaOf t l v) back n) ≡ true → 0 < size v
         → lists file (areaOf t l (pos (size v))) back n ≡ true
@@ -106,8 +105,8 @@ kept-by file t l r n e four six =
     record {
       left = rw e (names-most (l .areas) (valueAt file r leftArea) p);
       right = rw e (names-most (l .areas) (valueAt file r rightArea) q);
-      leftLists = rw e (side-lists file t l r 35 true n p (left-listed file t l r n six));
-      rightLists = rw e (side-lists file t l r 45 false n q (right-listed file t l r n six));
+      leftLists = rw e (side-lists file t l r (spanOf leftArea) true n p (left-listed file t l r n six));
+      rightLists = rw e (side-lists file t l r (spanOf rightArea) false n q (right-listed file t l r n six));
     }
 
 pub line-kept : (file : List ℕ) → Passed file → (i m k : ℕ) → RecordAt lines file i m k → LineKept file (tableOf file) (layerOf file i) (suc m)

@@ -9,8 +9,9 @@ use lib.Signed.{mag}
 use mir.Syntax.{w32}
 use mir.Val.{toZ, ofZ, hbits}
 use borrow.Author.Tests.{not-true, not-false, lt-ltb, le-ltb, le-leb, lt-leb, eq-eqb, ne-eqb}
-use Rattle.records.specs.Columns.{Span, numberOn, valueAt, slotColumn, slotAt}
+use Rattle.records.specs.Columns.{Row, rowSpanOf, slotStart, Span, numberOn, valueAt, slotColumn, slotAt}
 use Rattle.records.specs.Columns as column
+use Rattle.records.proofs.Named.{start-there}
 use Rattle.verdict.specs.declared.Verdict.{Verdict}
 use Rattle.verdict.specs.declared.Verdict.the-variants.{Fine, Broken}
 use Rattle.verdict.specs.Rules.{Check, check, firstBroken, block, rows}
@@ -90,6 +91,13 @@ module _ (file : List ℕ) (r : ℕ) (back : Bool) (n : ℕ) where
 
     pub listed-pass : some i (slotIs file r back n) ≡ false → b ≡ false → some (i + 1) (slotIs file r back n) ≡ false
     listed-pass h t = some-more i (slotIs file r back n) h (told (entryIs back n) ok e q ∙ t)
+
+-- ---- a refusal of a slot
+
+-- it stands where the slot of the row r starts
+pub slot-told : (r : Row) {number row i : ℕ} {x : Verdict} → i < rowSpanOf r .count
+    → x ≡ Broken number row (slotStart (rowSpanOf r .start) (rowSpanOf r .step) (rowSpanOf r .count) i) → x ≡ Broken number row (slotColumn r i)
+slot-told r {number} {row} {i} h e = e ∙ ap (Broken number row) (start-there (rowSpanOf r .start) (rowSpanOf r .step) (rowSpanOf r .count) i h)
 
 -- ---- one end of a line
 

@@ -4,7 +4,7 @@ use mathlib.Core.List.{List, [], _∷_, _++_}
 use mathlib.Core.Path.{refl}
 use Prim.Native.Nat.{ℕ, _+_}
 use lib.Dec.{ltb}
-use Rattle.records.specs.View.{numberIn}
+use Rattle.records.specs.Columns.{valueAt, loopSerial}
 use Rattle.verdict.specs.Rules.{check, spread}
 use Rattle.verdict.specs.Order.{Sorted}
 use Rattle.verdict.proofs.Numbers.{tenTo18, Numbered}
@@ -30,7 +30,7 @@ by-orderly file t l a area f r false x = (refl, refl)
 loop-orderly : (file t : List ℕ) (l : Layer) (area count left r : ℕ) → Orderly (loopChecks file t l area count left r)
 unfolding loopChecks windChecks
 loop-orderly file t l area count left r =
-    by-orderly file t l (areaRecord t l area) area (firstRecord r count left) r (ltb 0 left) (winds (numberIn file r 1 5) (loopMeasureIn file t l r))
+    by-orderly file t l (areaRecord t l area) area (firstRecord r count left) r (ltb 0 left) (winds (valueAt file r loopSerial) (loopMeasureIn file t l r))
 
 area-orderly : (d : Due) (file t : List ℕ) (l : Layer) (area r : ℕ) → Orderly (areaChecks d file t l area r)
 area-orderly (due.Mesh last) file t l area r = (refl, refl)

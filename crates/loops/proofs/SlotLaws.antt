@@ -10,7 +10,7 @@ use mir.Facts.{toZ-ofZ}
 use mir.Syntax.{w64}
 use mir.Val.{toZ, ofZ, hbits}
 use borrow.Author.Tests.{not-true, not-false, lt-ltb, le-ltb}
-use Rattle.records.specs.View.{numberIn}
+use Rattle.records.specs.Columns.{valueAt, loopSerial, loopEntries, slotColumn}
 use Rattle.verdict.specs.declared.Verdict.{Verdict}
 use Rattle.verdict.specs.declared.Verdict.the-variants.{Fine, Broken}
 use Rattle.verdict.specs.Rules.{Check, check, firstBroken, block, spread}
@@ -37,7 +37,7 @@ module _ (file t : List ℕ) (l : Layer) (a area f r i : ℕ) where
   abbrev isClean : Bool
   isClean = clean (slotOf file (a + 1)) (slotFrom (a + 1) r i)
 
-  pub slot-thirteen : {x : Verdict} → x ≡ Broken 13 r (10 + 5 * i) → isClean ≡ false → x ≡ judged
+  pub slot-thirteen : {x : Verdict} → x ≡ Broken 13 r (slotColumn loopEntries i) → isClean ≡ false → x ≡ judged
   unfolding loopSlot firstBroken block clean repeatsArea
   slot-thirteen v d = v ∙ rw d
 
@@ -46,7 +46,7 @@ module _ (file t : List ℕ) (l : Layer) (a area f r i : ℕ) where
   unfolding loopSlot clean repeatsArea
   slot-clean = first isClean _
     where
-      first : (b : Bool) (cs : List Check) → firstBroken (block sixth r (check (10 + 5 * i) 13 b ∷ cs)) ≡ Fine → b ≡ true
+      first : (b : Bool) (cs : List Check) → firstBroken (block sixth r (check (slotColumn loopEntries i) 13 b ∷ cs)) ≡ Fine → b ≡ true
       first true cs h = refl
       first false cs h = fine-broken h (check-broken sixth r _ 13 false cs refl)
 
@@ -61,7 +61,7 @@ module _ (file t : List ℕ) (l : Layer) (a area f r i : ℕ) where
       joined : joins file t l f (slotFrom f r i) (loopEntry file r i) ≡ b
       joined = asked (joins file t l f (slotFrom f r i)) ok e (rw g at q) refl
 
-      pub slot-fifteen : {x : Verdict} → x ≡ Broken 15 r (10 + 5 * i) → not b ≡ true → x ≡ judged
+      pub slot-fifteen : {x : Verdict} → x ≡ Broken 15 r (slotColumn loopEntries i) → not b ≡ true → x ≡ judged
       unfolding loopSlot firstBroken block clean repeatsArea
       slot-fifteen v u = v ∙ rw (d, asked isZero ok e p h, joined, not-true b u)
 
@@ -70,7 +70,7 @@ module _ (file t : List ℕ) (l : Layer) (a area f r i : ℕ) where
         right : is area (rightArea file t l (loopEntry file r i)) ≡ k
         right = asked (is area) okw (told (rightArea file t l) ok e ew) n refl
 
-        pub slot-seventeen : {x : Verdict} → x ≡ Broken 17 r (10 + 5 * i) → not k ≡ true → x ≡ judged
+        pub slot-seventeen : {x : Verdict} → x ≡ Broken 17 r (slotColumn loopEntries i) → not k ≡ true → x ≡ judged
         unfolding loopSlot firstBroken block clean repeatsArea
         slot-seventeen v m = v ∙ rw (d, asked isZero ok e p h, joined, not-false b u, right, not-true k m)
 
@@ -87,9 +87,9 @@ module _ (file : List ℕ) (x : ℤ) (r left : ℕ) where
   wind-none h = rw (lt-ltb 0 left h) (check-none sixth r)
 
   -- it begins there: z is its serial, m its measure x, and b says whether they fit
-  module _ (h : left ≤ 0) {z m : ℤ} {b : Bool} (ok : Small z) (e : z ≡ numberIn file r 1 5) (okm : mag m < 2 ^ hbits w64) (em : m ≡ x)
+  module _ (h : left ≤ 0) {z m : ℤ} {b : Bool} (ok : Small z) (e : z ≡ valueAt file r loopSerial) (okm : mag m < 2 ^ hbits w64) (em : m ≡ x)
       (q : b ≡ winds (passed z) (toZ w64 (ofZ w64 m))) where
-    wound : winds (numberIn file r 1 5) x ≡ b
+    wound : winds (valueAt file r loopSerial) x ≡ b
     wound = asked (λ v. winds v x) ok e (q ∙ rw (toZ-ofZ {w = w64} {z = m} (record { sfits = okm }), em)) refl
 
     pub wind-broken : not b ≡ true → Broken 16 r 1 ≡ firstBroken (block sixth r (windChecks file x r left))

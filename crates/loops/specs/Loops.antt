@@ -13,7 +13,7 @@ use lib.Dec.{eqb, ltb}
 use lib.IntN.{ℤ, pos}
 use lib.ListN.{getD}
 use lib.Signed.{ltZ}
-use Rattle.records.specs.View.{numberIn}
+use Rattle.records.specs.Columns.{columnOf, valueAt, loopSerial, loopEntries, slotColumn}
 use Rattle.records.specs.Columns as column
 use Rattle.verdict.specs.Rules.{Rule, Check, check, spread}
 use Rattle.permitted.specs.Permitted.{natural, is, isZero}
@@ -58,9 +58,9 @@ slotFrom f r i = 12 * (r - f) + i
 -- that is 0 is no entry (RULES 1.3)
 unfoldable pub loopSlot : List ℕ → List ℕ → layers.Layer → ℕ → ℕ → ℕ → ℕ → ℕ → List Check
 loopSlot file t l a area f r i =
-    check (10 + 5 * i) 13 (isZero (slotOf file (a + 1) (slotFrom (a + 1) r i)) || not (repeatsArea file a (slotFrom (a + 1) r i)))
-    ∷ check (10 + 5 * i) 15 (isZero (loopEntry file r i) || joins file t l f (slotFrom f r i) (loopEntry file r i))
-    ∷ check (10 + 5 * i) 17 (isZero (loopEntry file r i) || is area (rightArea file t l (loopEntry file r i)))
+    check (slotColumn loopEntries i) 13 (isZero (slotOf file (a + 1) (slotFrom (a + 1) r i)) || not (repeatsArea file a (slotFrom (a + 1) r i)))
+    ∷ check (slotColumn loopEntries i) 15 (isZero (loopEntry file r i) || joins file t l f (slotFrom f r i) (loopEntry file r i))
+    ∷ check (slotColumn loopEntries i) 17 (isZero (loopEntry file r i) || is area (rightArea file t l (loopEntry file r i)))
     ∷ []
 
 -- ---- the loop
@@ -72,7 +72,7 @@ winds serial m = cond (natural serial) (ltZ (pos 0) m) (ltZ m (pos 0))
 -- RULES 6.8, 16: the measure m of a loop has the sign of its serial; at column 1 of its first record. Entries are left of a loop that has
 -- begun
 unfoldable pub windChecks : List ℕ → ℤ → ℕ → ℕ → List Check
-windChecks file m r left = cond (ltb 0 left) [] (check 1 16 (winds (numberIn file r 1 5) m) ∷ [])
+windChecks file m r left = cond (ltb 0 left) [] (check (columnOf loopSerial) 16 (winds (valueAt file r loopSerial) m) ∷ [])
 
 -- RULES 2.6: the loop's first record: of its `count` entries `left` are left, twelve a record
 unfoldable pub firstRecord : ℕ → ℕ → ℕ → ℕ

@@ -12,6 +12,7 @@ ghost use mathlib.Core.Path.{_≡_};
 ghost use mathlib.Core.Bool.{not};
 ghost use Prim.Native.Nat.{_+_, _*_, _-_, _≤_, _<_};
 ghost use lib.ListN.{length};
+ghost use Rattle.records.specs.Columns.{loopEntries, slotColumn};
 ghost use Rattle.verdict.specs.declared.Verdict.the-variants.{Broken};
 ghost use Rattle.verdict.specs.Rules.{firstBroken, block, spread};
 ghost use Rattle.layers.specs.Passing.{isLayer};
@@ -108,13 +109,9 @@ fn joins(file: &[u8], table: &[u32], l: Layer, f: usize, e: usize, v: i32) -> bo
 // A refusal of slot `i`.
 fn broken(number: u32, r: usize, i: usize) -> Verdict
     requires { ⌜ (r ≤ 6399936) × (i < 12) ⌝ }
-    ensures { λ x. ⌜ x ≡ Broken number r (10 + 5 * i) ⌝ }
+    ensures { λ x. ⌜ x ≡ Broken number r (slotColumn loopEntries i) ⌝ }
 {
-    Verdict::Broken {
-        number,
-        record: r as u32,
-        column: (10 + 5 * i) as u32,
-    }
+    links::slot_broken(number, r as u32, records::LOOP_ENTRIES, i)
 }
 
 // Slot `i` of the loop record `r`, of the area `area`, in the loop whose first record is `f`; `again` says
@@ -200,7 +197,7 @@ fn judge_winding(file: &[u8], l: Layer, kept: &[i64], left: usize, r: usize) -> 
     if 0 < left {
         return Verdict::Fine;
     }
-    let serial = records::number_at(file, r, 1, 5);
+    let serial = records::value_at(file, r, records::LOOP_SERIAL);
     let m = entries::loop_measure(file, l, kept, r);
     if !winds(serial, m) {
         return Verdict::Broken {

@@ -311,7 +311,7 @@ pub fn record_view(file: &[u8], k: usize) -> &[u8]
 
 // The number in the `width` columns from `column` on of record `k` of a file, and 0 where there is
 // none. Its bytes are taken from the file and not from the record's view, for speed alone.
-pub fn number_at(file: &[u8], k: usize, column: usize, width: usize) -> i32
+fn number_at(file: &[u8], k: usize, column: usize, width: usize) -> i32
     ensures { λ r. ⌜ r ≡ numberIn (now (file .entry)) k column width ⌝ }
 {
     if k == 0 {

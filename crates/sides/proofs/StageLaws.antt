@@ -10,7 +10,8 @@ use lib.Signed.{mag}
 use mir.Syntax.{w32}
 use mir.Val.{toZ, ofZ, hbits}
 use borrow.Author.Tests.{not-true, not-false}
-use Rattle.records.specs.View.{recordOf, numberIn}
+use Rattle.records.specs.View.{recordOf}
+use Rattle.records.specs.Columns.{Span, spanOf, columnOf, numberOn, leftArea, rightArea}
 use Rattle.verdict.specs.declared.Verdict.the-variants.{Fine, Broken}
 use Rattle.verdict.specs.Rules.{firstBroken, block}
 use Rattle.verdict.proofs.Parts.{check-none, check-kept, check-broken}
@@ -32,8 +33,8 @@ use Rattle.sides.specs.Marking.{LineCountable}
 
 -- ---- a side: z is its area number, and y says whether it is 0
 
-module _ (file t : List ℕ) (l : Layer) (r c : ℕ) (back : Bool) (n : ℕ) {z : ℤ} {y : Bool}
-    (ok : mag z < 2 ^ hbits w32) (e : z ≡ numberIn file r c 5) (h : y ≡ isZero (toZ w32 (ofZ w32 z))) where
+module _ (file t : List ℕ) (l : Layer) (r : ℕ) (c : Span) (back : Bool) (n : ℕ) {z : ℤ} {y : Bool}
+    (ok : mag z < 2 ^ hbits w32) (e : z ≡ numberOn file r c) (h : y ≡ isZero (toZ w32 (ofZ w32 z))) where
   pub side-none : y ≡ true → true ≡ sideListed file t l r c back n
   unfolding sideListed
   side-none u = rw (asked isZero ok e h u)
@@ -44,19 +45,19 @@ module _ (file t : List ℕ) (l : Layer) (r c : ℕ) (back : Bool) (n : ℕ) {z 
 
 -- ---- both sides of a line: a and b say whether they are listed
 
-module _ (file t : List ℕ) (l : Layer) (r n : ℕ) {a : Bool} (p : a ≡ sideListed file t l r 35 true n) where
-  pub line-left : not a ≡ true → Broken 18 r 35 ≡ firstBroken (block seventh r (listChecks file t l r n))
+module _ (file t : List ℕ) (l : Layer) (r n : ℕ) {a : Bool} (p : a ≡ sideListed file t l r (spanOf leftArea) true n) where
+  pub line-left : not a ≡ true → Broken 18 r (columnOf leftArea) ≡ firstBroken (block seventh r (listChecks file t l r n))
   unfolding listChecks
-  line-left h = sym (check-broken seventh r 35 18 _ _ (sym p ∙ not-true a h))
+  line-left h = sym (check-broken seventh r (columnOf leftArea) 18 _ _ (sym p ∙ not-true a h))
 
-  module _ {b : Bool} (h : not a ≡ false) (q : b ≡ sideListed file t l r 45 false n) where
-    pub line-right : not b ≡ true → Broken 18 r 45 ≡ firstBroken (block seventh r (listChecks file t l r n))
+  module _ {b : Bool} (h : not a ≡ false) (q : b ≡ sideListed file t l r (spanOf rightArea) false n) where
+    pub line-right : not b ≡ true → Broken 18 r (columnOf rightArea) ≡ firstBroken (block seventh r (listChecks file t l r n))
     unfolding listChecks
-    line-right g = sym (check-kept seventh r 35 18 _ _ (sym p ∙ not-false a h) ∙ check-broken seventh r 45 18 _ [] (sym q ∙ not-true b g))
+    line-right g = sym (check-kept seventh r (columnOf leftArea) 18 _ _ (sym p ∙ not-false a h) ∙ check-broken seventh r (columnOf rightArea) 18 _ [] (sym q ∙ not-true b g))
 
     pub line-fine : not b ≡ false → Fine ≡ firstBroken (block seventh r (listChecks file t l r n))
     unfolding listChecks
-    line-fine g = check-none seventh r ∙ sym (check-kept seventh r 35 18 _ _ (sym p ∙ not-false a h) ∙ check-kept seventh r 45 18 _ [] (sym q ∙ not-false b g))
+    line-fine g = check-none seventh r ∙ sym (check-kept seventh r (columnOf leftArea) 18 _ _ (sym p ∙ not-false a h) ∙ check-kept seventh r (columnOf rightArea) 18 _ [] (sym q ∙ not-false b g))
 
 -- ---- a line can be counted, since an H's number of lines has at most 6 digits
 

@@ -7,7 +7,7 @@
 use mathlib.Core.Bool.{Bool, true, false, _||_}
 use mathlib.Core.List.{List, [], _∷_}
 use Prim.Native.Nat.{ℕ, _+_}
-use Rattle.records.specs.View.{numberIn}
+use Rattle.records.specs.Columns.{Span, spanOf, columnOf, numberOn, leftArea, rightArea}
 use Rattle.verdict.specs.Rules.{Rule, Check, check}
 use Rattle.rules.specs.declared.Due.{Due}
 use Rattle.rules.specs.declared.Due.the-variants.{Mesh, Layer, Node, Line, Coordinates, Area, Loop}
@@ -25,15 +25,15 @@ use Rattle.entries.specs.Entries.{slotOf, slotsOf}
 unfoldable pub lists : List ℕ → ℕ → Bool → ℕ → Bool
 lists file a back n = some (slotsOf file a) (λ e. entryIs back n (slotOf file (a + 1) e))
 
--- RULES 6.9, 18: line n's area at column c is 0, or has +n or, backwards, -n
-unfoldable pub sideListed : List ℕ → List ℕ → layers.Layer → ℕ → ℕ → Bool → ℕ → Bool
-sideListed file t l r c back n = isZero (numberIn file r c 5) || lists file (areaOf t l (numberIn file r c 5)) back n
+-- RULES 6.9, 18: line n's area in the columns c is 0, or has +n or, backwards, -n
+unfoldable pub sideListed : List ℕ → List ℕ → layers.Layer → ℕ → Span → Bool → ℕ → Bool
+sideListed file t l r c back n = isZero (numberOn file r c) || lists file (areaOf t l (numberOn file r c)) back n
 
--- RULES 6.9, 18: line n's left area, at 35, is 0 or has the entry -n; its right area, at 45, is 0 or has +n
+-- RULES 6.9, 18: line n's left area is 0 or has the entry -n; its right area is 0 or has +n
 unfoldable pub listChecks : List ℕ → List ℕ → layers.Layer → ℕ → ℕ → List Check
 listChecks file t l r n =
-    check 35 18 (sideListed file t l r 35 true n)
-    ∷ check 45 18 (sideListed file t l r 45 false n)
+    check (columnOf leftArea) 18 (sideListed file t l r (spanOf leftArea) true n)
+    ∷ check (columnOf rightArea) 18 (sideListed file t l r (spanOf rightArea) false n)
     ∷ []
 
 -- RULES 6.9: record r, due as d, in the layer l; the line behind line `last` is the next

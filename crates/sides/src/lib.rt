@@ -4,11 +4,14 @@
 // The contracts cite `specs/`: `Sides` has the rules of the stage, `Marking` the marks that spare searches.
 use layers::Bases;
 use layers::Layer;
+use records::Columns;
 use rules::Due;
 use verdict::Verdict;
 ghost use mathlib.Core.Path.{_≡_};
 ghost use Prim.Native.Nat.{_≤_};
+ghost use Rattle.verdict.specs.declared.Verdict.the-variants.{Broken};
 ghost use Rattle.verdict.specs.Rules.{firstBroken, block};
+ghost use Rattle.records.specs.Columns.{spanFrom};
 ghost use Rattle.sides.specs.Sides.{lists, sideListed, listChecks, lineListChecks, seventh, stageSix};
 ghost use Rattle.sides.specs.Marking.{markAt, Marks, putMark, bears, LineCountable};
 
@@ -108,25 +111,37 @@ fn has_entry(file: &[u8], a: usize, back: bool, n: usize, marks: &[usize]) -> bo
     lists(file, a, back, n)
 }
 
-// Whether the area at column `c` of the L at record `r` has line `n`'s entry; area 0 is nobody.
+// Whether the area in the columns `c` of the L at record `r` has line `n`'s entry; area 0 is nobody.
 fn side_listed(
     file: &[u8],
     table: &[u32],
     l: Layer,
     r: usize,
-    c: usize,
+    c: Columns,
     back: bool,
     n: usize,
     marks: &[usize],
 ) -> bool
-    requires { ⌜ (c ≤ 74) × Marks (now file) (now marks) ⌝ }
-    ensures { λ x. ⌜ x ≡ sideListed (now (file .entry)) (now (table .entry)) l r c back n ⌝ }
+    requires { ⌜ Marks (now file) (now marks) ⌝ }
+    ensures { λ x. ⌜ x ≡ sideListed (now (file .entry)) (now (table .entry)) l r (spanFrom (c .0) (c .1)) back n ⌝ }
 {
-    let v = records::number_at(file, r, c, 5);
+    let v = records::value_at(file, r, c);
     if permitted::is_zero(v) {
         return true;
     }
     has_entry(file, layers::area_of(table, l, v), back, n, marks)
+}
+
+// The refusal of the L at record `r` whose area in the columns `c` doesn't list it.
+fn unlisted(r: usize, c: Columns) -> Verdict
+    requires { ⌜ (r ≤ 6399936) × (c .0 ≤ 74) ⌝ }
+    ensures { λ x. ⌜ x ≡ Broken 18 r (c .0) ⌝ }
+{
+    Verdict::Broken {
+        number: 18,
+        record: r as u32,
+        column: c.0 as u32,
+    }
 }
 
 // Both sides of line `n`, whose L is record `r`.
@@ -134,19 +149,11 @@ fn judge_line(file: &[u8], table: &[u32], l: Layer, r: usize, n: usize, marks: &
     requires { ⌜ (r ≤ 6399936) × Marks (now file) (now marks) ⌝ }
     ensures { λ x. ⌜ x ≡ firstBroken (block seventh r (listChecks (now (file .entry)) (now (table .entry)) l r n)) ⌝ }
 {
-    if !side_listed(file, table, l, r, 35, true, n, marks) {
-        return Verdict::Broken {
-            number: 18,
-            record: r as u32,
-            column: 35,
-        };
+    if !side_listed(file, table, l, r, records::LEFT_AREA, true, n, marks) {
+        return unlisted(r, records::LEFT_AREA);
     }
-    if !side_listed(file, table, l, r, 45, false, n, marks) {
-        return Verdict::Broken {
-            number: 18,
-            record: r as u32,
-            column: 45,
-        };
+    if !side_listed(file, table, l, r, records::RIGHT_AREA, false, n, marks) {
+        return unlisted(r, records::RIGHT_AREA);
     }
     Verdict::Fine
 }

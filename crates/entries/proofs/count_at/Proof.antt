@@ -6,8 +6,8 @@ use Rattle.entries.proofs.Slots.{four-told}
 use Rattle.entries.proofs.count_at.Statement.{statement}
 use Rattle.entries.proofs.count_at.Tie as tie
 
-number-at-requires : tie.Need-number-at-requires
-number-at-requires c κs = search needs
+value-at-requires : tie.Need-value-at-requires
+value-at-requires c κs = search needs
 
 size-requires : tie.Need-size-requires
 size-requires c κs = search needs
@@ -16,7 +16,7 @@ returns : tie.Need-returns
 unfolding countAt
 returns c =
     let a = c .before .before .before .args in
-    four-told (now (a .file)) (a .f) 6 (c .before .number-at .ok) (c .before .number-at .ensures) (c .size .ensures)
+    four-told (now (a .file)) (a .f) 6 (c .before .value-at .ok) (c .before .value-at .ensures) (c .size .ensures)
 
 pub count-at-spec : {M : Type 1} → statement M
-count-at-spec = tie.close (tie.spec number-at-requires size-requires returns)
+count-at-spec = tie.close (tie.spec value-at-requires size-requires returns)

@@ -6,8 +6,8 @@ use Rattle.entries.proofs.Slots.{four-told}
 use Rattle.entries.proofs.loops_at.Statement.{statement}
 use Rattle.entries.proofs.loops_at.Tie as tie
 
-number-at-requires : tie.Need-number-at-requires
-number-at-requires c κs = search needs
+value-at-requires : tie.Need-value-at-requires
+value-at-requires c κs = search needs
 
 size-requires : tie.Need-size-requires
 size-requires c κs = search needs
@@ -16,7 +16,7 @@ returns : tie.Need-returns
 unfolding loopsAt
 returns c =
     let a = c .before .before .before .args in
-    four-told (now (a .file)) (a .a) 25 (c .before .number-at .ok) (c .before .number-at .ensures) (c .size .ensures)
+    four-told (now (a .file)) (a .a) 25 (c .before .value-at .ok) (c .before .value-at .ensures) (c .size .ensures)
 
 pub loops-at-spec : {M : Type 1} → statement M
-loops-at-spec = tie.close (tie.spec number-at-requires size-requires returns)
+loops-at-spec = tie.close (tie.spec value-at-requires size-requires returns)

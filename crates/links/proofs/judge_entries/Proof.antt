@@ -1,12 +1,15 @@
 -- `links::judge_entries` meets its contract: the loop leaves at the first entry that names nothing. Assumes nothing.
 use mathlib.Core.Path.{_≡_, _∙_}
 use Prim.Native.Nat.{_-_, _≤_}
+use native.Mathlib.Omega.{arith}
 use Rattle.verdict.specs.declared.Verdict.the-variants.{Fine}
 use Rattle.verdict.specs.Rules.{firstBroken, rows}
 use Rattle.verdict.proofs.Parts.{rows-none}
 use Rattle.links.specs.Links.{fifth}
 use Rattle.links.proofs.Scans.{slotRules, slot-first}
 use Rattle.links.proofs.LineLaws.{entrySlot, entries-stop, entries-pass, entries-done}
+use Rattle.records.specs.Columns.{loopEntries}
+use Rattle.links.proofs.LineLaws.{slot-told}
 use borrow.Author.Needs.{needs}
 use Rattle.links.proofs.judge_entries.Statement.{statement}
 use Rattle.links.proofs.judge_entries.Tie as tie
@@ -29,14 +32,8 @@ is-zero-requires c κs = search needs
 names-line-requires : tie.Need-names-line-requires Inv-loop μ-loop
 names-line-requires c κs = search needs
 
-mul-broken : tie.Need-mul-broken Inv-loop μ-loop
-mul-broken c = search needs
-
-add-broken : tie.Need-add-broken Inv-loop μ-loop
-add-broken c = search needs
-
-broken-requires : tie.Need-broken-requires Inv-loop μ-loop
-broken-requires c κs = search needs
+slot-broken-requires : tie.Need-slot-broken-requires Inv-loop μ-loop
+slot-broken-requires c κs = search needs
 
 returns : tie.Need-returns Inv-loop μ-loop
 returns c =
@@ -44,7 +41,7 @@ returns c =
     let v = n .before .before in
     let t = v .before in
     let e = v .slot-of .ensures ∙ slot-first _ _ _ (t .loop-test .taken) in
-    entries-stop _ _ _ _ _ (v .slot-of .ok) e (n .before .is-zero .ensures) (n .names-line .ensures) (c .broken .ensures) (c .before .if1 .taken)
+    entries-stop _ _ _ _ _ (v .slot-of .ok) e (n .before .is-zero .ensures) (n .names-line .ensures) (slot-told loopEntries (omega arith) (c .slot-broken .ensures)) (c .before .if1 .taken)
     (t .loop-test .taken) (t .before .loop .inv .1)
 
 add-i : tie.Need-add-i Inv-loop μ-loop
@@ -77,9 +74,7 @@ judge-entries-spec =
     slot-of-requires
     is-zero-requires
     names-line-requires
-    mul-broken
-    add-broken
-    broken-requires
+    slot-broken-requires
     returns
     add-i
     loop-less

@@ -1,5 +1,8 @@
 -- `links::judge_first` meets its contract: each way out is one of the laws for a first point. Assumes nothing.
 use Rattle.links.proofs.LineLaws.{first-few, first-later, first-broken, first-kept}
+use lib.Dec.{lit≤}
+use Rattle.records.specs.Columns.{pointsX}
+use Rattle.links.proofs.LineLaws.{slot-told}
 use borrow.Author.Needs.{needs}
 use Rattle.links.proofs.judge_first.Statement.{statement}
 use Rattle.links.proofs.judge_first.Tie as tie
@@ -22,11 +25,11 @@ value-at-requires-2 c κs = search needs
 at-node-requires : tie.Need-at-node-requires
 at-node-requires c κs = search needs
 
-broken-requires : tie.Need-broken-requires
-broken-requires c κs = search needs
+slot-broken-requires : tie.Need-slot-broken-requires
+slot-broken-requires c κs = search needs
 
 returns-3 : tie.Need-returns-3
-returns-3 c = first-broken _ _ _ _ _ _ (c .before .before .before .before .before .before .before .if1 .left) (c .before .before .before .before .before .before .value-at .ok) (c .before .before .before .before .before .before .value-at .ensures) (c .before .before .before .before .before .size .ensures) (c .before .before .before .before .if2 .left) (c .before .before .before .value-at2 .ok) (c .before .before .before .value-at2 .ensures) (c .before .before .at-node .ensures) (c .before .if3 .taken) (c .broken .ensures)
+returns-3 c = first-broken _ _ _ _ _ _ (c .before .before .before .before .before .before .before .if1 .left) (c .before .before .before .before .before .before .value-at .ok) (c .before .before .before .before .before .before .value-at .ensures) (c .before .before .before .before .before .size .ensures) (c .before .before .before .before .if2 .left) (c .before .before .before .value-at2 .ok) (c .before .before .before .value-at2 .ensures) (c .before .before .at-node .ensures) (c .before .if3 .taken) (slot-told pointsX (lit≤ tt) (c .slot-broken .ensures))
 
 returns-4 : tie.Need-returns-4
 returns-4 c = first-kept _ _ _ _ _ _ (c .before .before .before .before .before .before .if1 .left) (c .before .before .before .before .before .value-at .ok) (c .before .before .before .before .before .value-at .ensures) (c .before .before .before .before .size .ensures) (c .before .before .before .if2 .left) (c .before .before .value-at2 .ok) (c .before .before .value-at2 .ensures) (c .before .at-node .ensures) (c .if3 .left)
@@ -41,6 +44,6 @@ judge-first-spec =
     returns-2
     value-at-requires-2
     at-node-requires
-    broken-requires
+    slot-broken-requires
     returns-3
     returns-4)

@@ -1,5 +1,8 @@
 -- `links::judge_last` meets its contract: each way out is one of the laws for a last point. Assumes nothing.
+use native.Mathlib.Omega.{arith}
 use Rattle.links.proofs.LineLaws.{last-none, last-later, last-broken, last-kept}
+use Rattle.records.specs.Columns.{pointsX}
+use Rattle.links.proofs.LineLaws.{slot-told}
 use borrow.Author.Needs.{needs}
 use Rattle.links.proofs.judge_last.Statement.{statement}
 use Rattle.links.proofs.judge_last.Tie as tie
@@ -19,20 +22,14 @@ sub-at-node c = search needs
 at-node-requires : tie.Need-at-node-requires
 at-node-requires c κs = search needs
 
-sub-broken : tie.Need-sub-broken
-sub-broken c = search needs
+sub-slot-broken : tie.Need-sub-slot-broken
+sub-slot-broken c = search needs
 
-mul-broken : tie.Need-mul-broken
-mul-broken c = search needs
-
-add-broken : tie.Need-add-broken
-add-broken c = search needs
-
-broken-requires : tie.Need-broken-requires
-broken-requires c κs = search needs
+slot-broken-requires : tie.Need-slot-broken-requires
+slot-broken-requires c κs = search needs
 
 returns-3 : tie.Need-returns-3
-returns-3 c = last-broken _ _ _ _ _ _ (c .before .before .before .before .before .if1 .left) (c .before .before .before .before .if2 .left) (c .before .before .before .value-at .ok) (c .before .before .before .value-at .ensures) (c .before .before .at-node .ensures) (c .before .if3 .taken) (c .broken .ensures)
+returns-3 c = last-broken _ _ _ _ _ _ (c .before .before .before .before .before .if1 .left) (c .before .before .before .before .if2 .left) (c .before .before .before .value-at .ok) (c .before .before .before .value-at .ensures) (c .before .before .at-node .ensures) (c .before .if3 .taken) (slot-told pointsX (omega arith) (c .slot-broken .ensures))
 
 returns-4 : tie.Need-returns-4
 returns-4 c = last-kept _ _ _ _ _ _ (c .before .before .before .before .if1 .left) (c .before .before .before .if2 .left) (c .before .before .value-at .ok) (c .before .before .value-at .ensures) (c .before .at-node .ensures) (c .if3 .left)
@@ -46,9 +43,7 @@ judge-last-spec =
     value-at-requires
     sub-at-node
     at-node-requires
-    sub-broken
-    mul-broken
-    add-broken
-    broken-requires
+    sub-slot-broken
+    slot-broken-requires
     returns-3
     returns-4)

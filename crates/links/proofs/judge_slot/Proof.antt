@@ -1,6 +1,8 @@
 -- `links::judge_slot` meets its contract: each test is that of the check whose number it gives. Assumes nothing.
 use mathlib.Core.Path.{sym, _∙_}
 use borrow.Author.Tests.{not-true, not-false}
+use Rattle.records.specs.Columns.{nodeEntries}
+use Rattle.links.proofs.LineLaws.{slot-told}
 use borrow.Author.Needs.{needs}
 use Rattle.layers.specs.Naming.{namesLine}
 use Rattle.links.specs.Links.{meets}
@@ -25,56 +27,38 @@ returns c =
 names-line-requires : tie.Need-names-line-requires
 names-line-requires c κs = search needs
 
-mul-broken : tie.Need-mul-broken
-mul-broken c = search needs
-
-add-broken : tie.Need-add-broken
-add-broken c = search needs
-
-broken-requires : tie.Need-broken-requires
-broken-requires c κs = search needs
+slot-broken-requires : tie.Need-slot-broken-requires
+slot-broken-requires c κs = search needs
 
 returns-2 : tie.Need-returns-2
 returns-2 c =
     let m = c .before .before in
     let z = m .before .before in
     let e = z .before .node-entry in
-    slot-eleven _ _ _ _ _ _ (asked isZero (e .ok) (e .ensures) (z .is-zero .ensures) (m .before .if1 .left)) (c .broken .ensures) (asked (namesLine _) (e .ok) (e .ensures) (m .names-line .ensures) (not-true _ (c .before .if2 .taken)))
+    slot-eleven _ _ _ _ _ _ (asked isZero (e .ok) (e .ensures) (z .is-zero .ensures) (m .before .if1 .left)) (slot-told nodeEntries (z .before .before .before .before .pre .0) (c .slot-broken .ensures)) (asked (namesLine _) (e .ok) (e .ensures) (m .names-line .ensures) (not-true _ (c .before .if2 .taken)))
 
 meets-requires : tie.Need-meets-requires
 meets-requires c κs = search needs
 
-mul-broken-2 : tie.Need-mul-broken-2
-mul-broken-2 c = search needs
-
-add-broken-2 : tie.Need-add-broken-2
-add-broken-2 c = search needs
-
-broken-requires-2 : tie.Need-broken-requires-2
-broken-requires-2 c κs = search needs
+slot-broken-requires-2 : tie.Need-slot-broken-requires-2
+slot-broken-requires-2 c κs = search needs
 
 returns-3 : tie.Need-returns-3
 returns-3 c =
     let m = c .before .before .before .before in
     let z = m .before .before in
     let e = z .before .node-entry in
-    slot-twelve _ _ _ _ _ _ (asked isZero (e .ok) (e .ensures) (z .is-zero .ensures) (m .before .if1 .left)) (asked (namesLine _) (e .ok) (e .ensures) (m .names-line .ensures) (not-false _ (c .before .before .before .if2 .left))) (c .broken2 .ensures) (asked (meets _ _ _ _) (e .ok) (e .ensures) (c .before .before .meets .ensures) (not-true _ (c .before .if3 .taken)))
+    slot-twelve _ _ _ _ _ _ (asked isZero (e .ok) (e .ensures) (z .is-zero .ensures) (m .before .if1 .left)) (asked (namesLine _) (e .ok) (e .ensures) (m .names-line .ensures) (not-false _ (c .before .before .before .if2 .left))) (slot-told nodeEntries (z .before .before .before .before .pre .0) (c .slot-broken2 .ensures)) (asked (meets _ _ _ _) (e .ok) (e .ensures) (c .before .before .meets .ensures) (not-true _ (c .before .if3 .taken)))
 
-mul-broken-3 : tie.Need-mul-broken-3
-mul-broken-3 c = search needs
-
-add-broken-3 : tie.Need-add-broken-3
-add-broken-3 c = search needs
-
-broken-requires-3 : tie.Need-broken-requires-3
-broken-requires-3 c κs = search needs
+slot-broken-requires-3 : tie.Need-slot-broken-requires-3
+slot-broken-requires-3 c κs = search needs
 
 returns-4 : tie.Need-returns-4
 returns-4 c =
     let m = c .before .before .before .before .before in
     let z = m .before .before in
     let e = z .before .node-entry in
-    slot-thirteen _ _ _ _ _ _ (asked isZero (e .ok) (e .ensures) (z .is-zero .ensures) (m .before .if1 .left)) (asked (namesLine _) (e .ok) (e .ensures) (m .names-line .ensures) (not-false _ (c .before .before .before .before .if2 .left))) (asked (meets _ _ _ _) (e .ok) (e .ensures) (c .before .before .before .meets .ensures) (not-false _ (c .before .before .if3 .left))) (c .broken3 .ensures) (not-true _ (sym (z .before .before .before .before .pre .1) ∙ c .before .if4 .taken))
+    slot-thirteen _ _ _ _ _ _ (asked isZero (e .ok) (e .ensures) (z .is-zero .ensures) (m .before .if1 .left)) (asked (namesLine _) (e .ok) (e .ensures) (m .names-line .ensures) (not-false _ (c .before .before .before .before .if2 .left))) (asked (meets _ _ _ _) (e .ok) (e .ensures) (c .before .before .before .meets .ensures) (not-false _ (c .before .before .if3 .left))) (slot-told nodeEntries (z .before .before .before .before .pre .0) (c .slot-broken3 .ensures)) (not-true _ (sym (z .before .before .before .before .pre .1) ∙ c .before .if4 .taken))
 
 returns-5 : tie.Need-returns-5
 returns-5 c =
@@ -91,17 +75,11 @@ judge-slot-spec =
     is-zero-requires
     returns
     names-line-requires
-    mul-broken
-    add-broken
-    broken-requires
+    slot-broken-requires
     returns-2
     meets-requires
-    mul-broken-2
-    add-broken-2
-    broken-requires-2
+    slot-broken-requires-2
     returns-3
-    mul-broken-3
-    add-broken-3
-    broken-requires-3
+    slot-broken-requires-3
     returns-4
     returns-5)

@@ -12,23 +12,17 @@ use Rattle.links.proofs.slot_of.Tie as tie
 returns : tie.Need-returns
 returns c = sym (slot-past (now (c .before .before .args .file)) (c .before .before .args .f) (c .before .before .args .e) (c .if1 .taken))
 
-add-number-at : tie.Need-add-number-at
-add-number-at c = search needs
+add-slot-at : tie.Need-add-slot-at
+add-slot-at c = search needs
 
-mul-number-at : tie.Need-mul-number-at
-mul-number-at c = search needs
-
-add-number-at-2 : tie.Need-add-number-at-2
-add-number-at-2 c = search needs
-
-number-at-requires : tie.Need-number-at-requires
-number-at-requires c κs = search needs
+slot-at-requires : tie.Need-slot-at-requires
+slot-at-requires c κs = search needs
 
 returns-2 : tie.Need-returns-2
 unfolding slotOf loopEntry
-returns-2 c = passed-on (c .number-at .ok) (c .number-at .ensures)
+returns-2 c = passed-on (c .slot-at .ok) (c .slot-at .ensures)
 
 pub slot-of-spec : {M : Type 1} → statement M
 slot-of-spec =
     tie.close
-    (tie.spec returns add-number-at mul-number-at add-number-at-2 number-at-requires returns-2)
+    (tie.spec returns add-slot-at slot-at-requires returns-2)

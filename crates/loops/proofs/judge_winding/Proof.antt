@@ -7,8 +7,8 @@ use Rattle.loops.proofs.judge_winding.Tie as tie
 returns : tie.Need-returns
 returns c = wind-none _ _ _ _ (c .if1 .taken)
 
-number-at-requires : tie.Need-number-at-requires
-number-at-requires c κs = search needs
+value-at-requires : tie.Need-value-at-requires
+value-at-requires c κs = search needs
 
 loop-measure-requires : tie.Need-loop-measure-requires
 loop-measure-requires c κs = search needs
@@ -16,31 +16,31 @@ loop-measure-requires c κs = search needs
 winds-requires : tie.Need-winds-requires
 winds-requires c κs = search needs
 
-cast-t10 : tie.Need-cast-t10
-cast-t10 c = search needs
+cast-t11 : tie.Need-cast-t11
+cast-t11 c = search needs
 
 returns-2 : tie.Need-returns-2
 returns-2 c =
     let m = c .before .before in
     let n = m .before in
     let i = n .before in
-    wind-broken _ _ _ _ (i .if1 .left) (n .number-at .ok) (n .number-at .ensures) (m .loop-measure .ok) (m .loop-measure .ensures) (c .before .winds .ensures) (c .if2 .taken)
+    wind-broken _ _ _ _ (i .if1 .left) (n .value-at .ok) (n .value-at .ensures) (m .loop-measure .ok) (m .loop-measure .ensures) (c .before .winds .ensures) (c .if2 .taken)
 
 returns-3 : tie.Need-returns-3
 returns-3 c =
     let m = c .before .before in
     let n = m .before in
     let i = n .before in
-    wind-fine _ _ _ _ (i .if1 .left) (n .number-at .ok) (n .number-at .ensures) (m .loop-measure .ok) (m .loop-measure .ensures) (c .before .winds .ensures) (c .if2 .left)
+    wind-fine _ _ _ _ (i .if1 .left) (n .value-at .ok) (n .value-at .ensures) (m .loop-measure .ok) (m .loop-measure .ensures) (c .before .winds .ensures) (c .if2 .left)
 
 pub judge-winding-spec : {M : Type 1} → statement M
 judge-winding-spec =
     tie.close
     (tie.spec
     returns
-    number-at-requires
+    value-at-requires
     loop-measure-requires
     winds-requires
-    cast-t10
+    cast-t11
     returns-2
     returns-3)
