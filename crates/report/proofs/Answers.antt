@@ -9,6 +9,7 @@ use lib.ListN.{length, drop}
 use borrow.Author.Tests.{lt-ltb, le-ltb, eq-eqb, ne-eqb}
 use Rattle.verdict.specs.declared.Verdict.the-variants.{Fine}
 use Rattle.walk.specs.Stages.{recordsOf}
+use Rattle.walk.specs.Row.{rowLength}
 use Rattle.judge.specs.declared.Outcome.{Outcome}
 use Rattle.judge.specs.Rulebook.{verdictOf}
 use Rattle.judge.specs.Outcomes.{outcomeOf, measuresOf, measuresAfter}

@@ -9,6 +9,7 @@ use lib.ListN.{length}
 use Rattle.walk.specs.Stages.{needOf}
 use Rattle.walk.proofs.Judging.{walked-fine}
 use Rattle.walk.proofs.Room.{need-most, areas-half}
+use Rattle.walk.specs.Row.{rowLength}
 use Rattle.judge.specs.Outcomes.{outcomeOf}
 use Rattle.judge.proofs.Room.{Enough, need-enough, same-outcome, room-enough, places-enough}
 use Rattle.report.specs.Texts.{answerTo}
