@@ -35,7 +35,8 @@ row-behind L d n f i z e l h =
     sym g ∙ rw e (row-at f n (i - d) z h)
 
 -- what is asked of number i, which is slot i - d of its row
-pub slot-asked : (L : List (List Ask)) (d n count i : ℕ) (ns : List ℤ) {v : ℤ} → v ≡ at ns i → drop d L ≡ from (slotAsk count ns d) 0 n → d ≤ i → i - d < n → firstAsked (permitted (isSlot (ltb (i - d) count) v) ∷ []) ≡ firstAsked (getD L i [])
+pub slot-asked : (L : List (List Ask)) (d n count i : ℕ) (ns : List ℤ) {v : ℤ} → v ≡ at ns i → drop d L ≡ from (slotAsk count ns d) 0 n
+    → d ≤ i → i - d < n → firstAsked (permitted (isSlot (ltb (i - d) count) v) ∷ []) ≡ firstAsked (getD L i [])
 slot-asked L d n count i ns e q l h =
     let p : d + (i - d) ≡ i = omega arith in
     rw (row-behind L d n (slotAsk count ns d) i [] q l h, p, e)

@@ -85,10 +85,12 @@ module _ (file : List ℕ) where
           layers = next-layers k h;
         }
 
-    first-due : {p b : ℕ} → Within p b 0 → b < loopsAt file (suc k) → dueOf (stateAt file p) ≡ Loop (stateAt file p .area .begun) (stateAt file p .area .count) 0
+    first-due : {p b : ℕ} → Within p b 0 → b < loopsAt file (suc k)
+        → dueOf (stateAt file p) ≡ Loop (stateAt file p .area .begun) (stateAt file p .area .count) 0
     first-due {p} w l = due-first (stateAt file p) (w .points) (w .left-is) (omega (arith, w .begun-is, w .loops))
 
-    further-due : {p b e : ℕ} → Within p b e → 0 < e → dueOf (stateAt file p) ≡ Loop (stateAt file p .area .begun) (stateAt file p .area .count) (stateAt file p .area .entries)
+    further-due : {p b e : ℕ} → Within p b e → 0 < e
+        → dueOf (stateAt file p) ≡ Loop (stateAt file p .area .begun) (stateAt file p .area .count) (stateAt file p .area .entries)
     further-due {p} w l = due-further (stateAt file p) (w .points) (omega (arith, w .left-is))
 
     to-first : (p b : ℕ) → Within p b 0 → b < loopsAt file (suc k) → Within (suc p) (suc b) (countAt file (suc p) - 12)

@@ -87,7 +87,8 @@ number-one-value s c w u v g h =
     cc
 
 -- a value has at most one spelling
-pub number-one-spelling : (s : List ℕ) (c : ℕ) (t : List ℕ) (d w : ℕ) (v : ℤ) → numberAt s c w ≡ number.Value v → numberAt t d w ≡ number.Value v → bytesAt s c w ≡ bytesAt t d w
+pub number-one-spelling : (s : List ℕ) (c : ℕ) (t : List ℕ) (d w : ℕ) (v : ℤ)
+    → numberAt s c w ≡ number.Value v → numberAt t d w ≡ number.Value v → bytesAt s c w ≡ bytesAt t d w
 number-one-spelling s c t d w v p q = number-says s c w v p .spelled ∙ sym (number-says t d w v q .spelled)
 
 -- ---- number fields: reading and writing
@@ -101,7 +102,8 @@ pub number-written-read : (s : List ℕ) (c w : ℕ) (v : ℤ) → numberFits s 
 number-written-read s c w v f =
     let b = fits-both s c w v f in
     let l = spell-length w v in
-    number-read (put s c (spell w v)) c w v (record { there = put-inside s c w (spell w v) (b .0) l; held = b .1; spelled = put-bytes s c w (spell w v) (b .0) l })
+    number-read (put s c (spell w v)) c w v
+    (record { there = put-inside s c w (spell w v) (b .0) l; held = b .1; spelled = put-bytes s c w (spell w v) (b .0) l })
 
 -- writing what was read gives the bytes: it fits, and the buffer stays as it was
 pub number-read-written : (s : List ℕ) (c w : ℕ) (v : ℤ) → numberAt s c w ≡ number.Value v → (numberFits s c w v ≡ true) × (put s c (spell w v) ≡ s)
@@ -112,7 +114,8 @@ number-read-written s c w v e =
 
 -- ---- name and blank fields: p says what is well formed
 
-text-by : (p : List ℕ → Bool) (s : List ℕ) (c w : ℕ) (t : Bool) → isInside s c w && p (bytesAt s c w) ≡ t → cond t text.WellFormed text.Refused ≡ text.WellFormed → (isInside s c w ≡ true) × (p (bytesAt s c w) ≡ true)
+text-by : (p : List ℕ → Bool) (s : List ℕ) (c w : ℕ) (t : Bool) → isInside s c w && p (bytesAt s c w) ≡ t
+    → cond t text.WellFormed text.Refused ≡ text.WellFormed → (isInside s c w ≡ true) × (p (bytesAt s c w) ≡ true)
 text-by p s c w true b e = both (isInside s c w) (p (bytesAt s c w)) b
 text-by p s c w false b e =
     let z : _≡_ {A = ℕ} 0 1 = cc in
@@ -145,7 +148,8 @@ name-read-fits s c w e =
     let h = text-formed isName s c w e in
     rw (h .0, eq-eqb _ _ (bytes-length s c w (h .0)), h .1)
 
-pub name-written-read : (s : List ℕ) (c w : ℕ) (t : List ℕ) → nameFits s c w t ≡ true → (textAt isName (put s c t) c w ≡ text.WellFormed) × (bytesAt (put s c t) c w ≡ t)
+pub name-written-read : (s : List ℕ) (c w : ℕ) (t : List ℕ) → nameFits s c w t ≡ true
+    → (textAt isName (put s c t) c w ≡ text.WellFormed) × (bytesAt (put s c t) c w ≡ t)
 unfolding nameFits
 name-written-read s c w t f =
     let b = both (isInside s c w) (eqb (length t) w && isName t) f in
@@ -158,7 +162,8 @@ unfolding isBlanks
 blanks-only [] h = refl
 blanks-only (b ∷ f) h = only-by b f (λ k. blanks-only f k) (eqb b 32) refl h
   where
-    only-by : (b : ℕ) (f : List ℕ) → (isBlanks f ≡ true → f ≡ replicate (length f) 32) → (t : Bool) → eqb b 32 ≡ t → cond t (isBlanks f) false ≡ true → b ∷ f ≡ 32 ∷ replicate (length f) 32
+    only-by : (b : ℕ) (f : List ℕ) → (isBlanks f ≡ true → f ≡ replicate (length f) 32) → (t : Bool)
+        → eqb b 32 ≡ t → cond t (isBlanks f) false ≡ true → b ∷ f ≡ 32 ∷ replicate (length f) 32
     only-by b f ih true e h =
         let q : b ≡ 32 = eqb-true _ _ e in
         rw (q, ← ih h)
@@ -206,7 +211,8 @@ done-by false e =
     let z : _≡_ {A = ℕ} 0 1 = cc in
     absurd (omega arith)
 
-pub wrote-done : {fits : Bool} {before t after : List ℕ} {c : ℕ} {r : Writing} → Wrote fits before c t r after → r ≡ writing.Done → (fits ≡ true) × (after ≡ put before c t)
+pub wrote-done : {fits : Bool} {before t after : List ℕ} {c : ℕ} {r : Writing}
+    → Wrote fits before c t r after → r ≡ writing.Done → (fits ≡ true) × (after ≡ put before c t)
 wrote-done {fits} h e =
     let y = done-by fits (sym (h .answer) ∙ e) in
     (y, h .buffer ∙ rw y)
@@ -217,7 +223,8 @@ refused-by true e =
     absurd (omega arith)
 refused-by false e = refl
 
-pub wrote-refused : {fits : Bool} {before t after : List ℕ} {c : ℕ} {r : Writing} → Wrote fits before c t r after → r ≡ writing.Refused → (fits ≡ false) × (after ≡ before)
+pub wrote-refused : {fits : Bool} {before t after : List ℕ} {c : ℕ} {r : Writing}
+    → Wrote fits before c t r after → r ≡ writing.Refused → (fits ≡ false) × (after ≡ before)
 wrote-refused {fits} h e =
     let y = refused-by fits (sym (h .answer) ∙ e) in
     (y, h .buffer ∙ rw y)

@@ -49,7 +49,8 @@ module _ (f : List ℕ) (j n : ℕ) (s : DigitsFrom f (suc j) n) (low : 48 ≤ g
     inside = omega (arith, s .inside);
     start = λ h. low;
     small = rw units (still-small (getD f j 0 - 48) (10 ^ (length f - suc j)) n (omega arith) (s .small));
-    said = λ a. rw (drop-cons f j 0 (s .inside), le-leb _ _ low, le-leb _ _ high, s .said, units) (ap (λ x. Value (pos x)) (place-value a (getD f j 0 - 48) (10 ^ (length f - suc j)) n));
+    said = λ a. rw (drop-cons f j 0 (s .inside), le-leb _ _ low, le-leb _ _ high, s .said, units)
+        (ap (λ x. Value (pos x)) (place-value a (getD f j 0 - 48) (10 ^ (length f - suc j)) n));
   }
 
 -- the step as the code takes it, from index i to i - 1, where u is what the next digit counts
@@ -138,7 +139,8 @@ unfolding signedOf
 first-by b ys d h p true = h
 first-by b ys d h p false = both-arms (isMinus b) (ap minus p) (plain-broken [] b ys d)
 
-first-refused : (b : ℕ) (ys : List ℕ) → isDigit b ≡ false → signedOf (afterBlanks ys) ≡ Refused → plainOf ys ≡ Refused → signedOf (afterBlanks (b ∷ ys)) ≡ Refused
+first-refused : (b : ℕ) (ys : List ℕ) → isDigit b ≡ false → signedOf (afterBlanks ys) ≡ Refused
+    → plainOf ys ≡ Refused → signedOf (afterBlanks (b ∷ ys)) ≡ Refused
 unfolding afterBlanks
 first-refused b ys d h p = first-by b ys d h p (isBlank b)
 
@@ -151,7 +153,8 @@ unfolding isBlanks
 blanks-snoc [] b h e = rw (eq-eqb _ _ e)
 blanks-snoc (z ∷ q) b h e = snoc-by (isBlank z) (λ k. blanks-snoc q b k e) h
   where
-    snoc-by : (t : Bool) → (isBlanks q ≡ true → isBlanks (q ++ (b ∷ [])) ≡ true) → cond t (isBlanks q) false ≡ true → cond t (isBlanks (q ++ (b ∷ []))) false ≡ true
+    snoc-by : (t : Bool) → (isBlanks q ≡ true → isBlanks (q ++ (b ∷ [])) ≡ true)
+        → cond t (isBlanks q) false ≡ true → cond t (isBlanks (q ++ (b ∷ []))) false ≡ true
     snoc-by true ih h = ih h
     snoc-by false ih h = h
 

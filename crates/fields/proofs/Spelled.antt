@@ -63,12 +63,14 @@ wide-suc false e = refl
 -- before the first digit
 front : (m : Bool) (e d : ℕ) → 0 < d → d < 10 → (ys : List ℕ) → said (columns (wide m e) (cond m Minus Blanks) ++ ((48 + d) ∷ ys)) ≡ signed m (digitsOf d ys)
 front false e d p s ys = rw (past-blanks e ((48 + d) ∷ ys)) (digit-first (48 + d) ys (omega arith) ∙ digit-leads d s ys p)
-front true e d p s ys = rw (columns-suc e Minus ((48 + d) ∷ ys), past-blanks e (45 ∷ (48 + d) ∷ ys)) (minus-read ((48 + d) ∷ ys) ∙ ap minus (digit-leads d s ys p))
+front true e d p s ys =
+    rw (columns-suc e Minus ((48 + d) ∷ ys), past-blanks e (45 ∷ (48 + d) ∷ ys)) (minus-read ((48 + d) ∷ ys) ∙ ap minus (digit-leads d s ys p))
 
 -- the digits of n, then ys: by whether it has more than one, given the same for fewer columns
 spelled-by : (m : Bool) (e n : ℕ) → 0 < n → n < 10 ^ suc e → (ys : List ℕ)
     → ((k : ℕ) → 0 < k → k < 10 ^ e → (zs : List ℕ) → said (columns (wide m e) (Digits k m) ++ zs) ≡ signed m (digitsOf k zs))
-    → (b : Bool) → leb 10 n ≡ b → said (columns (wide m e) (cond b (Digits (n / 10) m) (cond m Minus Blanks)) ++ ((48 + n % 10) ∷ ys)) ≡ signed m (digitsOf n ys)
+    → (b : Bool) → leb 10 n ≡ b
+    → said (columns (wide m e) (cond b (Digits (n / 10) m) (cond m Minus Blanks)) ++ ((48 + n % 10) ∷ ys)) ≡ signed m (digitsOf n ys)
 spelled-by m e n p h ys ih true t =
     let l : 10 ≤ n = leb-true _ _ t in
     let r : n / 10 * 10 + n % 10 ≡ n = omega arith in

@@ -87,7 +87,8 @@ more m [] a n k p e =
 more m (b ∷ ds) a n k p e = more-by m b ds a n k p (λ a′ k′ p′ e′. more m ds a′ n k′ p′ e′) (isDigit b) refl e
 
 -- all the digits, the first of which is not 0
-first-by : (m : Bool) (b : ℕ) (ds : List ℕ) (n k : ℕ) → (b ≡ 48 → ⊥) → (t : Bool) → isDigit b ≡ t → cond t (digitsOf (0 * 10 + (b - 48)) ds) Refused ≡ Value (pos n)
+first-by : (m : Bool) (b : ℕ) (ds : List ℕ) (n k : ℕ) → (b ≡ 48 → ⊥) → (t : Bool)
+    → isDigit b ≡ t → cond t (digitsOf (0 * 10 + (b - 48)) ds) Refused ≡ Value (pos n)
     → columns (k + suc (length ds)) (Digits n m) ≡ columns k (cond m Minus Blanks) ++ (b ∷ ds)
 first-by m b ds n k z false t e = not-refused e
 first-by m b ds n k z true t e =
@@ -100,7 +101,8 @@ first-by m b ds n k z true t e =
     let q : 48 + (b - 48) % 10 ≡ b = omega arith in
     rw s (more m ds (b - 48) n (suc k) (omega arith) (rw a at e) ∙ columns-suc k (Digits (b - 48) m) ds ∙ rw (lt-leb _ _ g, q))
 
-first : (m : Bool) (b : ℕ) (ds : List ℕ) (n k : ℕ) → (b ≡ 48 → ⊥) → digitsOf 0 (b ∷ ds) ≡ Value (pos n) → columns (k + suc (length ds)) (Digits n m) ≡ columns k (cond m Minus Blanks) ++ (b ∷ ds)
+first : (m : Bool) (b : ℕ) (ds : List ℕ) (n k : ℕ) → (b ≡ 48 → ⊥) → digitsOf 0 (b ∷ ds) ≡ Value (pos n)
+    → columns (k + suc (length ds)) (Digits n m) ≡ columns k (cond m Minus Blanks) ++ (b ∷ ds)
 unfolding digitsOf
 first m b ds n k z e = first-by m b ds n k z (isDigit b) refl e
 
@@ -115,7 +117,8 @@ zero-spelled : (m : Bool) → (m ≡ true → 0 < 0) → (k : ℕ) → columns (
 zero-spelled true h k = absurd (omega (arith, h refl))
 zero-spelled false h k = rw (add-one, ← append-nil (columns (suc k) (Digits 0 false))) (columns-suc k (Digits 0 false) [])
 
-plain-by : (b : ℕ) (bs : List ℕ) (v : ℤ) (t : Bool) → eqb b 48 ≡ t → cond t (zeroThen bs) (digitsOf 0 (b ∷ bs)) ≡ Value v → (n : ℕ) × (v ≡ pos n) × Plain (b ∷ bs) n
+plain-by : (b : ℕ) (bs : List ℕ) (v : ℤ) (t : Bool) → eqb b 48 ≡ t
+    → cond t (zeroThen bs) (digitsOf 0 (b ∷ bs)) ≡ Value v → (n : ℕ) × (v ≡ pos n) × Plain (b ∷ bs) n
 plain-by b [] v true t e = (0, sym (value-is e), record { small = lit< tt; spelled = rw (eqb-true b 48 t) zero-spelled })
 plain-by b (c ∷ bs) v true t e = not-refused e
 plain-by b bs v false t e =
@@ -169,7 +172,8 @@ tail (b ∷ bs) v e = tail-by b bs v (eqb b 45) refl e
 
 -- ---- behind the spaces
 
-split-by : (b : ℕ) (f : List ℕ) → (k : ℕ) × (f ≡ columns k Blanks ++ afterBlanks f) → (t : Bool) → eqb b 32 ≡ t → (k : ℕ) × (b ∷ f ≡ columns k Blanks ++ cond t (afterBlanks f) (b ∷ f))
+split-by : (b : ℕ) (f : List ℕ) → (k : ℕ) × (f ≡ columns k Blanks ++ afterBlanks f) → (t : Bool)
+    → eqb b 32 ≡ t → (k : ℕ) × (b ∷ f ≡ columns k Blanks ++ cond t (afterBlanks f) (b ∷ f))
 unfolding columns
 split-by b f s true t =
     let q : b ≡ 32 = eqb-true _ _ t in

@@ -20,7 +20,8 @@ use Rattle.glances.specs.declared.Glance.{Glance}
 use Rattle.glances.specs.declared.Glance.the-variants.{Unsure, Sure}
 use Rattle.fields.specs.declared.Number.{Number}
 use Rattle.fields.specs.declared.Number.the-variants.{Value, Refused}
-use Rattle.fields.proofs.FromRight.{digits-none, digits-more, too-wide, taken, taken-plain, taken-minus, refused-endless, refused-zero, refused-minus, refused-other}
+use Rattle.fields.proofs.FromRight.{digits-none, digits-more, too-wide, taken, taken-plain, taken-minus}
+use Rattle.fields.proofs.FromRight.{refused-endless, refused-zero, refused-minus, refused-other}
 use Rattle.fields.proofs.Places.{both}
 
 not-sure : {X : Type 0} {v : ℕ} → Unsure ≡ Sure v → X
@@ -123,7 +124,8 @@ module _ {f : List ℕ} {i n : ℕ} (e : EndsIn f i n) (l : i < length f) (w : l
   glimpse-by : (a z : Bool) → eqb (i + 1) (length f) ≡ a → eqb (getD f i 0) 48 ≡ z
       → cond ((a || not z) && isBlanks (take i f)) (Sure n) Unsure ≡ glimpseOf (numberOf f)
   glimpse-by true z a q = glimpse-plain (record { ends = e; some = l; narrow = omega arith; alone = λ _. eqb-true _ _ a }) w (isBlanks (take i f)) refl
-  glimpse-by false false a q = glimpse-plain (record { ends = e; some = l; narrow = omega arith; alone = λ y. absurd (eqb-false _ _ q y) }) w (isBlanks (take i f)) refl
+  glimpse-by false false a q =
+      glimpse-plain (record { ends = e; some = l; narrow = omega arith; alone = λ y. absurd (eqb-false _ _ q y) }) w (isBlanks (take i f)) refl
   glimpse-by false true a q = sym (ap glimpseOf (refused-zero e l (eqb-true _ _ q) (eqb-false _ _ a)))
 
   pub glimpse : (t : Bool) → t ≡ isSure f i → cond t (Sure n) Unsure ≡ glimpseOf (numberOf f)
@@ -188,7 +190,10 @@ module _ {a b c d e n : ℕ} where
       → cond (not z) (Sure (n + (a - 48) * 10000)) Unsure ≡ glimpseOf (numberOf (bytes a b c d e))
   unfolding isBlanks
   from-0 s h z q =
-      let g : EndsIn (bytes a b c d e) 0 (n + (a - 48) * 10000) = record { digits = next-digit (bytes a b c d e) 1 n 10000 (lit< tt) refl s h; all = λ p. absurd (omega arith) } in
+      let g : EndsIn (bytes a b c d e) 0 (n + (a - 48) * 10000) = record {
+        digits = next-digit (bytes a b c d e) 1 n 10000 (lit< tt) refl s h;
+        all = λ p. absurd (omega arith);
+      } in
       glimpse g (lit< tt) (lit≤ tt) (not z) (rw q (sym (and-true (not z))))
 
   -- neither a space nor a first digit stands before the other four; r is whether it is a digit

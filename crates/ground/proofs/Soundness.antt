@@ -7,7 +7,7 @@ use mathlib.Core.Path.{_≡_, refl, sym, _∙_, ap}
 use Prim.Native.Nat.{ℕ, zero, suc, _+_, _-_, _*_, _/_, _%_, _≤_, _<_}
 use native.Mathlib.Numerals.{add-one}
 use native.Mathlib.Omega.{arith}
-use lib.Dec.{ltb, eqb, lit≤}
+use lib.Dec.{ltb, eqb}
 use lib.IntN.{ℤ, pos, negsuc}
 use borrow.Author.Tests.{lt-ltb, ltb-true, ltb-false}
 use Rattle.fields.specs.Answer.{numberRefusal, valueOf}
@@ -104,7 +104,8 @@ module _ (file : List ℕ) (h : firstBroken (stageTwo file) ≡ Fine) (k : ℕ) 
   points-quiet : (q : ℕ) → 7 * q < stateAt file k .line .points → Quiet (stateAt file k) (q + 1)
   points-quiet q m = quiet-points (stateAt file k) (q + 1) (omega arith) (omega arith)
 
-  points-due : (q : ℕ) → 7 * q < stateAt file k .line .points → (j : ℕ) → j ≤ q → dueOf (stateAt file (k + j)) ≡ Coordinates (stateAt file k .line .points - 7 * j)
+  points-due : (q : ℕ) → 7 * q < stateAt file k .line .points → (j : ℕ) → j ≤ q
+      → dueOf (stateAt file (k + j)) ≡ Coordinates (stateAt file k .line .points - 7 * j)
   points-due q m j i = passed-due file k refl (points-quiet q m) j (omega arith) ∙ rw (lt-ltb 0 (stateAt file k .line .points) (omega arith))
 
   -- their records are there
@@ -119,7 +120,8 @@ module _ (file : List ℕ) (h : firstBroken (stageTwo file) ≡ Fine) (k : ℕ) 
           absurd (false≢true (sym (ap mayEnd (points-due q m (recordsOf file - k) (omega arith))) ∙ rw n (ended file h)))
 
   -- what stands at place j of the record of point i, counted from 0
-  place-sound : (i j c : ℕ) → i < stateAt file k .line .points → c ≡ 1 + 5 * j → j / 2 ≡ i % 7 → j < 14 → SoundAt (recordOf file (k + 1 + i / 7)) c (coordinateIn (recordOf file (k + 1 + i / 7)) c)
+  place-sound : (i j c : ℕ) → i < stateAt file k .line .points → c ≡ 1 + 5 * j → j / 2 ≡ i % 7 → j < 14
+      → SoundAt (recordOf file (k + 1 + i / 7)) c (coordinateIn (recordOf file (k + 1 + i / 7)) c)
   place-sound i j c a e f g =
       let q = i / 7 in
       let z : k + 1 + q ≡ k + q + 1 = omega arith in

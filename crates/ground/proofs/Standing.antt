@@ -72,7 +72,8 @@ module _ (file t : List ℕ) (l : Layer) (k : LayerKept file t l) where
       record {
         known = row-known file (x + 1) (slotsOf file x) (l .lines) (λ e m. g e m .known);
         once = row-once file (x + 1) (slotsOf file x) (λ e m. g e m .once);
-        own = row-own file (x + 1) (slotsOf file x) (leftAreaOf file t l) (rightAreaOf file t l) a (λ e m. slot-own file t l a (slotOf file (x + 1) e) (g e m .own));
+        own = row-own file (x + 1) (slotsOf file x) (leftAreaOf file t l) (rightAreaOf file t l) a
+            (λ e m. slot-own file t l a (slotOf file (x + 1) e) (g e m .own));
         present = there file t l a o (k .lines);
       }
 

@@ -74,7 +74,8 @@ added {x} {z} {n} g e p t f =
     record { fits = h; is = toZ-ofZ h ∙ b }
 
 -- f (i + 1) behind the first i
-pub sum-added : (f : ℕ → ℤ) (n i : ℕ) {x z : ℤ} → ((j : ℕ) → j ≤ n → Fits (sumTo j f)) → i < n → x ≡ sumTo i f → mag z < 2 ^ hbits w64 → z ≡ f (suc i) → Added x z (sumTo (i + 1) f)
+pub sum-added : (f : ℕ → ℤ) (n i : ℕ) {x z : ℤ} → ((j : ℕ) → j ≤ n → Fits (sumTo j f))
+    → i < n → x ≡ sumTo i f → mag z < 2 ^ hbits w64 → z ≡ f (suc i) → Added x z (sumTo (i + 1) f)
 sum-added f n i h l p g e = added g e p (rw add-one (sumTo-more i f)) (h (i + 1) (omega arith))
 
 -- ---- loops
@@ -120,7 +121,8 @@ module _ (file t : List ℕ) (l : Layer) where
       area-told p = p ∙ area-kept ks k r ∙ ap (areaMeasureIn file t l) record-is
 
       -- the area's measure z, stored behind those of the areas before it
-      pub area-stored : (entry : List ℤ) (at : ℕ) {ms : List ℤ} {z : ℤ} → ms ≡ sets entry at (firstOf (λ a. areaOfLayer file t l (suc a)) a) → mag z < 2 ^ hbits w64 → z ≡ keptArea file l ks r
+      pub area-stored : (entry : List ℤ) (at : ℕ) {ms : List ℤ} {z : ℤ}
+          → ms ≡ sets entry at (firstOf (λ a. areaOfLayer file t l (suc a)) a) → mag z < 2 ^ hbits w64 → z ≡ keptArea file l ks r
           → set ms (at + a) (toZ w64 (ofZ w64 z)) ≡ sets entry at (firstOf (λ a. areaOfLayer file t l (suc a)) (a + 1))
       area-stored entry at p g q =
           ap₂ (λ (ms : List ℤ) (z : ℤ). set ms (at + a) z) p (toZ-ofZ {w = w64} (record { sfits = g }) ∙ area-told q)
@@ -133,9 +135,8 @@ module _ (file t : List ℕ) (l : Layer) where
     pub left : a ≡ eqb (leftAreaOf file t l n) 0
     pub right : b ≡ eqb (rightAreaOf file t l n) 0
 
-  pub sided : (n : ℕ) {r : ℕ} {x y : ℤ} {a b : Bool} → n ≤ 9999 → r ≡ lineOf t l (toZ w32 n) → mag x < 2 ^ hbits w32 → x ≡ valueAt file r leftArea → a ≡ isZero (toZ w32 (ofZ w32 x))
-      → mag y < 2 ^ hbits w32 → y ≡ valueAt file r rightArea → b ≡ isZero (toZ w32 (ofZ w32 y))
-      → Sided n a b
+  pub sided : (n : ℕ) {r : ℕ} {x y : ℤ} {a b : Bool} → n ≤ 9999 → r ≡ lineOf t l (toZ w32 n) → mag x < 2 ^ hbits w32 → x ≡ valueAt file r leftArea
+      → a ≡ isZero (toZ w32 (ofZ w32 x)) → mag y < 2 ^ hbits w32 → y ≡ valueAt file r rightArea → b ≡ isZero (toZ w32 (ofZ w32 y)) → Sided n a b
   unfolding leftAreaOf rightAreaOf
   sided n h e f p u g q v =
       let w = e ∙ ap (lineOf t l) (toZ-pos w32 {n = n} (omega arith)) in
@@ -198,7 +199,8 @@ module _ (t : List ℕ) (b : Bases) where
 
     -- a layer's measures behind those of the layers before it
     layer-filled : (i : ℕ) (ms : List ℤ) → i < 6399936 → wordsBefore t areasWord i + layerIn t b i .areas ≤ length ms
-        → sets (filledTo file t b i ms) (wordsBefore t areasWord i) (firstOf (λ a. areaOfLayer file t (layerIn t b i) (suc a)) (layerIn t b i .areas)) ≡ filledTo file t b (i + 1) ms
+        → sets (filledTo file t b i ms) (wordsBefore t areasWord i) (firstOf (λ a. areaOfLayer file t (layerIn t b i) (suc a)) (layerIn t b i .areas))
+        ≡ filledTo file t b (i + 1) ms
     unfolding filledTo measuresTo
     layer-filled i ms h f =
         rw (add-one, ← measures-many i (omega arith))
@@ -210,7 +212,8 @@ module _ (t : List ℕ) (b : Bases) where
     none-filled ms = refl
 
     -- the first i of n layers are filled into what held `entry`; l is the next one
-    module _ (n i : ℕ) (entry : List ℤ) {at : ℕ} {ms : List ℤ} (f : Fillable file t b n (length entry)) (p : at ≡ wordsBefore t areasWord i) (q : ms ≡ filledTo file t b i entry) where
+    module _ (n i : ℕ) (entry : List ℤ) {at : ℕ} {ms : List ℤ} (f : Fillable file t b n (length entry))
+        (p : at ≡ wordsBefore t areasWord i) (q : ms ≡ filledTo file t b i entry) where
       pub same-many : i ≤ n → length ms ≡ length entry
       same-many h = rw q (filled-many i entry (omega (arith, f .few)) (omega (arith, words-up i n h (f .few), f .places)))
 

@@ -100,8 +100,11 @@ pub load-only : (file words : List ℕ) (ms : List ℤ) (v : Verdict) → Answer
     × (measuresBy v file ms ≡ measuresAfter file (length words) ms)
 unfolding outcomeOf tableAfter measuresAfter
 load-only file words ms v a =
-    let e : v ≡ verdictOf file (length words) (length ms) = verdict-only file (length words) (length ms) v a in
-    (ap (λ v. outcomeBy v (countsAt file (recordsOf file)) (recordsOf file) (needOf file)) e, ap (λ v. tableBy v file words) e, ap (λ v. measuresBy v file ms) e)
+    let e : v ≡ verdictOf file (length words) (length ms) = verdict-only file (length words) (length ms) v a in (
+      ap (λ v. outcomeBy v (countsAt file (recordsOf file)) (recordsOf file) (needOf file)) e,
+      ap (λ v. tableBy v file words) e,
+      ap (λ v. measuresBy v file ms) e,
+    )
 
 -- ---- the layer sums
 
@@ -113,7 +116,8 @@ pub sums-only : (file words : List ℕ) (i : ℕ) (v : Verdict) → Answer (sums
     → (sumsBy v file i ≡ sumsOf file (length words) i) × (tableBy v file words ≡ tableAfterSums file i words)
 unfolding sumsOf tableAfterSums
 sums-only file words i v a =
-    let e : v ≡ sumsVerdict file (length words) i = only (sumsRules file (length words) i) v (sumsVerdict file (length words) i) a (sums-answers file (length words) i) in
+    let e : v ≡ sumsVerdict file (length words) i =
+    only (sumsRules file (length words) i) v (sumsVerdict file (length words) i) a (sums-answers file (length words) i) in
     (ap (λ v. sumsBy v file i) e, ap (λ v. tableBy v file words) e)
 
 -- ---- the number 0
@@ -135,7 +139,8 @@ pub zero-accepts : (file : List ℕ) (room places : ℕ) → outcomeOf file room
 unfolding outcomeOf verdictOf measureRule
 zero-accepts file room places e =
     not-told 0 (judgeRules file room places)
-    (append-numbered (unlike 0) (rulesOf file room) _ (rules-unlike file room 0 (λ l h. omega arith)) (block-numbered (unlike 0) eighth 0 (check 0 19 (leb (countsAt file (recordsOf file) .areas) places) ∷ []) refl))
+    (append-numbered (unlike 0) (rulesOf file room) _ (rules-unlike file room 0 (λ l h. omega arith))
+    (block-numbered (unlike 0) eighth 0 (check 0 19 (leb (countsAt file (recordsOf file) .areas) places) ∷ []) refl))
     (verdictOf file room places) refl
     (sym (told-by (verdictOf file room places) (countsAt file (recordsOf file)) (recordsOf file) (needOf file)) ∙ e)
 
@@ -148,6 +153,7 @@ pub zero-sums : (file : List ℕ) (room i : ℕ) → sumsOf file room i .number 
 unfolding sumsOf sumsVerdict layerRule
 zero-sums file room i e =
     not-told 0 (sumsRules file room i)
-    (append-numbered (unlike 0) (rulesOf file room) _ (rules-unlike file room 0 (λ l h. omega arith)) (block-numbered (unlike 0) eighth 0 (check 0 22 (leb 1 i && leb i (countsAt file (recordsOf file) .layers)) ∷ []) refl))
+    (append-numbered (unlike 0) (rulesOf file room) _ (rules-unlike file room 0 (λ l h. omega arith))
+    (block-numbered (unlike 0) eighth 0 (check 0 22 (leb 1 i && leb i (countsAt file (recordsOf file) .layers)) ∷ []) refl))
     (sumsVerdict file room i) refl
     (sym (sums-told (sumsVerdict file room i) file i) ∙ e)

@@ -71,7 +71,8 @@ counts-countable (Broken n r p) c h = record { meshes = lit≤ tt; layers = lit�
 
 walked-countable : (file : List ℕ) → Countable (walkedOf file .counts)
 unfolding walkedOf
-walked-countable file = counts-countable (firstBroken (stageOne file ++ stageTwo file)) (countsAt file (recordsOf file)) (countable file (recordsOf file) (records-small file))
+walked-countable file =
+    counts-countable (firstBroken (stageOne file ++ stageTwo file)) (countsAt file (recordsOf file)) (countable file (recordsOf file) (records-small file))
 
 -- a refusal tells no counts
 refused-alike : {v : Verdict} {n r p : ℕ} → v ≡ Broken n r p → (c d : Counts) (i j need : ℕ) → outcomeBy v c i need ≡ outcomeBy v d j need
@@ -173,7 +174,8 @@ module _ (file : List ℕ) (room : ℕ) {t : Tabled} (e : t ≡ judgedOf file ro
           goes-on (rulesOf file room) (measureRule file places) q judged
           (sym (check-broken eighth 0 0 19 _ [] (rw (← judged-counts) (lt-leb (t .counts .areas) places l))))
 
-      pub outcome-short : (i : ℕ) {o : Outcome} {v : Verdict} → v ≡ Broken 19 0 0 → o ≡ outcomeBy v (t .counts) i (t .counts .words) → o ≡ outcomeOf file room places
+      pub outcome-short : (i : ℕ) {o : Outcome} {v : Verdict} → v ≡ Broken 19 0 0
+          → o ≡ outcomeBy v (t .counts) i (t .counts .words) → o ≡ outcomeOf file room places
       unfolding outcomeOf
       outcome-short i f h = rw (← verdict-short) (rw f at h)
 
@@ -193,7 +195,8 @@ module _ (file : List ℕ) (room : ℕ) {t : Tabled} (e : t ≡ judgedOf file ro
           goes-on (rulesOf file room) (measureRule file places) q judged
           (check-none eighth 0 ∙ sym (check-kept eighth 0 0 19 _ [] (rw (← judged-counts) (le-leb (t .counts .areas) places l))))
 
-      pub outcome-kept : {i : ℕ} {o : Outcome} → i ≡ recordsOf file → o ≡ outcomeBy (t .verdict) (t .counts) i (t .counts .words) → o ≡ outcomeOf file room places
+      pub outcome-kept : {i : ℕ} {o : Outcome} → i ≡ recordsOf file
+          → o ≡ outcomeBy (t .verdict) (t .counts) i (t .counts .words) → o ≡ outcomeOf file room places
       unfolding outcomeOf
       outcome-kept f h = rw (← verdict-kept, ← judged-counts, ← f) (rw q at h)
 
@@ -210,7 +213,8 @@ module _ (file : List ℕ) (room : ℕ) {t : Tabled} (e : t ≡ judgedOf file ro
           places = rw (all-came areas file (ended file (judged-passed .two))) (rw judged-counts at l);
         })
 
-        pub measures-kept : (ms : List ℤ) {after : List ℤ} → places ≡ length ms → after ≡ filledTo file ws b (t .counts .layers) ms → after ≡ measuresAfter file room ms
+        pub measures-kept : (ms : List ℤ) {after : List ℤ} → places ≡ length ms
+            → after ≡ filledTo file ws b (t .counts .layers) ms → after ≡ measuresAfter file room ms
         unfolding measuresAfter measuresOf filledTo
         measures-kept ms m h = rw (← m, ← verdict-kept) (rw (f, g, judged-counts) at h)
 

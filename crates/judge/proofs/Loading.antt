@@ -120,7 +120,8 @@ module _ (file : List ℕ) (room : ℕ) {t : Tabled} (e : t ≡ tabledOf file ro
     pub early-judged : t ≡ judgedOf file room
     early-judged = judged-is early-verdict
 
-    pub early-table : (words after : List ℕ) → room ≡ length words → after ≡ filledBy (firstBroken (early file room)) file words → after ≡ tableJudged file words
+    pub early-table : (words after : List ℕ) → room ≡ length words
+        → after ≡ filledBy (firstBroken (early file room)) file words → after ≡ tableJudged file words
     unfolding tableJudged
     early-table words after l h =
         let v : firstBroken (early file room) ≡ Broken n r c = sym tabled ∙ q in
@@ -172,7 +173,8 @@ module _ (file : List ℕ) (room : ℕ) {t : Tabled} (e : t ≡ tabledOf file ro
           let d : leb n 9 ≡ false = lt-leb n 9 (b .0) in
           rw d
 
-      pub late-table : (words after : List ℕ) → room ≡ length words → after ≡ filledBy (firstBroken (early file room)) file words → after ≡ tableJudged file words
+      pub late-table : (words after : List ℕ) → room ≡ length words
+          → after ≡ filledBy (firstBroken (early file room)) file words → after ≡ tableJudged file words
       unfolding tableJudged
       late-table words after l h =
           let f : firstBroken (early file room) ≡ Fine = sym tabled ∙ q in

@@ -45,7 +45,8 @@ module _ (t : List ℕ) (b : Bases) (file : List ℕ) where
   unfolding measuresTo
   last-measure i m f a =
       rw (← measures-many t b file i f)
-      (getD-append-add (measuresTo file t b i) (ofLayer i) m (pos 0) ∙ first-at (λ a. areaOfLayer file t (layerIn t b i) (suc a)) (pos 0) (layerIn t b i .areas) m a)
+      (getD-append-add (measuresTo file t b i) (ofLayer i) m (pos 0)
+      ∙ first-at (λ a. areaOfLayer file t (layerIn t b i) (suc a)) (pos 0) (layerIn t b i .areas) m a)
 
   layer-measure : (n i m : ℕ) → n ≤ 6399936 → i < n → m < layerIn t b i .areas
       → getD (measuresTo file t b n) (wordsBefore t areasWord i + m) (pos 0) ≡ areaOfLayer file t (layerIn t b i) (suc m)
@@ -69,7 +70,8 @@ pub measures-areas : (file : List ℕ) (room places : ℕ) → verdictOf file ro
 unfolding verdictOf measuresOf
 measures-areas file room places h =
     let p = passed file room (both-fine (rulesOf file room) (measureRule file places) h .0) in
-    measures-many (tableOf file) (basesIn file) file (countsAt file (recordsOf file) .layers) (counts-few file refl .0) ∙ all-came areas file (ended file (p .two))
+    measures-many (tableOf file) (basesIn file) file (countsAt file (recordsOf file) .layers) (counts-few file refl .0)
+    ∙ all-came areas file (ended file (p .two))
 
 -- the A that stands behind k records: behind as many areas as came in them stands its measure
 pub measure-place : (file : List ℕ) (k : ℕ) → k < recordsOf file → {layer last : ℕ} → dueOf (stateAt file k) ≡ Area layer last

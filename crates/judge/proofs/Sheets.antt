@@ -12,9 +12,11 @@ use Rattle.records.specs.Layout.{layoutOf}
 use Rattle.records.specs.Reading.{faultOf}
 use Rattle.records.specs.Writing.{fieldText, textOf, recordBytes}
 use Rattle.records.specs.View.{recordOf, numberIn}
+use Rattle.records.specs.Columns.{slotStart}
 use Rattle.verdict.specs.declared.Verdict.{Verdict}
 use Rattle.verdict.specs.Rules.{firstBroken, block, rows, spread}
-use Rattle.permitted.specs.Permitted.{within, isMeshCode, followsMesh, isLayerCode, followsLayer, isDate, isNodeItem, isFrame, isLineItem, isLineKind, isLink, isCode, isSide, isAreaCode, isSlot, isPoint, isNext, isLoopSerial}
+use Rattle.permitted.specs.Permitted.{within, isMeshCode, followsMesh, isLayerCode, followsLayer, isDate, isNodeItem, isFrame}
+use Rattle.permitted.specs.Permitted.{isLineItem, isLineKind, isLink, isCode, isSide, isAreaCode, isSlot, isPoint, isNext, isLoopSerial}
 use Rattle.asks.specs.Asks.{from, meshAsks, layerAsks, nodeAsks, lineAsks, coordinateAsks, areaAsks, loopAsks}
 use Rattle.rules.specs.Checks.{asksOf, askedOf, formChecks, valueChecks, along, checksOf}
 use Rattle.walk.specs.States.{sizeIn, dueOf, nextOf, stateAt, layerWords, countsAt}
@@ -22,7 +24,8 @@ use Rattle.walk.specs.Stages.{recordsOf, endChecks, lengthChecks, stageOne, las
 use Rattle.walk.specs.Table.{gather, tableOf}
 use Rattle.totals.specs.Totals.{sumsFrom, sumsBehind, meshTotals, layerTotals, areaTotals, stageThree}
 use Rattle.layers.specs.Naming.{wordsBefore, layerIn, names, namesLine, nodeOf, lineOf, areaOf}
-use Rattle.links.specs.Links.{equal, entryIs, some, nodeEntry, endNode, meets, repeatsNode, nodeSlot, nodeChecks, listed, linkFits, lineEndChecks, sideChecks, lineChecks, atNode, firstPointChecks, lastPointChecks, pointChecks, loopEntry, entryChecks, stageFour}
+use Rattle.links.specs.Links.{equal, entryIs, some, nodeEntry, endNode, meets, repeatsNode, nodeSlot, nodeChecks, listed, linkFits, lineEndChecks}
+use Rattle.links.specs.Links.{sideChecks, lineChecks, atNode, firstPointChecks, lastPointChecks, pointChecks, loopEntry, entryChecks, stageFour}
 use Rattle.layers.specs.Passing.{basesOf, layerAt}
 use Rattle.measures.specs.Sum.{sum, upTo}
 use Rattle.measures.specs.Measures.{steps, lineMeasure, loopMeasure, areaMeasure}
@@ -35,7 +38,8 @@ use Rattle.ground.specs.Layers.{areaOfLayer, areasSum, leftAreaOf, rightAreaOf,
 use Rattle.judge.specs.Rulebook.{late, rulesOf, measureRule, layerRule, verdictOf, sumsVerdict}
 use Rattle.judge.specs.Outcomes.{outcomeOf, tableAfter, measuresOf, measuresAfter, sumsOf}
 use Rattle.judge.specs.declared.Outcome.{Outcome}
-use Rattle.judge.specs.Sheets.{written, mRecord, hRecord, nRecord, lRecord, points, aRecord, loopRecord, sheetS, changed, withMesh, Case, sheet, field, cases, twoMeshes, node, line, coordinates, area, loop, heads, sheetT, shore, sheetU, withoutHole, further}
+use Rattle.judge.specs.Sheets.{written, mRecord, hRecord, nRecord, lRecord, points, aRecord, loopRecord, sheetS, changed, withMesh, Case, sheet}
+use Rattle.judge.specs.Sheets.{field, cases, twoMeshes, node, line, coordinates, area, loop, heads, sheetT, shore, sheetU, withoutHole, further}
 
 -- what has to compute, under four names: a line that names one of them opens all that its own line names
 
@@ -51,12 +55,21 @@ walking = tt
 
 -- the rules
 judging : Unit {0}
-unfolding walking isName isBlanks textAt layoutOf faultOf within isMeshCode followsMesh isLayerCode followsLayer isDate isNodeItem isFrame isLineItem isLineKind isLink isCode isSide isAreaCode isSlot isPoint isNext isLoopSerial from meshAsks layerAsks nodeAsks lineAsks coordinateAsks areaAsks loopAsks asksOf askedOf formChecks valueChecks along checksOf firstBroken block rows endChecks lengthChecks stageOne lastChecks stageTwo wordsOf roomRule early sumsFrom sumsBehind meshTotals layerTotals areaTotals stageThree gather tableOf numberIn spread wordsBefore layerIn names namesLine nodeOf lineOf areaOf equal entryIs some nodeEntry endNode meets repeatsNode nodeSlot nodeChecks listed linkFits lineEndChecks sideChecks lineChecks atNode firstPointChecks lastPointChecks pointChecks loopEntry entryChecks layerAt stageFour coordinateIn pairBy pointBy pointCount firstOf pointsBy measureBy sum steps lineMeasure loopMeasure slotOf entriesTo recordsFor countAt loopsAt recordsTo slotsOf loopAt measureOf loopMeasureIn repeatsArea lastNode entryBefore joins rightArea loopSlot winds windChecks firstRecord areaRecord loopChecks stageFive lists sideListed listChecks stageSix basesOf late rulesOf measureRule verdictOf
+unfolding walking isName isBlanks textAt layoutOf faultOf within isMeshCode followsMesh isLayerCode followsLayer isDate isNodeItem isFrame isLineItem
+    isLineKind isLink isCode isSide isAreaCode isSlot isPoint isNext isLoopSerial from meshAsks layerAsks nodeAsks lineAsks coordinateAsks
+    areaAsks loopAsks asksOf askedOf formChecks valueChecks along checksOf firstBroken block rows endChecks lengthChecks stageOne lastChecks
+    stageTwo wordsOf roomRule early sumsFrom sumsBehind meshTotals layerTotals areaTotals stageThree gather tableOf numberIn slotStart spread wordsBefore
+    layerIn names namesLine nodeOf lineOf areaOf equal entryIs some nodeEntry endNode meets repeatsNode nodeSlot nodeChecks listed linkFits
+    lineEndChecks sideChecks lineChecks atNode firstPointChecks lastPointChecks pointChecks loopEntry entryChecks layerAt stageFour
+    coordinateIn pairBy pointBy pointCount firstOf pointsBy measureBy sum steps lineMeasure loopMeasure slotOf entriesTo recordsFor countAt
+    loopsAt recordsTo slotsOf loopAt measureOf loopMeasureIn repeatsArea lastNode entryBefore joins rightArea loopSlot winds windChecks
+    firstRecord areaRecord loopChecks stageFive lists sideListed listChecks stageSix basesOf late rulesOf measureRule verdictOf
 judging = tt
 
 -- the figures
 measuring : Unit {0}
-unfolding areaMeasure loopsTo areaMeasureIn upTo areaOfLayer areasSum leftAreaOf rightAreaOf outsideSum measuresTo measuresOf measuresAfter layerRule sumsVerdict sumsOf
+unfolding areaMeasure loopsTo areaMeasureIn upTo areaOfLayer areasSum leftAreaOf rightAreaOf
+    outsideSum measuresTo measuresOf measuresAfter layerRule sumsVerdict sumsOf
 measuring = tt
 
 -- a refusal without a place, and the need that it tells

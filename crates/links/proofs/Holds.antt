@@ -19,11 +19,14 @@ side-named file t l r c a h = h .1 .0
 
 module _ (file t : List ℕ) (l : Layer) (r : ℕ) (h : Holding (lineChecks file t l r)) where
   -- behind an L's two ends stand its two sides
-  sides-hold : Holding (sideChecks file t l r (spanOf column.leftCode) (spanOf column.leftArea)) × Holding (sideChecks file t l r (spanOf column.rightCode) (spanOf column.rightArea))
+  sides-hold : Holding (sideChecks file t l r (spanOf column.leftCode) (spanOf column.leftArea))
+      × Holding (sideChecks file t l r (spanOf column.rightCode) (spanOf column.rightArea))
   unfolding lineChecks
   sides-hold =
       let e = both-hold (lineEndChecks file l r (spanOf column.startNode) (spanOf column.startLink) false) _ h .1 in
-      both-hold (sideChecks file t l r (spanOf column.leftCode) (spanOf column.leftArea)) (sideChecks file t l r (spanOf column.rightCode) (spanOf column.rightArea)) (both-hold (lineEndChecks file l r (spanOf column.endNode) (spanOf column.endLink) true) _ e .1)
+      both-hold (sideChecks file t l r (spanOf column.leftCode) (spanOf column.leftArea))
+      (sideChecks file t l r (spanOf column.rightCode) (spanOf column.rightArea))
+      (both-hold (lineEndChecks file l r (spanOf column.endNode) (spanOf column.endLink) true) _ e .1)
 
   -- 11 of an L's left area and of its right one
   pub left-named : (isZero (valueAt file r column.leftArea) || names (l .areas) (valueAt file r column.leftArea)) ≡ true

@@ -2,7 +2,7 @@
 use mathlib.Core.Bool.{Bool, true, false, _&&_, _||_, not}
 use mathlib.Core.List.{List, [], _∷_, _++_}
 use mathlib.Core.Path.{_≡_, refl, sym, _∙_, ap}
-use Prim.Native.Nat.{ℕ, _+_, _-_, _*_, _≤_, _<_, _^_}
+use Prim.Native.Nat.{ℕ, _+_, _-_, _≤_, _<_, _^_}
 use native.Mathlib.Omega.{arith}
 use lib.IntN.{ℤ}
 use lib.Signed.{mag}
@@ -67,7 +67,8 @@ module _ (row : ℕ) (xs ys : List Check) where
   part-stops h e = stands (block fifth row xs) (block fifth row ys) h e ∙ ap firstBroken (sym (block-append fifth row xs ys))
 
   -- it is fine, and the second part's verdict w is returned
-  pub part-passes : {v w : Verdict} → v ≡ Fine → v ≡ firstBroken (block fifth row xs) → w ≡ firstBroken (block fifth row ys) → w ≡ firstBroken (block fifth row (xs ++ ys))
+  pub part-passes : {v w : Verdict} → v ≡ Fine → v ≡ firstBroken (block fifth row xs)
+      → w ≡ firstBroken (block fifth row ys) → w ≡ firstBroken (block fifth row (xs ++ ys))
   part-passes h e q = goes-on (block fifth row xs) (block fifth row ys) h e q ∙ ap firstBroken (sym (block-append fifth row xs ys))
 
 -- ---- what an N lists
@@ -122,27 +123,33 @@ module _ (file : List ℕ) (l : Layer) (r : ℕ) (c k : Span) (back : Bool) (row
     end-unlisted n t u v = kept _ _ _ _ _ (named n t) (broke _ _ _ _ _ (waits _ _ (named n t) (lists ∙ not-true b u)) v)
 
   -- y is its link, w the node's frame, and d says whether they fit
-  module _ {m : ℕ} {y w : ℤ} {d : Bool} (f : m ≡ nodeOf l (passed z)) (oky : Small y) (ey : y ≡ numberOn file r k) (okw : Small w) (ew : w ≡ valueAt file m column.nodeFrame)
-      (p : d ≡ linkFits (passed y) (passed w)) where
+  module _ {m : ℕ} {y w : ℤ} {d : Bool} (f : m ≡ nodeOf l (passed z)) (oky : Small y) (ey : y ≡ numberOn file r k)
+      (okw : Small w) (ew : w ≡ valueAt file m column.nodeFrame) (p : d ≡ linkFits (passed y) (passed w)) where
     fits : linkFits (numberOn file r k) (valueAt file (nodeOf l (numberOn file r c)) column.nodeFrame) ≡ d
     fits = told-both linkFits oky ey okw (ew ∙ ap (λ m. valueAt file m column.nodeFrame) (sym (told (nodeOf l) ok e f))) p
 
-    module _ {a b : Bool} {s : ℕ} (n : a ≡ names (l .nodes) (passed z)) (t : not a ≡ false) (g : s ≡ serialIn file r column.lineSerial) (q : b ≡ listed file m back s) (u : not b ≡ false) where
+    module _ {a b : Bool} {s : ℕ} (n : a ≡ names (l .nodes) (passed z)) (t : not a ≡ false)
+        (g : s ≡ serialIn file r column.lineSerial) (q : b ≡ listed file m back s) (u : not b ≡ false) where
       pub end-unfit : {x : Verdict} → not d ≡ true → x ≡ Broken 12 row (k .start) → x ≡ firstBroken (block fifth row (lineEndChecks file l r c k back))
       unfolding lineEndChecks
       end-unfit h v =
-          kept _ _ _ _ _ (named n t) (kept _ _ _ _ _ (waits _ _ (named n t) (lists f g q ∙ not-false b u)) (broke _ _ _ _ _ (waits _ _ (named n t) (fits ∙ not-true d h)) v))
+          kept _ _ _ _ _ (named n t)
+          (kept _ _ _ _ _ (waits _ _ (named n t) (lists f g q ∙ not-false b u)) (broke _ _ _ _ _ (waits _ _ (named n t) (fits ∙ not-true d h)) v))
 
       pub end-fine : not d ≡ false → Fine ≡ firstBroken (block fifth row (lineEndChecks file l r c k back))
       unfolding lineEndChecks
       end-fine h =
-          kept _ _ _ _ _ (named n t) (kept _ _ _ _ _ (waits _ _ (named n t) (lists f g q ∙ not-false b u)) (kept _ _ _ _ _ (waits _ _ (named n t) (fits ∙ not-false d h)) (check-none fifth row)))
+          kept _ _ _ _ _ (named n t)
+          (kept _ _ _ _ _ (waits _ _ (named n t) (lists f g q ∙ not-false b u))
+          (kept _ _ _ _ _ (waits _ _ (named n t) (fits ∙ not-false d h)) (check-none fifth row)))
 
 -- ---- one side of a line
 
 -- z is its area number, and b says whether it names an area
-module _ (file t : List ℕ) (l : Layer) (r : ℕ) (c a : Span) (row : ℕ) {z : ℤ} {b : Bool} (ok : Small z) (e : z ≡ numberOn file r a) (n : b ≡ names (l .areas) (passed z)) where
-  unnamed : not b ≡ true → (not (names (l .areas) (numberOn file r a)) || equal (numberOn file r c) (valueAt file (areaOf t l (numberOn file r a)) column.areaCode)) ≡ true
+module _ (file t : List ℕ) (l : Layer) (r : ℕ) (c a : Span) (row : ℕ) {z : ℤ} {b : Bool}
+    (ok : Small z) (e : z ≡ numberOn file r a) (n : b ≡ names (l .areas) (passed z)) where
+  unnamed : not b ≡ true
+      → (not (names (l .areas) (numberOn file r a)) || equal (numberOn file r c) (valueAt file (areaOf t l (numberOn file r a)) column.areaCode)) ≡ true
   unnamed h = rw (told (names (l .areas)) ok e n ∙ not-true b h)
 
   area : not b ≡ false → names (l .areas) (numberOn file r a) ≡ true
@@ -159,18 +166,20 @@ module _ (file t : List ℕ) (l : Layer) (r : ℕ) (c a : Span) (row : ℕ) {z :
     side-unnamed u v = kept _ _ _ _ _ (unnamed h) (broke _ _ _ _ _ (or-none _ _ (told isZero ok e q ∙ u) (told (names (l .areas)) ok e n ∙ not-true b h)) v)
 
   -- m is the area's record, y the line's code, w the area's, and d says whether they are equal
-  module _ {m : ℕ} {y w : ℤ} {d : Bool} (f : m ≡ areaOf t l (passed z)) (oky : Small y) (ey : y ≡ numberOn file r c) (okw : Small w) (ew : w ≡ valueAt file m column.areaCode)
-      (q : d ≡ equal (passed y) (passed w)) where
+  module _ {m : ℕ} {y w : ℤ} {d : Bool} (f : m ≡ areaOf t l (passed z)) (oky : Small y) (ey : y ≡ numberOn file r c)
+      (okw : Small w) (ew : w ≡ valueAt file m column.areaCode) (q : d ≡ equal (passed y) (passed w)) where
     alike : equal (numberOn file r c) (valueAt file (areaOf t l (numberOn file r a)) column.areaCode) ≡ d
     alike = told-both equal oky ey okw (ew ∙ ap (λ m. valueAt file m column.areaCode) (sym (told (areaOf t l) ok e f))) q
 
-    pub side-unlike : {x : Verdict} → not b ≡ false → not d ≡ true → x ≡ Broken 12 row (c .start) → x ≡ firstBroken (block fifth row (sideChecks file t l r c a))
+    pub side-unlike : {x : Verdict} → not b ≡ false → not d ≡ true → x ≡ Broken 12 row (c .start)
+        → x ≡ firstBroken (block fifth row (sideChecks file t l r c a))
     unfolding sideChecks
     side-unlike h u v = broke _ _ _ _ _ (waits _ _ (area h) (alike ∙ not-true d u)) v
 
     pub side-fine : not b ≡ false → not d ≡ false → Fine ≡ firstBroken (block fifth row (sideChecks file t l r c a))
     unfolding sideChecks
-    side-fine h u = kept _ _ _ _ _ (waits _ _ (area h) (alike ∙ not-false d u)) (kept _ _ _ _ _ (or-right (isZero (numberOn file r a)) _ (area h)) (check-none fifth row))
+    side-fine h u =
+        kept _ _ _ _ _ (waits _ _ (area h) (alike ∙ not-false d u)) (kept _ _ _ _ _ (or-right (isZero (numberOn file r a)) _ (area h)) (check-none fifth row))
 
 -- ---- points
 
@@ -191,7 +200,9 @@ module _ (file : List ℕ) (l : Layer) (v : ℤ) (r i : ℕ) {a : Bool} (ok : Sm
     at-node : m ≡ nodeOf l v
     at-node = f ∙ ap (nodeOf l) (passed-on ok refl)
 
-    both-at : (equal (slotAt file r column.pointsX i) (valueAt file (nodeOf l v) column.nodeX) && equal (slotAt file r column.pointsY i) (valueAt file (nodeOf l v) column.nodeY)) ≡ (b && d)
+    both-at : (equal (slotAt file r column.pointsX i) (valueAt file (nodeOf l v) column.nodeX)
+        && equal (slotAt file r column.pointsY i) (valueAt file (nodeOf l v) column.nodeY))
+        ≡ (b && d)
     both-at = rw (
       told-both equal okx ex oku (eu ∙ ap (λ m. valueAt file m column.nodeX) at-node) p,
       told-both equal oky ey okw (ew ∙ ap (λ m. valueAt file m column.nodeY) at-node) q,
@@ -221,7 +232,9 @@ module _ (file : List ℕ) (l : Layer) (q r left row : ℕ) where
 
       pub first-kept : not b ≡ false → Fine ≡ firstBroken (block fifth row (firstPointChecks file l q r left))
       unfolding firstPointChecks
-      first-kept t = rw (lt-ltb 1 left h, told size ok e s, eq-eqb left n u) (kept _ _ _ _ _ (told (λ v. atNode file l v r 0) okw ew a ∙ not-false b t) (check-none fifth row))
+      first-kept t =
+          rw (lt-ltb 1 left h, told size ok e s, eq-eqb left n u)
+          (kept _ _ _ _ _ (told (λ v. atNode file l v r 0) okw ew a ∙ not-false b t) (check-none fifth row))
 
   -- the last point is not in this record
   pub last-none : left ≡ 0 → Fine ≡ firstBroken (block fifth row (lastPointChecks file l q r left))
@@ -233,17 +246,23 @@ module _ (file : List ℕ) (l : Layer) (q r left row : ℕ) where
   last-later h u = rw (lt-ltb 0 left (omega (arith, u)), lt-leb left 7 u) (check-none fifth row)
 
   -- it is: b says whether it is at its node
-  module _ {w : ℤ} {b : Bool} (h : left ≡ 0 → ⊥) (u : left ≤ 7) (okw : Small w) (ew : w ≡ valueAt file q column.endNode) (a : b ≡ atNode file l (passed w) r (left - 1)) where
-    pub last-broken : {x : Verdict} → not b ≡ true → x ≡ Broken 12 row (slotColumn column.pointsX (left - 1)) → x ≡ firstBroken (block fifth row (lastPointChecks file l q r left))
+  module _ {w : ℤ} {b : Bool} (h : left ≡ 0 → ⊥) (u : left ≤ 7) (okw : Small w)
+      (ew : w ≡ valueAt file q column.endNode) (a : b ≡ atNode file l (passed w) r (left - 1)) where
+    pub last-broken : {x : Verdict} → not b ≡ true → x ≡ Broken 12 row (slotColumn column.pointsX (left - 1))
+        → x ≡ firstBroken (block fifth row (lastPointChecks file l q r left))
     unfolding lastPointChecks
-    last-broken t v = rw (lt-ltb 0 left (omega (arith, h)), le-leb left 7 u) (broke _ _ _ _ _ (told (λ v. atNode file l v r (left - 1)) okw ew a ∙ not-true b t) v)
+    last-broken t v =
+        rw (lt-ltb 0 left (omega (arith, h)), le-leb left 7 u) (broke _ _ _ _ _ (told (λ v. atNode file l v r (left - 1)) okw ew a ∙ not-true b t) v)
 
     pub last-kept : not b ≡ false → Fine ≡ firstBroken (block fifth row (lastPointChecks file l q r left))
     unfolding lastPointChecks
-    last-kept t = rw (lt-ltb 0 left (omega (arith, h)), le-leb left 7 u) (kept _ _ _ _ _ (told (λ v. atNode file l v r (left - 1)) okw ew a ∙ not-false b t) (check-none fifth row))
+    last-kept t =
+        rw (lt-ltb 0 left (omega (arith, h)), le-leb left 7 u)
+        (kept _ _ _ _ _ (told (λ v. atNode file l v r (left - 1)) okw ew a ∙ not-false b t) (check-none fifth row))
 
   -- neither of them is: more than seven points are left, and fewer than the line's n
-  pub points-later : {z : ℤ} {n : ℕ} → 7 < left → left < n → Small z → z ≡ valueAt file q column.linePoints → n ≡ size (passed z) → Fine ≡ firstBroken (block fifth row (pointChecks file l q r left))
+  pub points-later : {z : ℤ} {n : ℕ} → 7 < left → left < n → Small z → z ≡ valueAt file q column.linePoints
+      → n ≡ size (passed z) → Fine ≡ firstBroken (block fifth row (pointChecks file l q r left))
   unfolding pointChecks
   points-later h u ok e s = part-passes row _ _ refl (first-later (omega arith) ok e s (λ i. omega arith)) (last-later (λ i. omega arith) h)
 

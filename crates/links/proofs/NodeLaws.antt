@@ -2,7 +2,7 @@
 use mathlib.Core.Bool.{Bool, true, false, not, _||_}
 use mathlib.Core.List.{List, [], _∷_}
 use mathlib.Core.Path.{_≡_, refl, _∙_}
-use Prim.Native.Nat.{ℕ, _+_, _*_}
+use Prim.Native.Nat.{ℕ}
 use Rattle.permitted.specs.Permitted.{isZero}
 use Rattle.layers.specs.declared.Layer.{Layer}
 use Rattle.layers.specs.Naming.{namesLine}
@@ -52,7 +52,10 @@ module _ (file t : List ℕ) (l : Layer) (r i row : ℕ) where
       (isZero (nodeEntry file r i) || not (repeats (nodeEntry file r) i))
     where
       third : (a b d : Bool)
-          → firstBroken (block fifth row (check (slotColumn column.nodeEntries i) 11 a ∷ check (slotColumn column.nodeEntries i) 12 b ∷ check (slotColumn column.nodeEntries i) 13 d ∷ [])) ≡ Fine → d ≡ true
+          → firstBroken (block fifth row
+          (check (slotColumn column.nodeEntries i) 11 a ∷ check (slotColumn column.nodeEntries i) 12 b ∷ check (slotColumn column.nodeEntries i) 13 d ∷ []))
+          ≡ Fine
+          → d ≡ true
       third a b true h = refl
       third false b false h = fine-broken h (check-broken fifth row _ 11 false _ refl)
       third true false false h = fine-broken h (check-kept fifth row _ 11 true _ refl ∙ check-broken fifth row _ 12 false _ refl)

@@ -18,9 +18,11 @@ pub asked : {A : Type 0} (P : ℤ → A) {z x : ℤ} {r b : A} → mag z < 2 ^ h
 asked P f e h t = sym (told P f e h) ∙ t
 
 -- the same of two numbers
-pub told-both : {A : Type 0} (P : ℤ → ℤ → A) {v w x y : ℤ} {r : A} → mag v < 2 ^ hbits w32 → v ≡ x → mag w < 2 ^ hbits w32 → w ≡ y → r ≡ P (toZ w32 (ofZ w32 v)) (toZ w32 (ofZ w32 w)) → P x y ≡ r
+pub told-both : {A : Type 0} (P : ℤ → ℤ → A) {v w x y : ℤ} {r : A} → mag v < 2 ^ hbits w32 → v ≡ x
+    → mag w < 2 ^ hbits w32 → w ≡ y → r ≡ P (toZ w32 (ofZ w32 v)) (toZ w32 (ofZ w32 w)) → P x y ≡ r
 told-both P f p g q h = sym (h ∙ rw (passed-on f p, passed-on g q))
 
 -- two numbers compared
-pub compared : {v w x y : ℤ} {r b : Bool} → mag v < 2 ^ hbits w32 → v ≡ x → mag w < 2 ^ hbits w32 → w ≡ y → r ≡ equal (toZ w32 (ofZ w32 v)) (toZ w32 (ofZ w32 w)) → r ≡ b → equal x y ≡ b
+pub compared : {v w x y : ℤ} {r b : Bool} → mag v < 2 ^ hbits w32 → v ≡ x → mag w < 2 ^ hbits w32
+    → w ≡ y → r ≡ equal (toZ w32 (ofZ w32 v)) (toZ w32 (ofZ w32 w)) → r ≡ b → equal x y ≡ b
 compared f p g q h t = told-both equal f p g q h ∙ t

@@ -1,6 +1,6 @@
 -- The slots of a loop record and the way round of its loop: what their checks come to, by the ways out of the code that judges them.
 -- Assumes nothing.
-use mathlib.Core.Bool.{Bool, true, false, not, _||_}
+use mathlib.Core.Bool.{Bool, true, false, not}
 use mathlib.Core.List.{List, [], _∷_}
 use mathlib.Core.Path.{_≡_, refl, sym, _∙_, ap}
 use Prim.Native.Nat.{ℕ, _+_, _-_, _*_, _≤_, _<_, _^_}
@@ -101,21 +101,25 @@ module _ (file : List ℕ) (x : ℤ) (r left : ℕ) where
     wind-fine u = rw (le-ltb 0 left h) (check-none sixth r ∙ sym (check-kept sixth r 1 16 _ [] (wound ∙ not-false b u)))
 
 -- by what was kept of its lines, where that is their measures
-pub wind-kept : (file t : List ℕ) (l : Layer) (ms : List ℤ) (r left : ℕ) {v : Verdict} → Kept file t l ms → v ≡ firstBroken (block sixth r (windChecks file (keptLoop file l ms r) r left))
+pub wind-kept : (file t : List ℕ) (l : Layer) (ms : List ℤ) (r left : ℕ) {v : Verdict}
+    → Kept file t l ms → v ≡ firstBroken (block sixth r (windChecks file (keptLoop file l ms r) r left))
     → v ≡ firstBroken (block sixth r (windChecks file (loopMeasureIn file t l r) r left))
 wind-kept file t l ms r left k e = rw (← loop-kept file t l ms k r) e
 
 -- ---- a loop record
 
-module _ (file t : List ℕ) (l : Layer) (area count left r : ℕ) {v : Verdict} (e : v ≡ firstBroken (block sixth r (windChecks file (loopMeasureIn file t l r) r left))) where
+module _ (file t : List ℕ) (l : Layer) (area count left r : ℕ) {v : Verdict}
+    (e : v ≡ firstBroken (block sixth r (windChecks file (loopMeasureIn file t l r) r left))) where
   -- its loop turns the wrong way round, and that is returned
   pub loop-stops : {x y z : ℕ} → v ≡ Broken x y z → v ≡ firstBroken (block sixth r (loopChecks file t l area count left r))
   unfolding loopChecks
-  loop-stops h = stands (block sixth r (windChecks file (loopMeasureIn file t l r) r left)) _ h e ∙ ap firstBroken (sym (block-append sixth r (windChecks file (loopMeasureIn file t l r) r left) _))
+  loop-stops h =
+      stands (block sixth r (windChecks file (loopMeasureIn file t l r) r left)) _ h e
+      ∙ ap firstBroken (sym (block-append sixth r (windChecks file (loopMeasureIn file t l r) r left) _))
 
   -- it does not, and the verdict w of the slots is returned
-  pub loop-passes : {a f : ℕ} {w : Verdict} → v ≡ Fine → a ≡ areaRecord t l area → f ≡ firstRecord r count left → w ≡ firstBroken (block sixth r (spread 12 (loopSlot file t l a area f r)))
-      → w ≡ firstBroken (block sixth r (loopChecks file t l area count left r))
+  pub loop-passes : {a f : ℕ} {w : Verdict} → v ≡ Fine → a ≡ areaRecord t l area → f ≡ firstRecord r count left
+      → w ≡ firstBroken (block sixth r (spread 12 (loopSlot file t l a area f r))) → w ≡ firstBroken (block sixth r (loopChecks file t l area count left r))
   unfolding loopChecks
   loop-passes h p q k =
       goes-on (block sixth r (windChecks file (loopMeasureIn file t l r) r left)) _ h e (rw (← p, ← q) k)

@@ -116,7 +116,8 @@ kept-for file t b {x} e {d} f ms h = by (ltb 0 (x .rows)) refl
     by false q =
         let z = bare-due (stateAt file (x .records)) (bare-at file (x .records) (omega (arith, rows-are file t b e, ltb-false 0 (x .rows) q))) in
         rw (f, state-is file t b e, z)
-        (none-kept file t (x .layer) ms (ltb 0 (stateAt file (x .records) .mesh .layers)) (stateAt file (x .records) .layer .code) (stateAt file (x .records) .mesh .code))
+        (none-kept file t (x .layer) ms (ltb 0 (stateAt file (x .records) .mesh .layers))
+        (stateAt file (x .records) .layer .code) (stateAt file (x .records) .mesh .code))
 
 -- ---- slots that repeat none
 
@@ -133,7 +134,8 @@ module _ (file t : List ℕ) (l y : Layer) (s : State) (w : List ℕ) where
   none-known a h = rw h (unrepeated-none file a)
 
   -- case by case: another layer than l begins behind an H only, and an A alone raises the count of areas
-  known-by : (d : Due) {n : ℕ} → KnownBehind d file t l (s .layer .area) n → Unrepeated file (areaRecord t (cond (isLayer d) y l) (nextFor d s w .layer .area)) n
+  known-by : (d : Due) {n : ℕ} → KnownBehind d file t l (s .layer .area) n
+      → Unrepeated file (areaRecord t (cond (isLayer d) y l) (nextFor d s w .layer .area)) n
   known-by (due.Mesh last) h = none-known _ h
   known-by (due.Layer last) h = none-known _ h
   known-by (due.Node layer last) h = none-known _ h

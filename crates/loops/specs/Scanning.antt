@@ -1,9 +1,9 @@
 -- What is known of an area's entries without a scan, and what is kept of a layer's lines. It serves the code and is no part of a promise.
 -- Assumes nothing.
-use mathlib.Core.Bool.{Bool, true, false, cond, _||_, not}
+use mathlib.Core.Bool.{Bool, true, false, cond}
 use mathlib.Core.List.{List}
 use mathlib.Core.Path.{_≡_}
-use Prim.Native.Nat.{ℕ, _+_, _*_, _-_, _≤_, _<_}
+use Prim.Native.Nat.{ℕ, _+_, _*_, _≤_, _<_}
 use lib.IntN.{ℤ}
 use lib.ListN as ListN
 use lib.ListN.{getD, take}

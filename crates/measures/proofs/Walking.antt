@@ -108,7 +108,8 @@ module _ (read : List ℕ → ℕ → ℤ) (file : List ℕ) (r : ℕ) where
 
   -- on along the next record
   line-next : (q n : ℕ) → n ≤ 7
-      → walkAlong (walkAlong begin (pointBy read file r) (7 * q)) (pairBy read (recordOf file (r + 1 + q))) n ≡ walkAlong begin (pointBy read file r) (7 * q + n)
+      → walkAlong (walkAlong begin (pointBy read file r) (7 * q)) (pairBy read (recordOf file (r + 1 + q))) n
+      ≡ walkAlong begin (pointBy read file r) (7 * q + n)
   line-next q n h =
       sym (along-more begin (pointBy read file r) (7 * q) n
       ∙ along-ext _ (λ i. pointBy read file r (7 * q + i)) (pairBy read (recordOf file (r + 1 + q))) n (λ i l. points-of q i (omega arith)))

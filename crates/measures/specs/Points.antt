@@ -4,7 +4,7 @@
 --   measureIn file r    its measure
 -- `pairBy`, `pointBy`, `pointsBy` and `measureBy` are the same for any way to read a coordinate.
 use mathlib.Core.List.{List, [], _∷_, _++_}
-use Prim.Native.Nat.{ℕ, zero, suc, _+_, _*_, _/_, _%_}
+use Prim.Native.Nat.{ℕ, zero, suc, _+_, _/_, _%_}
 use lib.IntN.{ℤ, pos, negsuc}
 use Rattle.fields.specs.Number.{numberAt}
 use Rattle.fields.specs.Answer.{valueOf}

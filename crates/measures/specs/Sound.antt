@@ -5,7 +5,7 @@
 --   addedUp s c      the remainders of the bytes of the coordinate that starts at column c of s, added up
 use mathlib.Core.List.{List}
 use mathlib.Core.Path.{_≡_}
-use Prim.Native.Nat.{ℕ, _+_, _*_, _/_, _%_, _≤_, _<_}
+use Prim.Native.Nat.{ℕ, _+_, _/_, _%_, _≤_, _<_}
 use lib.IntN.{ℤ, pos}
 use Rattle.glances.specs.Glimpse.{remaindersAt}
 use Rattle.fields.specs.Number.{numberAt}

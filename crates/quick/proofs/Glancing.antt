@@ -53,7 +53,8 @@ point-broken false (pos n) h = ne-eqb n 0 (λ e. h n refl (omega arith))
 point-broken false (negsuc n) h = ne-eqb (suc n) 0 (λ e. omega arith)
 
 -- that is all that is asked of number i
-number-asked : (left i : ℕ) (ns : List ℤ) {v : ℤ} {b : Bool} → i < 14 → at ns i ≡ v → isPoint (ltb (i / 2) left) v ≡ b → cond b 0 6 ≡ firstAsked (askedOf (Coordinates left) i ns)
+number-asked : (left i : ℕ) (ns : List ℤ) {v : ℤ} {b : Bool} → i < 14 → at ns i ≡ v
+    → isPoint (ltb (i / 2) left) v ≡ b → cond b 0 6 ≡ firstAsked (askedOf (Coordinates left) i ns)
 unfolding askedOf asksOf coordinateAsks firstAsked
 number-asked left i ns l e h =
     let q = ap (isPoint (ltb (i / 2) left)) e ∙ h in

@@ -112,7 +112,15 @@ module _ {L : List Field} {ns : List ℤ} {nm out : List ℕ} {n m j : ℕ} (g :
           tiled = rw (← c) (here .rest);
           whole = g .whole ∙ rw (split L j f e i, y, drop-drop, drop-drop, p, q);
           text =
-              rw (o, put-front out t (startOf f) (g .at) (widthOf f) (here .start) l (omega (arith, width, g .long)), append-assoc, p, q, ← drop-drop (numbersOf f) n ns, ← drop-drop (bytesOf f) m nm)
+              rw (
+                o,
+                put-front out t (startOf f) (g .at) (widthOf f) (here .start) l (omega (arith, width, g .long)),
+                append-assoc,
+                p,
+                q,
+                ← drop-drop (numbersOf f) n ns,
+                ← drop-drop (bytesOf f) m nm,
+              )
               (rw (split L j f e i) at (g .text));
         }
 
@@ -137,7 +145,8 @@ module _ {L : List Field} {ns : List ℤ} {nm out : List ℕ} {n m j : ℕ} (g :
     unfolding fieldFits fieldText
     letters-next = next (Letters a b) e refl n m (omega arith) (omega arith) (set (set out 0 a) 1 b) refl (two-put out a b (g .long))
 
-  module _ (c w : ℕ) (e : Number c w ≡ getD L j End) {v : ℤ} (q : v ≡ getD ns n (pos 0)) {r : writings.Writing} {out′ : List ℕ} (h : Wrote (numberFits out c w v) out c (spell w v) r out′) where
+  module _ (c w : ℕ) (e : Number c w ≡ getD L j End) {v : ℤ} (q : v ≡ getD ns n (pos 0))
+      {r : writings.Writing} {out′ : List ℕ} (h : Wrote (numberFits out c w v) out c (spell w v) r out′) where
     number-first : getD (drop n ns) 0 (pos 0) ≡ v
     number-first = getD-drop n ns 0 (pos 0) ∙ rw (add-zero, q)
 

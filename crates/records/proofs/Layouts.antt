@@ -43,7 +43,8 @@ row-at c w (suc n) fs (suc i) h =
     row-at (c + w) w n fs i (omega arith) ∙ rw (mul-suc, e)
 
 -- a number of a row that starts behind the first d fields
-pub in-row : (L : List Field) (d c w n : ℕ) (fs : List Field) (j : ℕ) → drop d L ≡ row c w n ++ fs → d ≤ j → j - d < n → Number (c + w * (j - d)) w ≡ getD L j End
+pub in-row : (L : List Field) (d c w n : ℕ) (fs : List Field) (j : ℕ)
+    → drop d L ≡ row c w n ++ fs → d ≤ j → j - d < n → Number (c + w * (j - d)) w ≡ getD L j End
 in-row L d c w n fs j e l h =
     let z : d + (j - d) ≡ j = omega arith in
     let g : getD (drop d L) (j - d) End ≡ getD L j End = rw z at (getD-drop d L (j - d) End) in

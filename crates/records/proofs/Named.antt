@@ -2,8 +2,8 @@
 -- Assumes nothing.
 use mathlib.Core.Bool.{Bool, true, false, _&&_, _||_}
 use mathlib.Core.List.{List, [], _∷_}
-use mathlib.Core.Logic.{_⊎_, inl, inr, ⊎-elim}
-use mathlib.Core.Path.{_≡_, refl, sym}
+use mathlib.Core.Logic.{_⊎_, ⊎-elim}
+use mathlib.Core.Path.{_≡_, refl}
 use Prim.Native.Nat.{ℕ, zero, suc, _+_, _*_, _≤_, _<_}
 use native.Mathlib.Nat.{le-of-suc-le-suc, eq-or-lt-of-le, mul-le-mul}
 use native.Mathlib.Omega.{arith}
@@ -12,8 +12,7 @@ use lib.ListN.{getD}
 use borrow.Author.Tests.{eqb-true, lt-ltb, le-ltb}
 use Rattle.fields.proofs.Places.{both}
 use Rattle.records.specs.Layout.{layoutOf}
-use Rattle.records.specs.View.{numberIn}
-use Rattle.records.specs.Columns.{Column, columnKind, spanOf, Row, rowKind, rowSpanOf, slotWidth, slotColumn, slotStart, slotIn}
+use Rattle.records.specs.Columns.{Column, columnKind, spanOf, Row, rowKind, rowSpanOf, slotWidth, slotColumn, slotStart}
 use Rattle.records.specs.Columns as name
 use Rattle.records.specs.declared.Field.{Field}
 use Rattle.records.specs.declared.Field.the-variants.{End, Letters, Number, Name, Blank}
@@ -130,9 +129,6 @@ module _ (c step n i : ℕ) where
   pub start-there : i < n → slotStart c step n i ≡ c + step * i
   unfolding slotStart
   start-there h = rw (lt-ltb i n h)
-
-  pub slot-there : (file : List ℕ) (k : ℕ) → i < n → slotIn file k c step n i ≡ numberIn file k (c + step * i) slotWidth
-  slot-there file k h = rw (start-there h)
 
 -- two bytes' product is small
 pub small-product : {a b : ℕ} → a ≤ 255 → b ≤ 255 → a * b ≤ 65025

@@ -17,7 +17,8 @@ use Rattle.records.specs.declared.Kind.{Kind}
 use Rattle.records.specs.declared.Reading.{Reading}
 use Rattle.records.specs.declared.Record.{Record}
 use Rattle.records.proofs.Layouts.{tiled, tiles-width, fitting}
-use Rattle.records.proofs.RoundTrips.{text-length, read-written, written-read, fits-rest, zero-number, every-same, every-row, laid, padded, over-short, numbers-short, name-short}
+use Rattle.records.proofs.RoundTrips.{text-length, read-written, written-read, fits-rest, zero-number}
+use Rattle.records.proofs.RoundTrips.{every-same, every-row, laid, padded, over-short, numbers-short, name-short}
 
 -- a record's value has all its entries
 pub record Sized (r : Record) : Type 0 where
@@ -29,7 +30,10 @@ abbrev answer : Kind → List ℕ → Bool → Bool → Bool → ℕ → ℕ →
 answer k s t u v n c = cond t (cond u (cond v (fieldsBy k s n c) (refusedAt k 2 74)) (refusedAt k 2 73)) (refusedAt k 1 1)
 
 sized-by : (k : Kind) (s : List ℕ) (t u v : Bool) (n c : ℕ) → Sized (answer k s t u v n c .value)
-sized-by k s true true true zero c = record { numbers = length-sets zeros 0 (over numbersIn (layoutOf k) s); name = length-sets noName 0 (over nameIn (layoutOf k) s) }
+sized-by k s true true true zero c = record {
+  numbers = length-sets zeros 0 (over numbersIn (layoutOf k) s);
+  name = length-sets noName 0 (over nameIn (layoutOf k) s);
+}
 sized-by k s true true true (suc n) c = record { numbers = refl; name = refl }
 sized-by k s true true false n c = record { numbers = refl; name = refl }
 sized-by k s true false v n c = record { numbers = refl; name = refl }
@@ -38,7 +42,8 @@ sized-by k s false u v n c = record { numbers = refl; name = refl }
 -- what is read has all its entries
 pub value-sized : (k : Kind) (s : List ℕ) → Sized (readingOf k s .value)
 unfolding readingOf fieldsOf
-value-sized k s = sized-by k s (eqb (length s) 74) (eqb (getD s 72 0) 13) (eqb (getD s 73 0) 10) (firstFault (layoutOf k) s .number) (firstFault (layoutOf k) s .column)
+value-sized k s =
+    sized-by k s (eqb (length s) 74) (eqb (getD s 72 0) 13) (eqb (getD s 73 0) 10) (firstFault (layoutOf k) s .number) (firstFault (layoutOf k) s .column)
 
 -- what fits is 72 columns
 pub columns-length : (k : Kind) (ns : List ℤ) (nm : List ℕ) → fits (layoutOf k) ns nm ≡ true → length (textOf (layoutOf k) ns nm) ≡ 72
@@ -83,7 +88,9 @@ accepted-by k s false u v n c e = absurd (omega arith)
 accepts : (k : Kind) (s : List ℕ) → readingOf k s .number ≡ 0 → Accepted k s
 unfolding readingOf fieldsOf
 accepts k s e =
-    let h = accepted-by k s (eqb (length s) 74) (eqb (getD s 72 0) 13) (eqb (getD s 73 0) 10) (firstFault (layoutOf k) s .number) (firstFault (layoutOf k) s .column) e in
+    let h =
+    accepted-by k s (eqb (length s) 74) (eqb (getD s 72 0) 13) (eqb (getD s 73 0) 10)
+    (firstFault (layoutOf k) s .number) (firstFault (layoutOf k) s .column) e in
     record { long = eqb-true _ _ (h .0); return = eqb-true _ _ (h .1); feed = eqb-true _ _ (h .2); sound = h .3 }
 
 -- what is accepted is the value of the fields
@@ -108,8 +115,10 @@ kept-value k s a =
     let r = fitting k in
     let w = written-read (layoutOf k) 1 (tiled k) s (a .sound) (a .long) (replicate (16 - length ns) (pos 0)) (replicate (40 - length nm) 0) in
     let u = laid (pos 0) 16 (over numbersIn (layoutOf k) s) (omega arith) in
-    let v = laid 0 40 (over nameIn (layoutOf k) s) (omega arith) in
-    (rw (u, v, w .fit, every-row isZero (pos 0) refl, every-row (λ b. eqb b 0) 0 refl), rw (u, v, w .bytes, tiles-width (layoutOf k) 1 (tiled k)) (line-is s (a .long) (a .return) (a .feed)))
+    let v = laid 0 40 (over nameIn (layoutOf k) s) (omega arith) in (
+      rw (u, v, w .fit, every-row isZero (pos 0) refl, every-row (λ b. eqb b 0) 0 refl),
+      rw (u, v, w .bytes, tiles-width (layoutOf k) 1 (tiled k)) (line-is s (a .long) (a .return) (a .feed)),
+    )
 
 -- READ THEN WRITTEN: the value that was read fits, is of the kind that was asked for, and is written as the bytes that were read
 pub read-then-written : (k : Kind) (s : List ℕ) → readingOf k s .number ≡ 0

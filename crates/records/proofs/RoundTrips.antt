@@ -64,7 +64,8 @@ record Good (f : Field) (ns : List ℤ) (nm s : List ℕ) : Type 0 where
   numbers : numbersIn f s ≡ take (numbersOf f) ns
   name : nameIn f s ≡ take (bytesOf f) nm
 
-good : (f : Field) (ns : List ℤ) (nm : List ℕ) → fieldFits f ns nm ≡ true → (p z : List ℕ) → startOf f ≡ length p + 1 → Good f ns nm (p ++ (fieldText f ns nm ++ z))
+good : (f : Field) (ns : List ℤ) (nm : List ℕ) → fieldFits f ns nm ≡ true → (p z : List ℕ)
+    → startOf f ≡ length p + 1 → Good f ns nm (p ++ (fieldText f ns nm ++ z))
 unfolding fieldText fieldFits faultOf numbersIn nameIn
 good End ns nm h p z e = absurd (omega arith)
 good (Letters a b) ns nm h [] z e = record { sound = right-letters a b; numbers = refl; name = refl }
@@ -77,7 +78,8 @@ good (Number c w) ns nm h p z e =
     record { sound = rw r; numbers = rw r (first-of ns (leb-true _ _ (q .0))); name = refl }
 good (Name c w) ns nm h p z e =
     let i = placed p (take w nm) z c w e (field-length (Name c w) ns nm h) in
-    let r : textAt isName (p ++ (take w nm ++ z)) c w ≡ text.WellFormed = text-read isName _ c w (i .0) (rw (i .1) (both (leb w (length nm)) (isName (take w nm)) h .1)) in
+    let r : textAt isName (p ++ (take w nm ++ z)) c w ≡ text.WellFormed =
+    text-read isName _ c w (i .0) (rw (i .1) (both (leb w (length nm)) (isName (take w nm)) h .1)) in
     record { sound = rw r; numbers = refl; name = i .1 }
 good (Blank c w) ns nm h p z e =
     let i = placed p (replicate w 32) z c w e (length-replicate w 32) in
@@ -100,7 +102,8 @@ pub record Back (L : List Field) (ns : List ℤ) (nm s : List ℕ) : Type 0 wher
   pub numbers : over numbersIn L s ≡ take (total numbersOf L) ns
   pub name : over nameIn L s ≡ take (total bytesOf L) nm
 
-one-more : (f : Field) (fs : List Field) (ns : List ℤ) (nm s : List ℕ) → Good f ns nm s → Back fs (drop (numbersOf f) ns) (drop (bytesOf f) nm) s → Back (f ∷ fs) ns nm s
+one-more : (f : Field) (fs : List Field) (ns : List ℤ) (nm s : List ℕ) → Good f ns nm s
+    → Back fs (drop (numbersOf f) ns) (drop (bytesOf f) nm) s → Back (f ∷ fs) ns nm s
 unfolding firstFault over total
 one-more f fs ns nm s g b = record {
   sound = rw (g .sound) (b .sound);
@@ -109,7 +112,8 @@ one-more f fs ns nm s g b = record {
 }
 
 -- what was written from column c on is read back, whatever stands before and behind it
-pub read-written : (L : List Field) (c : ℕ) → tiles c L ≡ true → (ns : List ℤ) (nm : List ℕ) → fits L ns nm ≡ true → (p z : List ℕ) → length p + 1 ≡ c → Back L ns nm (p ++ (textOf L ns nm ++ z))
+pub read-written : (L : List Field) (c : ℕ) → tiles c L ≡ true → (ns : List ℤ) (nm : List ℕ)
+    → fits L ns nm ≡ true → (p z : List ℕ) → length p + 1 ≡ c → Back L ns nm (p ++ (textOf L ns nm ++ z))
 unfolding firstFault over total fits textOf
 read-written [] c t ns nm h p z e = record { sound = refl; numbers = refl; name = refl }
 read-written (f ∷ fs) c t ns nm h p z e =
@@ -188,7 +192,8 @@ pub record Again (L : List Field) (c : ℕ) (s : List ℕ) (ms : List ℤ) (bs :
   pub fit : fits L (over numbersIn L s ++ ms) (over nameIn L s ++ bs) ≡ noNumbers ms && noBytes bs
 
 -- what was read without fault from column c on is written as it stood, whatever stands behind it
-pub written-read : (L : List Field) (c : ℕ) → tiles c L ≡ true → (s : List ℕ) → firstFault L s .number ≡ 0 → length s ≡ 74 → (ms : List ℤ) (bs : List ℕ) → Again L c s ms bs
+pub written-read : (L : List Field) (c : ℕ) → tiles c L ≡ true → (s : List ℕ)
+    → firstFault L s .number ≡ 0 → length s ≡ 74 → (ms : List ℤ) (bs : List ℕ) → Again L c s ms bs
 unfolding firstFault over total textOf fits bytesAt
 written-read [] c t s h l ms bs = record { bytes = refl; fit = refl }
 written-read (f ∷ fs) c t s h l ms bs =
@@ -199,14 +204,17 @@ written-read (f ∷ fs) c t s h l ms bs =
     let b = inside-bounds s (startOf f) (widthOf f) (k .there) in
     let e : c + widthOf f - 1 ≡ c - 1 + widthOf f = omega arith in
     record {
-      bytes = simp append-assoc (rw (k .bytes, k .numbers, k .name, a .bytes, i .start, e, ← drop-drop (widthOf f) (c - 1) s) (sym (take-add (widthOf f) (total widthOf fs) (drop (c - 1) s))));
+      bytes = simp append-assoc
+          (rw (k .bytes, k .numbers, k .name, a .bytes, i .start, e, ← drop-drop (widthOf f) (c - 1) s)
+          (sym (take-add (widthOf f) (total widthOf fs) (drop (c - 1) s))));
       fit = simp append-assoc (rw (k .fit, k .numbers, k .name) (a .fit));
     }
 
 -- ---- entries that the kind lacks
 
 -- what a layout leaves over is 0 where all fits
-pub fits-rest : (L : List Field) (ns : List ℤ) (nm : List ℕ) → fits L ns nm ≡ true → (noNumbers (drop (total numbersOf L) ns) ≡ true) × (noBytes (drop (total bytesOf L) nm) ≡ true)
+pub fits-rest : (L : List Field) (ns : List ℤ) (nm : List ℕ) → fits L ns nm ≡ true
+    → (noNumbers (drop (total numbersOf L) ns) ≡ true) × (noBytes (drop (total bytesOf L) nm) ≡ true)
 unfolding fits total
 fits-rest [] ns nm h = both (noNumbers ns) (noBytes nm) h
 fits-rest (f ∷ fs) ns nm h =
@@ -249,14 +257,16 @@ pub laid : {A : Type 0} (a : A) (m : ℕ) (vs : List A) → length vs ≤ m → 
 laid a m vs h = sets-eq vs (replicate m a) 0 (rw length-replicate (omega arith)) ∙ rw (drop-replicate a, zero-add)
 
 -- the first n entries of l, stored into as many equal ones as l has, are l where its others are such
-pub padded : {A : Type 0} (a : A) (m n : ℕ) (l : List A) → length l ≡ m → n ≤ m → drop n l ≡ replicate (length (drop n l)) a → sets (replicate m a) 0 (take n l) ≡ l
+pub padded : {A : Type 0} (a : A) (m n : ℕ) (l : List A) → length l ≡ m → n ≤ m
+    → drop n l ≡ replicate (length (drop n l)) a → sets (replicate m a) 0 (take n l) ≡ l
 padded a m n l e h d =
     let k : length (take n l) ≡ n = length-take-le n l (omega arith) in
     let j : length (drop n l) ≡ m - n = rw (length-drop, e) in
     laid a m (take n l) (omega arith) ∙ rw (k, ← j, ← d) (take-append-drop n l)
 
 -- a layout reads no more than it takes
-pub over-short : {A : Type 0} (g : Field → List ℕ → List A) (n : Field → ℕ) (s : List ℕ) → ((f : Field) → length (g f s) ≤ n f) → (L : List Field) → length (over g L s) ≤ total n L
+pub over-short : {A : Type 0} (g : Field → List ℕ → List A) (n : Field → ℕ) (s : List ℕ)
+    → ((f : Field) → length (g f s) ≤ n f) → (L : List Field) → length (over g L s) ≤ total n L
 unfolding over total
 over-short g n s h [] = omega arith
 over-short g n s h (f ∷ fs) =

@@ -4,11 +4,11 @@
 --   recordBytes r    the record's 74 bytes
 --   Written          the writer's answer and its buffer afterwards
 use mathlib.Core.Path.{_≡_}
-use mathlib.Core.Bool.{Bool, true, false, cond, _&&_}
+use mathlib.Core.Bool.{Bool, true, cond, _&&_}
 use mathlib.Core.List.{List, [], _∷_, _++_}
 use Prim.Native.Nat.{ℕ}
 use lib.Dec.{leb, eqb}
-use lib.IntN.{ℤ, pos, negsuc}
+use lib.IntN.{ℤ, pos}
 use lib.ListN.{length, getD, take, drop, replicate}
 use Rattle.permitted.specs.Permitted.{isZero}
 use Rattle.fields.specs.Number.{holds}

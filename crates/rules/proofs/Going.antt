@@ -48,7 +48,8 @@ module _ (r c : ℕ) (cs : List Check) where
 
 -- type letters give 3, 7 or nothing
 letters-three : (p q : Bool) → (_≡_ {A = ℕ} (cond p 0 (cond q 7 3)) 0 → ⊥) → (cs : List Check) (r : ℕ)
-    → firstBroken (block 2 r (check 1 3 (not (eqb (cond p 0 (cond q 7 3)) 3)) ∷ check 1 7 (not (eqb (cond p 0 (cond q 7 3)) 7)) ∷ cs)) ≡ Broken (cond p 0 (cond q 7 3)) r 1
+    → firstBroken (block 2 r (check 1 3 (not (eqb (cond p 0 (cond q 7 3)) 3)) ∷ check 1 7 (not (eqb (cond p 0 (cond q 7 3)) 7)) ∷ cs))
+    ≡ Broken (cond p 0 (cond q 7 3)) r 1
 letters-three true q h cs r = absurd (h refl)
 letters-three false true h cs r = check-kept 2 r 1 3 true _ refl ∙ check-broken 2 r 1 7 false cs refl
 letters-three false false h cs r = check-broken 2 r 1 3 false _ refl
@@ -100,7 +101,9 @@ module _ {d : Due} {t : List ℕ} {r : ℕ} {ns : List ℤ} {n j : ℕ} (g : Goi
   module _ (a b : ℕ) (e : Letters a b ≡ getD (layoutOf (kindOf d)) j End) {m : ℕ} (q : m ≡ lettersFault a b (getD t 0 0) (getD t 1 0)) where
     pub letters-broken : (m ≡ 0 → ⊥) → Broken m r 1 ≡ firstBroken (block 2 r (checksOf d t))
     unfolding along formChecks faultOf
-    letters-broken h = rw q (sym (letters-three (eqb (getD t 0 0) a && eqb (getD t 1 0) b) (eqb a 72 && (eqb (getD t 0 0) 72 && eqb (getD t 1 0) 49)) (rw q at h) _ r)) ∙ step (Letters a b) e refl
+    letters-broken h =
+        rw q (sym (letters-three (eqb (getD t 0 0) a && eqb (getD t 1 0) b) (eqb a 72 && (eqb (getD t 0 0) 72 && eqb (getD t 1 0) 49)) (rw q at h) _ r))
+        ∙ step (Letters a b) e refl
 
     pub letters-next : m ≡ 0 → Going d t r ns n (j + 1)
     unfolding along formChecks faultOf
@@ -117,7 +120,9 @@ module _ {d : Due} {t : List ℕ} {r : ℕ} {ns : List ℤ} {n j : ℕ} (g : Goi
 
     module _ (v : ℤ) (z : m ≡ number.Value v) where
       -- a well-formed number: what is asked of it comes next
-      asked : firstBroken (block 2 r (valueChecks c (askedOf d n (set ns n v)) ++ along (askedOf d) (drop (j + 1) (layoutOf (kindOf d))) (suc n) (set ns n v) t)) ≡ firstBroken (block 2 r (checksOf d t))
+      asked : firstBroken
+          (block 2 r (valueChecks c (askedOf d n (set ns n v)) ++ along (askedOf d) (drop (j + 1) (layoutOf (kindOf d))) (suc n) (set ns n v) t))
+          ≡ firstBroken (block 2 r (checksOf d t))
       unfolding along formChecks faultOf
       asked = rw (← q, z) at (sym (check-kept 2 r c 5 _ _ (rw (← q, z))) ∙ step (Number c w) e refl)
 

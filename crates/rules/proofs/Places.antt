@@ -42,7 +42,8 @@ unfolding layoutOf meshAsks asksOf askedOf formChecks valueChecks along checksOf
 mesh-places last t = refl
 
 pub layer-places : (last : ℕ) (t : List ℕ) → map spotOf (checksOf (Layer last) t) ≡ page (
-    letters ∷ fiveSixEight 3 ∷ permitted 5 ∷ permitted 10 ∷ permitted 15 ∷ permitted 20 ∷ permitted 25 ∷ formed 30 ∷ permitted 31 ∷ formed 35 ∷ permitted 36 ∷ formed 40 ∷ [])
+    letters ∷ fiveSixEight 3 ∷ permitted 5 ∷ permitted 10 ∷ permitted 15 ∷ permitted 20
+    ∷ permitted 25 ∷ formed 30 ∷ permitted 31 ∷ formed 35 ∷ permitted 36 ∷ formed 40 ∷ [])
 unfolding layoutOf layerAsks asksOf askedOf formChecks valueChecks along checksOf
 layer-places last t = refl
 

@@ -55,12 +55,13 @@ module _ (file : List ℕ) (a : ℕ) (back : Bool) (n : ℕ) where
     unfolding lists
     lists-done e l m h = let q : slotsOf file a ≡ e = omega (arith, s) in rw q (sym h)
 
-    pub lists-hit : (e : ℕ) {z : ℤ} {b : Bool} → mag z < 2 ^ hbits w32 → z ≡ slotOf file (a + 1) e → b ≡ entryIs back n (toZ w32 (ofZ w32 z)) → e < slots → b ≡ true → true ≡ lists file a back n
+    pub lists-hit : (e : ℕ) {z : ℤ} {b : Bool} → mag z < 2 ^ hbits w32 → z ≡ slotOf file (a + 1) e
+        → b ≡ entryIs back n (toZ w32 (ofZ w32 z)) → e < slots → b ≡ true → true ≡ lists file a back n
     unfolding lists
     lists-hit e ok q h l t = sym (some-hit (slotsOf file a) e (slotIs file a back n) (rw s at l) (asked (entryIs back n) ok q h t))
 
-  pub lists-pass : (e : ℕ) {z : ℤ} {b : Bool} → mag z < 2 ^ hbits w32 → z ≡ slotOf file (a + 1) e → b ≡ entryIs back n (toZ w32 (ofZ w32 z)) → some e (slotIs file a back n) ≡ false → b ≡ false
-      → some (e + 1) (slotIs file a back n) ≡ false
+  pub lists-pass : (e : ℕ) {z : ℤ} {b : Bool} → mag z < 2 ^ hbits w32 → z ≡ slotOf file (a + 1) e → b ≡ entryIs back n (toZ w32 (ofZ w32 z))
+      → some e (slotIs file a back n) ≡ false → b ≡ false → some (e + 1) (slotIs file a back n) ≡ false
   lists-pass e ok q h f t = some-more e (slotIs file a back n) f (asked (entryIs back n) ok q h t)
 
 -- ---- an entry lists itself
@@ -87,8 +88,8 @@ same-place false true k n e = absurd (omega arith)
 same-place false false k n e = (refl, omega arith)
 
 module _ (file marks : List ℕ) (back : Bool) (n a : ℕ) (h : lists file a back n ≡ true) (m : Marks file marks) where
-  set-at : (b : Bool) (k : ℕ) (t : Bool) → eqb (markAt b k) (markAt back n) ≡ t → markAt b k < length marks → 0 < getD (set marks (markAt back n) a) (markAt b k) 0
-      → lists file (getD (set marks (markAt back n) a) (markAt b k) 0) b k ≡ true
+  set-at : (b : Bool) (k : ℕ) (t : Bool) → eqb (markAt b k) (markAt back n) ≡ t → markAt b k < length marks
+      → 0 < getD (set marks (markAt back n) a) (markAt b k) 0 → lists file (getD (set marks (markAt back n) a) (markAt b k) 0) b k ≡ true
   set-at b k true e l p =
       let s = same-place b back k n (eqb-true (markAt b k) (markAt back n) e) in
       let i : markAt back n < length marks = rw (s .0, s .1) at l in
@@ -113,8 +114,8 @@ module _ (file : List ℕ) (a e : ℕ) {z : ℤ} {x : ℕ} (ok : mag z < 2 ^ hbi
   pub marked-small : x ≤ 999999
   marked-small = rw (s, passed-on ok q) (slot-small file (a + 1) e)
 
-  pub marked-more : {y : Bool} {i slots : ℕ} {marks after : List ℕ} → y ≡ natural (toZ w32 (ofZ w32 z)) → i ≡ markAt (not y) x → slots ≡ slotsOf file a → e < slots
-      → Marks file marks → after ≡ putMark marks i a → Marks file after
+  pub marked-more : {y : Bool} {i slots : ℕ} {marks after : List ℕ} → y ≡ natural (toZ w32 (ofZ w32 z)) → i ≡ markAt (not y) x
+      → slots ≡ slotsOf file a → e < slots → Marks file marks → after ≡ putMark marks i a → Marks file after
   marked-more {marks = marks} h p f l m g =
       rw (g, p, h, s, passed-on ok q) (put-marks file marks _ _ a (slot-listed file a e (rw f at l)) m)
 

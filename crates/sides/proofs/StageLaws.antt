@@ -53,11 +53,16 @@ module _ (file t : List ℕ) (l : Layer) (r n : ℕ) {a : Bool} (p : a ≡ sideL
   module _ {b : Bool} (h : not a ≡ false) (q : b ≡ sideListed file t l r (spanOf rightArea) false n) where
     pub line-right : not b ≡ true → Broken 18 r (columnOf rightArea) ≡ firstBroken (block seventh r (listChecks file t l r n))
     unfolding listChecks
-    line-right g = sym (check-kept seventh r (columnOf leftArea) 18 _ _ (sym p ∙ not-false a h) ∙ check-broken seventh r (columnOf rightArea) 18 _ [] (sym q ∙ not-true b g))
+    line-right g =
+        sym (check-kept seventh r (columnOf leftArea) 18 _ _ (sym p ∙ not-false a h)
+        ∙ check-broken seventh r (columnOf rightArea) 18 _ [] (sym q ∙ not-true b g))
 
     pub line-fine : not b ≡ false → Fine ≡ firstBroken (block seventh r (listChecks file t l r n))
     unfolding listChecks
-    line-fine g = check-none seventh r ∙ sym (check-kept seventh r (columnOf leftArea) 18 _ _ (sym p ∙ not-false a h) ∙ check-kept seventh r (columnOf rightArea) 18 _ [] (sym q ∙ not-false b g))
+    line-fine g =
+        check-none seventh r
+        ∙ sym (check-kept seventh r (columnOf leftArea) 18 _ _ (sym p ∙ not-false a h)
+        ∙ check-kept seventh r (columnOf rightArea) 18 _ [] (sym q ∙ not-false b g))
 
 -- ---- a line can be counted, since an H's number of lines has at most 6 digits
 

@@ -34,7 +34,8 @@ module _ (f : List ℕ) (i : ℕ) where
       rw (drop-cons f i 0 h, drop-of-length-le f e)
 
   -- by the answer r to whether the next two bytes are a pair
-  pub name-pair : (r : Bool) → i < length f → 2 ≤ length f - i → r ≡ isPair (getD f i 0) (getD f (i + 1) 0) → isName (drop i f) ≡ cond r (isName (drop (i + 2) f)) false
+  pub name-pair : (r : Bool) → i < length f → 2 ≤ length f - i → r ≡ isPair (getD f i 0) (getD f (i + 1) 0)
+      → isName (drop i f) ≡ cond r (isName (drop (i + 2) f)) false
   unfolding isName
   name-pair r h l e =
       let k : suc i < length f = omega arith in

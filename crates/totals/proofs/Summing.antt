@@ -12,7 +12,7 @@ use Rattle.records.specs.View.{recordOf}
 use Rattle.records.specs.Columns.{layerRecords, areaLines}
 use Rattle.verdict.specs.declared.Verdict.{Verdict}
 use Rattle.verdict.specs.declared.Verdict.the-variants.{Fine, Broken}
-use Rattle.verdict.specs.Rules.{Rule, Check, check, firstBroken, block, rows}
+use Rattle.verdict.specs.Rules.{Rule, check, firstBroken, block, rows}
 use Rattle.verdict.specs.Order.{Sorted, rising}
 use Rattle.verdict.proofs.Parts.{rows-stop, rows-done, check-none, check-kept, check-broken}
 use Rattle.verdict.proofs.Numbers.{tenTo18, numbered, Numbered, block-numbered, rows-numbered}
@@ -26,7 +26,8 @@ use Rattle.walk.specs.Quiet.{isQuiet, Quiet}
 use Rattle.walk.proofs.Walking.{size-small}
 use Rattle.walk.proofs.Passing.{by-quiet, quiet-is, passed-due, passed-rows}
 use Rattle.totals.specs.declared.Sums.{Sums}
-use Rattle.totals.specs.Totals.{rankOf, noSums, oneMore, addedFor, sumsFrom, sumsBehind, withBearer, totalCheck, meshTotals, layerTotals, areaTotals, totalChecks, fourth, stageThree}
+use Rattle.totals.specs.Totals.{rankOf, noSums, oneMore, addedFor, sumsFrom, sumsBehind, withBearer, totalCheck}
+use Rattle.totals.specs.Totals.{meshTotals, layerTotals, areaTotals, totalChecks, fourth, stageThree}
 use Rattle.totals.specs.Adding.{Addable}
 
 -- ---- sums stay small
@@ -44,7 +45,8 @@ most-addable k l a = record {
 }
 
 one-addable : (k : ℕ) {s u : Sums} → Addable k s
-    → u .records ≡ s .records + 1 → u .nodes ≤ s .nodes + 999999 → u .lines ≤ s .lines + 999999 → u .areas ≤ s .areas + 999999 → u .entries ≤ s .entries + 999999
+    → u .records ≡ s .records + 1 → u .nodes ≤ s .nodes + 999999 → u .lines ≤ s .lines + 999999
+    → u .areas ≤ s .areas + 999999 → u .entries ≤ s .entries + 999999
     → Addable (k + 1) u
 one-addable k a r n l p e = record {
   records = omega (arith, a .records);
@@ -56,7 +58,8 @@ one-addable k a r n l p e = record {
 
 added-addable : (k : ℕ) (d : Due) (s : Sums) (t : List ℕ) → Addable k s → Addable (k + 1) (addedFor d s t)
 added-addable k (Mesh last) s t a = one-addable k a refl (omega arith) (omega arith) (omega arith) (omega arith)
-added-addable k (Layer last) s t a = one-addable k a refl (omega (arith, size-small t 5 5)) (omega (arith, size-small t 10 5)) (omega (arith, size-small t 15 5)) (omega arith)
+added-addable k (Layer last) s t a =
+    one-addable k a refl (omega (arith, size-small t 5 5)) (omega (arith, size-small t 10 5)) (omega (arith, size-small t 15 5)) (omega arith)
 added-addable k (Node layer last) s t a = one-addable k a refl (omega arith) (omega arith) (omega arith) (omega arith)
 added-addable k (Line layer last) s t a = one-addable k a refl (omega arith) (omega arith) (omega arith) (omega arith)
 added-addable k (Coordinates left) s t a = one-addable k a refl (omega arith) (omega arith) (omega arith) (omega arith)
@@ -98,7 +101,8 @@ module _ (r : ℕ) (file : List ℕ) where
   -- one record more
   sums-step : (i : ℕ) (s : Sums) → i < recordsOf file
       → sumsFrom r file i (recordsOf file - i) s
-      ≡ cond (leb (rankOf (dueOf (stateAt file i))) r) s (sumsFrom r file (i + 1) (recordsOf file - (i + 1)) (addedFor (dueOf (stateAt file i)) s (recordOf file (i + 1))))
+      ≡ cond (leb (rankOf (dueOf (stateAt file i))) r) s
+      (sumsFrom r file (i + 1) (recordsOf file - (i + 1)) (addedFor (dueOf (stateAt file i)) s (recordOf file (i + 1))))
   unfolding sumsFrom
   sums-step i s l =
       let e : recordsOf file - i ≡ suc (recordsOf file - (i + 1)) = omega arith in
@@ -112,22 +116,24 @@ module _ (r : ℕ) (file : List ℕ) where
       sym (rw t at (sums-step i s l)) ∙ q
 
   -- another is
-  pub sums-more : (i : ℕ) (s : Sums) {u : State} {d : Due} {t : List ℕ} {x z : Sums} {m : ℕ} → i < recordsOf file → u ≡ stateAt file i → d ≡ dueOf u → m ≡ rankOf d → r < m
-      → t ≡ recordOf file (i + 1) → x ≡ addedFor d s t → sumsFrom r file i (recordsOf file - i) s ≡ z → sumsFrom r file (i + 1) (recordsOf file - (i + 1)) x ≡ z
+  pub sums-more : (i : ℕ) (s : Sums) {u : State} {d : Due} {t : List ℕ} {x z : Sums} {m : ℕ} → i < recordsOf file
+      → u ≡ stateAt file i → d ≡ dueOf u → m ≡ rankOf d → r < m → t ≡ recordOf file (i + 1) → x ≡ addedFor d s t
+      → sumsFrom r file i (recordsOf file - i) s ≡ z → sumsFrom r file (i + 1) (recordsOf file - (i + 1)) x ≡ z
   sums-more i s {u} {d} {t} {x} {z} {m} l g e f h y a q =
       let b : leb (rankOf (dueOf (stateAt file i))) r ≡ false = rw (← g, ← e, ← f) (lt-leb m r h) in
       rw (a, y, e, g) (sym (rw b at (sums-step i s l)) ∙ q)
 
   -- quiet ones are, which do not end the sums
-  pub sums-quiet : (i : ℕ) (s : Sums) {h : ℕ} {u : State} {z : Sums} → u ≡ stateAt file i → Quiet u h → (0 < h → r < 2) → (j : ℕ) → j ≤ h → i + j ≤ recordsOf file
-      → sumsFrom r file i (recordsOf file - i) s ≡ z → sumsFrom r file (i + j) (recordsOf file - (i + j)) (quietMore s j) ≡ z
+  pub sums-quiet : (i : ℕ) (s : Sums) {h : ℕ} {u : State} {z : Sums} → u ≡ stateAt file i → Quiet u h → (0 < h → r < 2) → (j : ℕ) → j ≤ h
+      → i + j ≤ recordsOf file → sumsFrom r file i (recordsOf file - i) s ≡ z → sumsFrom r file (i + j) (recordsOf file - (i + j)) (quietMore s j) ≡ z
   sums-quiet i s e q f zero l m g = simp add-zero g
   sums-quiet i s {h} {u} {z} e q f (suc j) l m g =
       let d = dueOf (stateAt file (i + j)) in
       let k : isQuiet d ≡ true = rw (passed-due file i e q j (omega arith)) (quiet-is u j) in
       let o : s .records + j + 1 ≡ s .records + suc j = omega arith in
       let p : i + j + 1 ≡ i + suc j = omega arith in
-      rw (← p, ← o) (sums-more (i + j) (quietMore s j) (omega arith) refl refl (quiet-rank d k) (f (omega arith)) refl (quiet-adds (quietMore s j) (recordOf file (i + j + 1)) d k) (sums-quiet i s e q f j (omega arith) (omega arith) g))
+      rw (← p, ← o) (sums-more (i + j) (quietMore s j) (omega arith) refl refl (quiet-rank d k) (f (omega arith)) refl
+      (quiet-adds (quietMore s j) (recordOf file (i + j + 1)) d k) (sums-quiet i s e q f j (omega arith) (omega arith) g))
 
   -- none is left
   pub sums-end : (i : ℕ) {s z : Sums} → recordsOf file ≤ i → sumsFrom r file i (recordsOf file - i) s ≡ z → s ≡ z
@@ -180,13 +186,17 @@ rule-is file k e f h = rw (← e, ← f) h
 
 -- a quiet record has no totals
 quiet-kept : (file : List ℕ) (k : ℕ) (d : Due) → isQuiet d ≡ true → firstBroken (block fourth (k + 1) (totalChecks d file k)) ≡ Fine
-quiet-kept file k = by-quiet (λ d. firstBroken (block fourth (k + 1) (totalChecks d file k)) ≡ Fine) (λ layer last. sym (check-none fourth (k + 1))) (λ left. sym (check-none fourth (k + 1)))
+quiet-kept file k =
+    by-quiet (λ d. firstBroken (block fourth (k + 1) (totalChecks d file k)) ≡ Fine)
+    (λ layer last. sym (check-none fourth (k + 1))) (λ left. sym (check-none fourth (k + 1)))
 
-pub three-quiet : (file : List ℕ) (k : ℕ) {h : ℕ} {s : State} → s ≡ stateAt file k → Quiet s h → firstBroken (rows k (totalsOf file)) ≡ Fine → firstBroken (rows (k + h) (totalsOf file)) ≡ Fine
+pub three-quiet : (file : List ℕ) (k : ℕ) {h : ℕ} {s : State} → s ≡ stateAt file k → Quiet s h
+    → firstBroken (rows k (totalsOf file)) ≡ Fine → firstBroken (rows (k + h) (totalsOf file)) ≡ Fine
 three-quiet file k e q = passed-rows file k e q (totalsOf file) (λ i. quiet-kept file i (dueOf (stateAt file i)))
 
 module _ (file : List ℕ) {n : ℕ} (e : n ≡ recordsOf file) where
-  pub three-stops : (k : ℕ) {v : Verdict} {a b c : ℕ} → v ≡ Broken a b c → v ≡ firstBroken (totalsOf file k) → firstBroken (rows k (totalsOf file)) ≡ Fine → k < n → v ≡ firstBroken (stageThree file)
+  pub three-stops : (k : ℕ) {v : Verdict} {a b c : ℕ} → v ≡ Broken a b c → v ≡ firstBroken (totalsOf file k)
+      → firstBroken (rows k (totalsOf file)) ≡ Fine → k < n → v ≡ firstBroken (stageThree file)
   unfolding stageThree
   three-stops k q h f l = rows-stop (totalsOf file) (recordsOf file) k (omega (arith, e)) f h q
 
@@ -227,4 +237,6 @@ total-numbered (Loop last count left) file k = refl
 
 pub three-numbered : (file : List ℕ) → Numbered tenTo18 (stageThree file)
 unfolding stageThree
-three-numbered file = rows-numbered tenTo18 (recordsOf file) (totalsOf file) (λ k. block-numbered tenTo18 fourth (k + 1) (totalChecks (dueOf (stateAt file k)) file k) (total-numbered (dueOf (stateAt file k)) file k))
+three-numbered file =
+    rows-numbered tenTo18 (recordsOf file) (totalsOf file)
+    (λ k. block-numbered tenTo18 fourth (k + 1) (totalChecks (dueOf (stateAt file k)) file k) (total-numbered (dueOf (stateAt file k)) file k))

@@ -10,7 +10,8 @@ use mathlib.Core.List.{List, [], _∷_}
 use Prim.Native.Nat.{ℕ, zero, suc, _+_, _-_}
 use lib.Dec.{leb, eqb}
 use Rattle.records.specs.View.{recordOf}
-use Rattle.records.specs.Columns.{Column, columnOf, meshNodes, meshLines, meshAreas, meshRecords, layerNodes, layerLines, layerAreas, layerRecords, areaLines, loopCount}
+use Rattle.records.specs.Columns.{Column, columnOf, meshNodes, meshLines, meshAreas, meshRecords}
+use Rattle.records.specs.Columns.{layerNodes, layerLines, layerAreas, layerRecords, areaLines, loopCount}
 use Rattle.verdict.specs.Rules.{Rule, Check, check, block, rows}
 use Rattle.rules.specs.declared.Due.{Due}
 use Rattle.rules.specs.declared.Due.the-variants.{Mesh, Layer, Node, Line, Coordinates, Area, Loop}

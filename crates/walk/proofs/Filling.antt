@@ -78,13 +78,18 @@ counted file (suc k) =
     let c : Counts = countsAt file k in
     let h = counted file k in
     record {
-      rows = length-append (gather rowWords file k) (rowWords d t (suc k)) ∙ ap (λ (n : ℕ). n + length (rowWords d t (suc k))) (h .rows) ∙ row-one d t (suc k) c;
-      lines = length-append (gather lineWords file k) (lineWords d t (suc k)) ∙ ap (λ (n : ℕ). n + length (lineWords d t (suc k))) (h .lines) ∙ line-one d t (suc k) c;
-      areas = length-append (gather areaWords file k) (areaWords d t (suc k)) ∙ ap (λ (n : ℕ). n + length (areaWords d t (suc k))) (h .areas) ∙ area-one d t (suc k) c;
+      rows = length-append (gather rowWords file k) (rowWords d t (suc k))
+          ∙ ap (λ (n : ℕ). n + length (rowWords d t (suc k))) (h .rows) ∙ row-one d t (suc k) c;
+      lines = length-append (gather lineWords file k) (lineWords d t (suc k))
+          ∙ ap (λ (n : ℕ). n + length (lineWords d t (suc k))) (h .lines) ∙ line-one d t (suc k) c;
+      areas = length-append (gather areaWords file k) (areaWords d t (suc k))
+          ∙ ap (λ (n : ℕ). n + length (areaWords d t (suc k))) (h .areas) ∙ area-one d t (suc k) c;
     }
 
 -- the table's words: rows, lines and areas
-pub table-length : (file : List ℕ) → length (tableOf file) ≡ rowLength * countsAt file (recordsOf file) .layers + (countsAt file (recordsOf file) .lines + countsAt file (recordsOf file) .areas)
+pub table-length : (file : List ℕ)
+    → length (tableOf file)
+    ≡ rowLength * countsAt file (recordsOf file) .layers + (countsAt file (recordsOf file) .lines + countsAt file (recordsOf file) .areas)
 unfolding tableOf
 table-length file =
     let h = counted file (recordsOf file) in
@@ -127,11 +132,13 @@ module _ (xs ys zs d : List ℕ) (p q : ℕ) (fits : p + q ≤ length d) (fx : l
       ∙ ap (λ (l : List ℕ). l ++ filled zs (drop q (drop p d))) (more-filled ys ws (take q (drop p d)) (rw z l))))
 
   -- an area
-  put-areas : (ws : List ℕ) (i : ℕ) → i ≡ p + q + length zs → p + q + length zs + length ws ≤ length d → sets (laidOut xs ys zs p q d) i ws ≡ laidOut xs ys (zs ++ ws) p q d
+  put-areas : (ws : List ℕ) (i : ℕ) → i ≡ p + q + length zs → p + q + length zs + length ws ≤ length d
+      → sets (laidOut xs ys zs p q d) i ws ≡ laidOut xs ys (zs ++ ws) p q d
   put-areas ws i e l =
       let j : i ≡ length (filled xs (take p d)) + (length (filled ys (take q (drop p d))) + length zs) = rw (first-length, second-length) (omega arith) in
       rw j
-      (sets-right ws (filled xs (take p d)) (filled ys (take q (drop p d)) ++ filled zs (drop q (drop p d))) (length (filled ys (take q (drop p d))) + length zs)
+      (sets-right ws (filled xs (take p d)) (filled ys (take q (drop p d)) ++ filled zs (drop q (drop p d)))
+      (length (filled ys (take q (drop p d))) + length zs)
       ∙ ap (λ (l : List ℕ). filled xs (take p d) ++ l)
       (sets-right ws (filled ys (take q (drop p d))) (filled zs (drop q (drop p d))) (length zs)
       ∙ ap (λ (l : List ℕ). filled ys (take q (drop p d)) ++ l) (more-filled zs ws (drop q (drop p d)) (rw (length-drop, length-drop) (omega arith)))))
@@ -144,7 +151,8 @@ turn : (d : Due) (t : List ℕ) (r : ℕ) (c : Counts) (b : Bases) (xs ys zs o :
     → sets (laidOut xs ys zs p q o) (storedAt d c b) (recordWords d t r) ≡ laidOut (xs ++ rowWords d t r) (ys ++ lineWords d t r) (zs ++ areaWords d t r) p q o
 turn (Mesh last) t r c b xs ys zs o p q ex ey ez fx fy fz bl ba = rw (append-nil, append-nil, append-nil)
 turn (Layer last) t r c b xs ys zs o p q ex ey ez fx fy fz bl ba =
-    put-rows xs ys zs o p q (omega arith) (omega arith) (omega arith) (rowWords (Layer last) t r) (rowLength * c .layers) (sym ex) (omega arith) ∙ rw (append-nil, append-nil)
+    put-rows xs ys zs o p q (omega arith) (omega arith) (omega arith) (rowWords (Layer last) t r) (rowLength * c .layers) (sym ex) (omega arith)
+    ∙ rw (append-nil, append-nil)
 turn (Node layer last) t r c b xs ys zs o p q ex ey ez fx fy fz bl ba = rw (append-nil, append-nil, append-nil)
 turn (Line layer last) t r c b xs ys zs o p q ex ey ez fx fy fz bl ba =
     put-lines xs ys zs o p q (omega arith) (omega arith) (omega arith) (r ∷ []) (b .lines + c .lines) (omega arith) (omega arith) ∙ rw (append-nil, append-nil)
@@ -203,16 +211,24 @@ module _ (file o : List ℕ) {n : ℕ} {total : Counts} (en : n ≡ recordsOf fi
       let g = grown file n k l in
       let s = counted file k in
       let u = fits in
-      let a = first-length (gather rowWords file k) (gather lineWords file k) (gather areaWords file k) o p q (omega arith) (omega (arith, g .layers, s .rows)) (omega (arith, g .lines, s .lines)) in
-      let b = second-length (gather rowWords file k) (gather lineWords file k) (gather areaWords file k) o p q (omega arith) (omega (arith, g .layers, s .rows)) (omega (arith, g .lines, s .lines)) in
+      let a =
+      first-length (gather rowWords file k) (gather lineWords file k) (gather areaWords file k) o p q
+      (omega arith) (omega (arith, g .layers, s .rows)) (omega (arith, g .lines, s .lines)) in
+      let b =
+      second-length (gather rowWords file k) (gather lineWords file k) (gather areaWords file k) o p q
+      (omega arith) (omega (arith, g .layers, s .rows)) (omega (arith, g .lines, s .lines)) in
       let c : length (drop q (drop p o)) ≡ length o - p - q = rw (length-drop, length-drop) in
-      let e : length (filled (gather areaWords file k) (drop q (drop p o))) ≡ length o - p - q = filled-length (gather areaWords file k) (drop q (drop p o)) (omega (arith, c, g .areas, s .areas)) ∙ c in
-      let f = length-append (filled (gather rowWords file k) (take p o)) (filled (gather lineWords file k) (take q (drop p o)) ++ filled (gather areaWords file k) (drop q (drop p o))) in
+      let e : length (filled (gather areaWords file k) (drop q (drop p o))) ≡ length o - p - q =
+      filled-length (gather areaWords file k) (drop q (drop p o)) (omega (arith, c, g .areas, s .areas)) ∙ c in
+      let f =
+      length-append (filled (gather rowWords file k) (take p o))
+      (filled (gather lineWords file k) (take q (drop p o)) ++ filled (gather areaWords file k) (drop q (drop p o))) in
       let h = length-append (filled (gather lineWords file k) (take q (drop p o))) (filled (gather areaWords file k) (drop q (drop p o))) in
       rw m (f ∙ omega (arith, a, b, e, h))
 
   -- record k + 1 is due as d, behind the counts c, and the buffer is v
-  module _ (k : ℕ) {d : Due} {c : Counts} {v : List ℕ} (l : k < n) (ed : d ≡ dueOf (stateAt file k)) (ec : c ≡ countsAt file k) (ev : v ≡ storedTo file n k o) where
+  module _ (k : ℕ) {d : Due} {c : Counts} {v : List ℕ} (l : k < n)
+      (ed : d ≡ dueOf (stateAt file k)) (ec : c ≡ countsAt file k) (ev : v ≡ storedTo file n k o) where
     within : Grown (countsAt file (suc k)) (countsAt file n)
     within = grown file n (suc k) (omega arith)
 
@@ -223,24 +239,35 @@ module _ (file o : List ℕ) {n : ℕ} {total : Counts} (en : n ≡ recordsOf fi
         let g = within in
         let u = fits in
         let m : length v ≡ length o = filled-many k (omega arith) ev in
-        record { room = rw (ed, ec, all, m) (room-one (dueOf (stateAt file k)) (recordOf file (suc k)) (countsAt file k) (storeBases (countsAt file n)) p q (length o) (omega (arith, g .layers)) (omega (arith, g .lines)) (omega (arith, g .areas)) refl refl) }
+        record {
+          room = rw (ed, ec, all, m)
+              (room-one (dueOf (stateAt file k)) (recordOf file (suc k)) (countsAt file k) (storeBases (countsAt file n)) p q
+              (length o) (omega (arith, g .layers)) (omega (arith, g .lines)) (omega (arith, g .areas)) refl refl);
+        }
 
     -- and with them the buffer is w
-    pub one-filled : {t w : List ℕ} → t ≡ recordOf file (k + 1) → w ≡ sets v (storedAt d c (storeBases total)) (recordWords d t (k + 1)) → w ≡ storedTo file n (k + 1) o
+    pub one-filled : {t w : List ℕ} → t ≡ recordOf file (k + 1)
+        → w ≡ sets v (storedAt d c (storeBases total)) (recordWords d t (k + 1)) → w ≡ storedTo file n (k + 1) o
     unfolding Sections gather countsAt
     one-filled e h =
         let g = within in
         let s = counted file k in
         let u = fits in
         h ∙ rw (e, ev, ed, ec, all, add-one)
-        (turn (dueOf (stateAt file k)) (recordOf file (suc k)) (suc k) (countsAt file k) (storeBases (countsAt file n)) (gather rowWords file k) (gather lineWords file k) (gather areaWords file k) o p q
+        (turn (dueOf (stateAt file k)) (recordOf file (suc k)) (suc k) (countsAt file k) (storeBases (countsAt file n))
+        (gather rowWords file k) (gather lineWords file k) (gather areaWords file k) o p q
         (s .rows) (s .lines) (s .areas) (omega (arith, g .layers)) (omega (arith, g .lines)) (omega (arith, g .areas)) refl refl)
 
   -- quiet records have no words
   pub quiet-filled : (k : ℕ) {h : ℕ} {s : State} {v : List ℕ} → s ≡ stateAt file k → Quiet s h → v ≡ storedTo file n k o → v ≡ storedTo file n (k + h) o
   unfolding Sections
   quiet-filled k {h} e f ev =
-      ev ∙ sym (rw (passed-words file k e f rowWords row-quiet h (le-refl h), passed-words file k e f lineWords line-quiet h (le-refl h), passed-words file k e f areaWords area-quiet h (le-refl h)))
+      ev
+      ∙ sym (rw (
+        passed-words file k e f rowWords row-quiet h (le-refl h),
+        passed-words file k e f lineWords line-quiet h (le-refl h),
+        passed-words file k e f areaWords area-quiet h (le-refl h),
+      ))
 
   -- all records: the table stands in front, and the rest is as it was
   pub all-filled : (k : ℕ) {v : List ℕ} → k ≤ n → n ≤ k → v ≡ storedTo file n k o → v ≡ filled (tableOf file) o
@@ -249,6 +276,9 @@ module _ (file o : List ℕ) {n : ℕ} {total : Counts} (en : n ≡ recordsOf fi
       let s = counted file n in
       let u = fits in
       let z : k ≡ n = omega arith in
-      let x : drop (length (gather rowWords file n)) (take p o) ≡ [] = drop-of-length-le (take p o) {i = length (gather rowWords file n)} (omega (arith, s .rows, length-take-le p o (omega arith))) in
-      let y : drop (length (gather lineWords file n)) (take q (drop p o)) ≡ [] = drop-of-length-le (take q (drop p o)) {i = length (gather lineWords file n)} (omega (arith, s .lines, length-take-le q (drop p o) (rw length-drop (omega arith)))) in
+      let x : drop (length (gather rowWords file n)) (take p o) ≡ [] =
+      drop-of-length-le (take p o) {i = length (gather rowWords file n)} (omega (arith, s .rows, length-take-le p o (omega arith))) in
+      let y : drop (length (gather lineWords file n)) (take q (drop p o)) ≡ [] =
+      drop-of-length-le (take q (drop p o)) {i = length (gather lineWords file n)}
+      (omega (arith, s .lines, length-take-le q (drop p o) (rw length-drop (omega arith)))) in
       ev ∙ rw (z, x, y, ← en, append-nil, append-nil, drop-drop, drop-drop, length-append, length-append, s .rows, s .lines, append-assoc, append-assoc)

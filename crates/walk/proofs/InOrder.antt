@@ -31,7 +31,8 @@ module _ (s : ℕ) (g : ℕ → List Check) (n : ℕ) (cs : List Check) where
       ⊎-elim (λ j. rows-in s g n a j .0) (λ j. block-in s (n + 1) cs a j .0)
       (in-append a (rows n (λ k. block s (k + 1) (g k))) (block s (n + 1) cs) i)
 
-  pub staged-numbered : (p : ℕ → Bool) → ((k : ℕ) → numbered p (g k) ≡ true) → numbered p cs ≡ true → Numbered p (rows n (λ k. block s (k + 1) (g k)) ++ block s (n + 1) cs)
+  pub staged-numbered : (p : ℕ → Bool) → ((k : ℕ) → numbered p (g k) ≡ true)
+      → numbered p cs ≡ true → Numbered p (rows n (λ k. block s (k + 1) (g k)) ++ block s (n + 1) cs)
   staged-numbered p f h =
       append-numbered p (rows n (λ k. block s (k + 1) (g k))) (block s (n + 1) cs)
       (rows-numbered p n (λ k. block s (k + 1) (g k)) (λ k. block-numbered p s (k + 1) (g k) (f k)))
@@ -100,7 +101,8 @@ one-numbered file =
 two-numbered : (file : List ℕ) → Numbered upTo8 (stageTwo file)
 unfolding stageTwo
 two-numbered file =
-    staged-numbered 2 (λ k. checksOf (dueOf (stateAt file k)) (recordOf file (k + 1))) (recordsOf file) (lastChecks (dueOf (stateAt file (recordsOf file)))) upTo8
+    staged-numbered 2 (λ k. checksOf (dueOf (stateAt file k)) (recordOf file (k + 1)))
+    (recordsOf file) (lastChecks (dueOf (stateAt file (recordsOf file)))) upTo8
     (λ k. checks-numbered (dueOf (stateAt file k)) (recordOf file (k + 1))) (last-numbered (dueOf (stateAt file (recordsOf file))))
 
 -- none of stages 1 and 2 has a number above 8

@@ -39,7 +39,8 @@ abbrev pub endsOf : List ℕ → ℕ → List Rule
 endsOf file k = block 1 (k + 1) (endChecks (recordOf file (k + 1)))
 
 -- the answer v to the line end of t, which is record k + 1
-pub end-is : (file : List ℕ) (k : ℕ) {t : List ℕ} {v : Verdict} → t ≡ recordOf file (k + 1) → v ≡ firstBroken (block 1 (k + 1) (endChecks t)) → v ≡ firstBroken (endsOf file k)
+pub end-is : (file : List ℕ) (k : ℕ) {t : List ℕ} {v : Verdict} → t ≡ recordOf file (k + 1)
+    → v ≡ firstBroken (block 1 (k + 1) (endChecks t)) → v ≡ firstBroken (endsOf file k)
 end-is file k e h = rw (← e) h
 
 -- the two bytes a and b of a line end, by the code's tests
@@ -58,12 +59,14 @@ module _ (t : List ℕ) (r : ℕ) {a : ℕ} (e : a ≡ getD t 72 0) where
 
 module _ (file : List ℕ) {n : ℕ} (m : n ≡ recordsOf file) where
   -- it is broken and is returned
-  pub one-stops : (k : ℕ) {v : Verdict} {a b c : ℕ} → v ≡ Broken a b c → v ≡ firstBroken (endsOf file k) → firstBroken (rows k (endsOf file)) ≡ Fine → k < n → v ≡ firstBroken (stageOne file)
+  pub one-stops : (k : ℕ) {v : Verdict} {a b c : ℕ} → v ≡ Broken a b c → v ≡ firstBroken (endsOf file k)
+      → firstBroken (rows k (endsOf file)) ≡ Fine → k < n → v ≡ firstBroken (stageOne file)
   unfolding stageOne
   one-stops k q e h l = stands (rows (recordsOf file) (endsOf file)) _ q (rows-stop (endsOf file) (recordsOf file) k (rw (← m) l) h e q)
 
   -- all line ends are fine; v is the answer to the length
-  pub one-done : (k : ℕ) {v : Verdict} → v ≡ firstBroken (block 1 (n + 1) (lengthChecks (length file))) → firstBroken (rows k (endsOf file)) ≡ Fine → k ≤ n → n ≤ k → v ≡ firstBroken (stageOne file)
+  pub one-done : (k : ℕ) {v : Verdict} → v ≡ firstBroken (block 1 (n + 1) (lengthChecks (length file)))
+      → firstBroken (rows k (endsOf file)) ≡ Fine → k ≤ n → n ≤ k → v ≡ firstBroken (stageOne file)
   unfolding stageOne
   one-done k q h l g =
       let f = rows-done (endsOf file) n k l g h in
@@ -74,7 +77,8 @@ pub length-fine : (n r : ℕ) → (leb 1 (n / 74) && (leb (n / 74) mostRecords &
 unfolding lengthChecks
 length-fine n r t = sym (check-kept 1 r 1 1 _ [] t ∙ sym (check-none 1 r))
 
-pub length-broken : (n r : ℕ) → (leb 1 (n / 74) && (leb (n / 74) mostRecords && eqb (n % 74) 0)) ≡ false → Broken 1 r 1 ≡ firstBroken (block 1 r (lengthChecks n))
+pub length-broken : (n r : ℕ) → (leb 1 (n / 74) && (leb (n / 74) mostRecords && eqb (n % 74) 0)) ≡ false
+    → Broken 1 r 1 ≡ firstBroken (block 1 r (lengthChecks n))
 unfolding lengthChecks
 length-broken n r t = sym (check-broken 1 r 1 1 _ [] t)
 
@@ -85,17 +89,20 @@ abbrev pub stageTwoRules : List ℕ → ℕ → List Rule
 stageTwoRules file k = block 2 (k + 1) (checksOf (dueOf (stateAt file k)) (recordOf file (k + 1)))
 
 -- the answer v to t, which is record k + 1, due as d
-pub rule-is : (file : List ℕ) (k : ℕ) {s : State} {d : Due} {t : List ℕ} {v : Verdict} → s ≡ stateAt file k → d ≡ dueOf s → t ≡ recordOf file (k + 1) → v ≡ firstBroken (block 2 (k + 1) (checksOf d t)) → v ≡ firstBroken (stageTwoRules file k)
+pub rule-is : (file : List ℕ) (k : ℕ) {s : State} {d : Due} {t : List ℕ} {v : Verdict} → s ≡ stateAt file k → d ≡ dueOf s
+    → t ≡ recordOf file (k + 1) → v ≡ firstBroken (block 2 (k + 1) (checksOf d t)) → v ≡ firstBroken (stageTwoRules file k)
 rule-is file k p q e h = rw (← p, ← q, ← e) h
 
 module _ (file : List ℕ) {n : ℕ} (m : n ≡ recordsOf file) where
   -- it is broken and is returned
-  pub two-stops : (k : ℕ) {v : Verdict} {a b c : ℕ} → v ≡ Broken a b c → v ≡ firstBroken (stageTwoRules file k) → firstBroken (rows k (stageTwoRules file)) ≡ Fine → k < n → v ≡ firstBroken (stageTwo file)
+  pub two-stops : (k : ℕ) {v : Verdict} {a b c : ℕ} → v ≡ Broken a b c → v ≡ firstBroken (stageTwoRules file k)
+      → firstBroken (rows k (stageTwoRules file)) ≡ Fine → k < n → v ≡ firstBroken (stageTwo file)
   unfolding stageTwo
   two-stops k q e h l = stands (rows (recordsOf file) (stageTwoRules file)) _ q (rows-stop (stageTwoRules file) (recordsOf file) k (rw (← m) l) h e q)
 
   -- all records are fine; v is the answer to the end, where d is due
-  pub two-done : (k : ℕ) {s : State} {d : Due} {v : Verdict} → s ≡ stateAt file k → d ≡ dueOf s → v ≡ firstBroken (block 2 (n + 1) (lastChecks d)) → firstBroken (rows k (stageTwoRules file)) ≡ Fine → k ≤ n → n ≤ k → v ≡ firstBroken (stageTwo file)
+  pub two-done : (k : ℕ) {s : State} {d : Due} {v : Verdict} → s ≡ stateAt file k → d ≡ dueOf s → v ≡ firstBroken (block 2 (n + 1) (lastChecks d))
+      → firstBroken (rows k (stageTwoRules file)) ≡ Fine → k ≤ n → n ≤ k → v ≡ firstBroken (stageTwo file)
   unfolding stageTwo
   two-done k {s} {d} e p q h l g =
       let z : k ≡ recordsOf file = by-bounds l g ∙ m in
@@ -122,18 +129,21 @@ last-broken r k {d} h q e = e ∙ sym (check-broken 2 r 1 4 (mayEnd d) [] (rw h 
 -- ---- both stages
 
 -- the answer w to a verdict v: where it is broken there are no counts; where it is fine they are those of all records
-pub walked-broken : {u v : Verdict} {a b c : ℕ} (cs : Counts) {w : Walked} → v ≡ Broken a b c → v ≡ u → w ≡ record { verdict = v; counts = noCounts } → w ≡ walkedBy u cs
+pub walked-broken : {u v : Verdict} {a b c : ℕ} (cs : Counts) {w : Walked} → v ≡ Broken a b c
+    → v ≡ u → w ≡ record { verdict = v; counts = noCounts } → w ≡ walkedBy u cs
 walked-broken cs q e z = rw (← e, q) (rw q at z)
 
 pub walked-kept : {u v : Verdict} {cs ds : Counts} {w : Walked} → v ≡ Fine → v ≡ u → ds ≡ cs → w ≡ record { verdict = v; counts = ds } → w ≡ walkedBy u cs
 walked-kept q e f z = rw (← e, q, ← f) (rw q at z)
 
 -- the answer w where stage 1 is broken; where it is fine, and stage 2 answers
-pub walked-first : (file : List ℕ) {v : Verdict} {a b c : ℕ} {w : Walked} → v ≡ Broken a b c → v ≡ firstBroken (stageOne file) → w ≡ record { verdict = v; counts = noCounts } → w ≡ walkedOf file
+pub walked-first : (file : List ℕ) {v : Verdict} {a b c : ℕ} {w : Walked} → v ≡ Broken a b c
+    → v ≡ firstBroken (stageOne file) → w ≡ record { verdict = v; counts = noCounts } → w ≡ walkedOf file
 unfolding walkedOf
 walked-first file q e z = walked-broken (countsAt file (recordsOf file)) q (stands (stageOne file) (stageTwo file) q e) z
 
-pub walked-second : (file : List ℕ) {v : Verdict} {w : Walked} → v ≡ Fine → v ≡ firstBroken (stageOne file) → w ≡ walkedBy (firstBroken (stageTwo file)) (countsAt file (recordsOf file)) → w ≡ walkedOf file
+pub walked-second : (file : List ℕ) {v : Verdict} {w : Walked} → v ≡ Fine → v ≡ firstBroken (stageOne file)
+    → w ≡ walkedBy (firstBroken (stageTwo file)) (countsAt file (recordsOf file)) → w ≡ walkedOf file
 unfolding walkedOf
 walked-second file q e z = rw (in-turn (stageOne file) (stageTwo file), ← e, q) z
 
@@ -198,6 +208,7 @@ ended file h =
     check-fine 2 (recordsOf file + 1) 1 4 (mayEnd d) (both-fine (rows (recordsOf file) (stageTwoRules file)) (block 2 (recordsOf file + 1) (lastChecks d)) h .1)
 
 -- of record k + 1, due as d, all checks hold
-pub two-holds : (file : List ℕ) → firstBroken (stageTwo file) ≡ Fine → (k : ℕ) → k < recordsOf file → {d : Due} → dueOf (stateAt file k) ≡ d → Holding (checksOf d (recordOf file (k + 1)))
+pub two-holds : (file : List ℕ) → firstBroken (stageTwo file) ≡ Fine → (k : ℕ) → k < recordsOf file
+    → {d : Due} → dueOf (stateAt file k) ≡ d → Holding (checksOf d (recordOf file (k + 1)))
 unfolding stageTwo
 two-holds file h k l e = rw (← e) (all-hold 2 (k + 1) _ (row-fine (stageTwoRules file) (recordsOf file) (both-fine _ _ h .0) k l))

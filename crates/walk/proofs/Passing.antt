@@ -50,7 +50,8 @@ passed-one : (s : State) (j : ℕ) (t : List ℕ) → dueOf (passed s j) ≡ qui
 unfolding nextOf
 passed-one s j t e = rw e (one-by s j t (ltb 0 (s .line .points)) refl)
 
-counted-by : (c : Counts) (s : State) (j : ℕ) (t : List ℕ) (b : Bool) → ltb 0 (s .line .points) ≡ b → countedFor (quietDue s j) (countedPast c s j) t ≡ countedPast c s (suc j)
+counted-by : (c : Counts) (s : State) (j : ℕ) (t : List ℕ) (b : Bool) → ltb 0 (s .line .points) ≡ b
+    → countedFor (quietDue s j) (countedPast c s j) t ≡ countedPast c s (suc j)
 counted-by c s j t true e = rw e
 counted-by c s j t false e =
     let n : c .nodes + j + 1 ≡ c .nodes + suc j = omega arith in
@@ -92,10 +93,26 @@ quiet-is s j = by (ltb 0 (s .line .points))
     by false = refl
 
 -- the state behind h coordinate records, with the points p left; behind h nodes
-pub past-points : (s : State) (h : ℕ) {p : ℕ} → 0 < s .line .points → p ≡ s .line .points - 7 * h → (record { mesh = s .mesh; layer = s .layer; line = record { points = p }; area = s .area }) ≡ passed s h
+pub past-points : (s : State) (h : ℕ) {p : ℕ} → 0 < s .line .points → p ≡ s .line .points - 7 * h
+    → (record { mesh = s .mesh; layer = s .layer; line = record { points = p }; area = s .area }) ≡ passed s h
 past-points s h l e = simp (lt-ltb 0 (s .line .points) l, e, add-zero)
 
-pub past-nodes : (s : State) (h : ℕ) {n : ℕ} → s .line .points ≤ 0 → n ≡ s .layer .node + h → (record { mesh = s .mesh; layer = record { code = s .layer .code; nodes = s .layer .nodes; node = n; lines = s .layer .lines; line = s .layer .line; areas = s .layer .areas; area = s .layer .area }; line = s .line; area = s .area }) ≡ passed s h
+pub past-nodes : (s : State) (h : ℕ) {n : ℕ} → s .line .points ≤ 0 → n ≡ s .layer .node + h
+    → (record {
+      mesh = s .mesh;
+      layer = record {
+        code = s .layer .code;
+        nodes = s .layer .nodes;
+        node = n;
+        lines = s .layer .lines;
+        line = s .layer .line;
+        areas = s .layer .areas;
+        area = s .layer .area;
+      };
+      line = s .line;
+      area = s .area;
+    })
+    ≡ passed s h
 past-nodes s h l e =
     let z : s .line .points - 7 * h ≡ s .line .points = omega arith in
     simp (le-ltb 0 (s .line .points) l, e, z)
@@ -108,10 +125,17 @@ unfolding dueOf
 quiet-points s h p l = record { quiet = λ j m. simp (lt-ltb 0 (s .line .points) p, lt-ltb 0 (s .line .points - 7 * j) (omega arith)) }
 
 -- the nodes that are left, where nothing comes before them
-pub quiet-nodes : (s : State) (h : ℕ) → s .line .points ≤ 0 → s .area .entries ≤ 0 → s .area .loops ≤ s .area .begun → h ≤ s .layer .nodes - s .layer .node → Quiet s h
+pub quiet-nodes : (s : State) (h : ℕ) → s .line .points ≤ 0 → s .area .entries ≤ 0
+    → s .area .loops ≤ s .area .begun → h ≤ s .layer .nodes - s .layer .node → Quiet s h
 unfolding dueOf
 quiet-nodes s h p e b l = record {
-  quiet = λ j m. simp (le-ltb 0 (s .line .points) p, le-ltb 0 (s .line .points - 7 * j) (omega arith), le-ltb 0 (s .area .entries) e, le-ltb (s .area .begun) (s .area .loops) b, lt-ltb (s .layer .node + j) (s .layer .nodes) (omega arith));
+  quiet = λ j m. simp (
+    le-ltb 0 (s .line .points) p,
+    le-ltb 0 (s .line .points - 7 * j) (omega arith),
+    le-ltb 0 (s .area .entries) e,
+    le-ltb (s .area .begun) (s .area .loops) b,
+    lt-ltb (s .layer .node + j) (s .layer .nodes) (omega arith),
+  );
 }
 
 -- all that the state tells of, and no more
@@ -148,20 +172,23 @@ isNode (Loop last count left) = false
 -- then points are left, or nodes
 points-left : (s : State) → isPoints (dueOf s) ≡ true → 0 < s .line .points
 points-left s =
-    by-due (λ d. isPoints d ≡ true → 0 < s .line .points) s (λ l _. l) (λ _. other) (λ _. other) (λ _. other) (λ _. other) (λ _ _. other) (λ _. other) (λ _. other)
+    by-due (λ d. isPoints d ≡ true → 0 < s .line .points) s (λ l _. l) (λ _. other)
+    (λ _. other) (λ _. other) (λ _. other) (λ _ _. other) (λ _. other) (λ _. other)
   where
     other : false ≡ true → 0 < s .line .points
     other e = absurd (false≢true e)
 
 nodes-left : (s : State) → isNode (dueOf s) ≡ true → s .layer .node < s .layer .nodes
 nodes-left s =
-    by-due (λ d. isNode d ≡ true → s .layer .node < s .layer .nodes) s (λ _. other) (λ _. other) (λ _. other) (λ l _. l) (λ _. other) (λ _ _. other) (λ _. other) (λ _. other)
+    by-due (λ d. isNode d ≡ true → s .layer .node < s .layer .nodes) s (λ _. other)
+    (λ _. other) (λ _. other) (λ l _. l) (λ _. other) (λ _ _. other) (λ _. other) (λ _. other)
   where
     other : false ≡ true → s .layer .node < s .layer .nodes
     other e = absurd (false≢true e)
 
 -- and no entry or loop before the nodes
-no-loop : (s : State) (e b : Bool) → ltb 0 (s .area .entries) ≡ e → ltb (s .area .begun) (s .area .loops) ≡ b → e || b ≡ true → s .line .points ≤ 0 → isNode (dueOf s) ≡ false
+no-loop : (s : State) (e b : Bool) → ltb 0 (s .area .entries) ≡ e
+    → ltb (s .area .begun) (s .area .loops) ≡ b → e || b ≡ true → s .line .points ≤ 0 → isNode (dueOf s) ≡ false
 unfolding dueOf
 no-loop s true b x y o p = simp (le-ltb 0 (s .line .points) p, x)
 no-loop s false true x y o p = simp (le-ltb 0 (s .line .points) p, x, y)
@@ -186,7 +213,9 @@ quiet-ahead s h q = by (leb h (quietAhead s)) refl
   where
     by : (b : Bool) → leb h (quietAhead s) ≡ b → h ≤ quietAhead s
     by true l = leb-true _ _ l
-    by false l = absurd (whole-by s (quietAhead s) (ltb 0 (s .line .points)) (ltb 0 (s .area .entries) || ltb (s .area .begun) (s .area .loops)) refl refl refl (q .quiet (quietAhead s) (leb-false _ _ l)))
+    by false l =
+        absurd (whole-by s (quietAhead s) (ltb 0 (s .line .points))
+        (ltb 0 (s .area .entries) || ltb (s .area .begun) (s .area .loops)) refl refl refl (q .quiet (quietAhead s) (leb-false _ _ l)))
 
 module _ (s : State) where
   pub points-ahead : 0 < s .line .points → (s .line .points - 1) / 7 + 1 ≡ quietAhead s
@@ -221,7 +250,9 @@ module _ (file : List ℕ) (k : ℕ) {h : ℕ} {s : State} (e : s ≡ stateAt fi
   pub passed-state : (j : ℕ) → j ≤ h → passed s j ≡ stateAt file (k + j)
   unfolding stateAt
   passed-state zero l = passed-none s ∙ (rw add-zero e)
-  passed-state (suc j) l = rw add-suc (sym (passed-one s j (recordOf file (suc (k + j))) (q .quiet j (omega arith))) ∙ ap (λ (u : State). nextOf u (recordOf file (suc (k + j)))) (passed-state j (omega arith)))
+  passed-state (suc j) l =
+      rw add-suc (sym (passed-one s j (recordOf file (suc (k + j))) (q .quiet j (omega arith)))
+      ∙ ap (λ (u : State). nextOf u (recordOf file (suc (k + j)))) (passed-state j (omega arith)))
 
   -- what comes behind j of them
   pub passed-due : (j : ℕ) → j < h → dueOf (stateAt file (k + j)) ≡ quietDue s j
@@ -242,7 +273,8 @@ module _ (file : List ℕ) (k : ℕ) {h : ℕ} {s : State} (e : s ≡ stateAt fi
   passed-rows g t f = rows-past g k h f (λ j l. t (k + j) (rw (passed-due j l) (quiet-is s j)))
 
   -- the words that g takes from them are none, where it takes none from a quiet record
-  pub passed-words : (g : Due → List ℕ → ℕ → List ℕ) → ((d : Due) (t : List ℕ) (r : ℕ) → isQuiet d ≡ true → g d t r ≡ []) → (j : ℕ) → j ≤ h → gather g file (k + j) ≡ gather g file k
+  pub passed-words : (g : Due → List ℕ → ℕ → List ℕ) → ((d : Due) (t : List ℕ) (r : ℕ) → isQuiet d ≡ true → g d t r ≡ [])
+      → (j : ℕ) → j ≤ h → gather g file (k + j) ≡ gather g file k
   unfolding gather
   passed-words g t zero l = rw add-zero
   passed-words g t (suc j) l =
@@ -304,7 +336,8 @@ module _ (file : List ℕ) (points k m : ℕ) {r : ℕ} (e : r ≡ fineAhead fil
 
 -- behind the first k of n, with the answer t to the next record
 module _ (file : List ℕ) (points k n : ℕ) where
-  module _ (i : k < n) (l : 0 < points) {u : List ℕ} {t : Bool} (e : u ≡ recordOf file (k + 1)) (h : t ≡ isFine (firstBroken (block 2 (k + 1) (checksOf (Coordinates points) u)))) where
+  module _ (i : k < n) (l : 0 < points) {u : List ℕ} {t : Bool} (e : u ≡ recordOf file (k + 1))
+      (h : t ≡ isFine (firstBroken (block 2 (k + 1) (checksOf (Coordinates points) u)))) where
     ahead-is : fineAhead file points k (n - k) ≡ cond t (suc (fineAhead file (points - 7) (k + 1) (n - (k + 1)))) 0
     unfolding fineAhead
     ahead-is =
@@ -329,4 +362,5 @@ module _ (file : List ℕ) (points k n : ℕ) where
 -- the rules of stage 2, over records that were found fine
 pub fine-rows : (file : List ℕ) (k : ℕ) {h m : ℕ} {s : State} → s ≡ stateAt file k → Quiet s h → Fit file (s .line .points) k m → h ≤ m
     → firstBroken (rows k (stageTwoRules file)) ≡ Fine → firstBroken (rows (k + h) (stageTwoRules file)) ≡ Fine
-fine-rows file k {h} {m} {s} e q f l r = rows-past (stageTwoRules file) k h r (λ j i. rw (passed-due file k e q j i, lt-ltb 0 (s .line .points) (f .left (omega arith))) (f .fine j (omega arith)))
+fine-rows file k {h} {m} {s} e q f l r =
+    rows-past (stageTwoRules file) k h r (λ j i. rw (passed-due file k e q j i, lt-ltb 0 (s .line .points) (f .left (omega arith))) (f .fine j (omega arith)))

@@ -94,11 +94,14 @@ at-least n v h = leb-true n (size v) (and-both (natural v) (leb n (size v)) h .1
 -- an A's number 5 counts its loops
 area-loops : (layer last : ℕ) (t : List ℕ) → Holding (checksOf (Area layer last) t) → 1 ≤ sizeAt t areaLoops
 unfolding layoutOf areaAsks asksOf askedOf sizeIn
-area-loops layer last t h = at-least 1 (valueOf (numberAt t (spanOf areaLoops .start) (spanOf areaLoops .width))) (number-permitted (Area layer last) t h 5 refl (atLeast 1) (λ ns. refl))
+area-loops layer last t h =
+    at-least 1 (valueOf (numberAt t (spanOf areaLoops .start) (spanOf areaLoops .width)))
+    (number-permitted (Area layer last) t h 5 refl (atLeast 1) (λ ns. refl))
 
 -- two records for each area; but the loops of the last one may not have begun
 module _ (c : Counts) (s : State) (t : List ℕ) (k : ℕ) (o : 2 * c .areas ≤ k + (s .area .loops - s .area .begun)) where
-  loops-next : Holding (checksOf (dueOf s) t) → 2 * countedFor (dueOf s) c t .areas ≤ suc k + (nextFor (dueOf s) s t .area .loops - nextFor (dueOf s) s t .area .begun)
+  loops-next : Holding (checksOf (dueOf s) t)
+      → 2 * countedFor (dueOf s) c t .areas ≤ suc k + (nextFor (dueOf s) s t .area .loops - nextFor (dueOf s) s t .area .begun)
   loops-next =
       by-due (λ d. Holding (checksOf d t) → 2 * countedFor d c t .areas ≤ suc k + (nextFor d s t .area .loops - nextFor d s t .area .begun)) s
       (λ _ h. omega arith)

@@ -42,13 +42,17 @@ module _ (file : List ℕ) {w : Walked} (e : w ≡ walkedOf file) where
     -- the table is too short
     pub short : (room : ℕ) → room < w .counts .words → {v : Verdict} → v ≡ Broken 9 0 0 → v ≡ firstBroken (early file room)
     unfolding early roomRule
-    short room l h = goes-on (stageOne file ++ stageTwo file) (roomRule file room) q judged (h ∙ sym (check-broken third 0 0 9 (leb (wordsOf file) room) [] (rw (← words-are) (lt-leb (w .counts .words) room l))))
+    short room l h =
+        goes-on (stageOne file ++ stageTwo file) (roomRule file room) q judged
+        (h ∙ sym (check-broken third 0 0 9 (leb (wordsOf file) room) [] (rw (← words-are) (lt-leb (w .counts .words) room l))))
 
     module _ (room : ℕ) (l : w .counts .words ≤ room) where
       -- it is not
       pub long-enough : w .verdict ≡ firstBroken (early file room)
       unfolding early roomRule
-      long-enough = goes-on (stageOne file ++ stageTwo file) (roomRule file room) q judged (q ∙ check-none third 0 ∙ sym (check-kept third 0 0 9 (leb (wordsOf file) room) [] (rw (← words-are) (le-leb (w .counts .words) room l))))
+      long-enough =
+          goes-on (stageOne file ++ stageTwo file) (roomRule file room) q judged
+          (q ∙ check-none third 0 ∙ sym (check-kept third 0 0 9 (leb (wordsOf file) room) [] (rw (← words-are) (le-leb (w .counts .words) room l))))
 
       -- then it has room for all rows, lines and areas
       pub room-enough : rowLength * w .counts .layers + (w .counts .lines + w .counts .areas) ≤ room

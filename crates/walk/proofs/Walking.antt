@@ -9,7 +9,6 @@ use lib.IntN.{ℤ}
 use mir.Facts.{toZ-ofZ}
 use mir.Syntax.{w32}
 use mir.Val.{SFits, toZ, ofZ}
-use Rattle.fields.specs.Answer.{valueOf}
 use Rattle.fields.specs.Number.{numberAt}
 use Rattle.fields.specs.declared.Number as numbers
 use Rattle.fields.specs.declared.Number.the-variants as number
@@ -70,7 +69,8 @@ module _ (file : List ℕ) where
   counts-none = refl
 
   -- of one record more, which is due as d
-  pub next-counts : (k : ℕ) {c e : Counts} {d : Due} → c ≡ countsAt file k → d ≡ dueOf (stateAt file k) → e ≡ countedFor d c (recordOf file (k + 1)) → e ≡ countsAt file (k + 1)
+  pub next-counts : (k : ℕ) {c e : Counts} {d : Due} → c ≡ countsAt file k → d ≡ dueOf (stateAt file k)
+      → e ≡ countedFor d c (recordOf file (k + 1)) → e ≡ countsAt file (k + 1)
   unfolding countsAt
   next-counts k p q h = rw (add-one, ← p, ← q) (rw add-one at h)
 
@@ -103,7 +103,14 @@ counted-small (Mesh last) t h =
     record { meshes = omega (arith, h .meshes); layers = g .layers; nodes = g .nodes; lines = g .lines; areas = g .areas; words = g .words }
 counted-small (Layer last) t h =
     let g = upto-more h in
-    record { meshes = g .meshes; layers = omega (arith, h .layers); nodes = g .nodes; lines = g .lines; areas = g .areas; words = omega (arith, h .words, words-small t) }
+    record {
+      meshes = g .meshes;
+      layers = omega (arith, h .layers);
+      nodes = g .nodes;
+      lines = g .lines;
+      areas = g .areas;
+      words = omega (arith, h .words, words-small t);
+    }
 counted-small (Node layer last) t h =
     let g = upto-more h in
     record { meshes = g .meshes; layers = g .layers; nodes = omega (arith, h .nodes); lines = g .lines; areas = g .areas; words = g .words }

@@ -205,7 +205,14 @@ pub record Countable (c : Counts) : Type 0 where
 -- RULES 9.1: each record is counted as what it is; RULES 8.2: an H adds its layer's words
 abbrev pub countedFor : Due → Counts → List ℕ → Counts
 countedFor (Mesh last) c t = record { meshes = c .meshes + 1; layers = c .layers; nodes = c .nodes; lines = c .lines; areas = c .areas; words = c .words }
-countedFor (Layer last) c t = record { meshes = c .meshes; layers = c .layers + 1; nodes = c .nodes; lines = c .lines; areas = c .areas; words = c .words + layerWords t }
+countedFor (Layer last) c t = record {
+  meshes = c .meshes;
+  layers = c .layers + 1;
+  nodes = c .nodes;
+  lines = c .lines;
+  areas = c .areas;
+  words = c .words + layerWords t;
+}
 countedFor (Node layer last) c t = record { meshes = c .meshes; layers = c .layers; nodes = c .nodes + 1; lines = c .lines; areas = c .areas; words = c .words }
 countedFor (Line layer last) c t = record { meshes = c .meshes; layers = c .layers; nodes = c .nodes; lines = c .lines + 1; areas = c .areas; words = c .words }
 countedFor (Coordinates left) c t = c

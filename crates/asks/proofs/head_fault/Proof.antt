@@ -72,7 +72,14 @@ permitted-requires-7 c κs = search needs
 
 returns : tie.Need-returns
 unfolding layerAsks
-returns c = rw (c .both .ensures, c .before .before .is-layer-code .ensures, c .before .follows-layer .ensures, number (c .before .before .before .before), c .before .before .before .match .keys1)
+returns c =
+    rw (
+      c .both .ensures,
+      c .before .before .is-layer-code .ensures,
+      c .before .follows-layer .ensures,
+      number (c .before .before .before .before),
+      c .before .before .before .match .keys1,
+    )
 
 returns-2 : tie.Need-returns-2
 unfolding layerAsks

@@ -38,7 +38,14 @@ returns-3 : tie.Need-returns-3
 unfolding isLoopSerial
 returns-3 c =
     let p = c .before .before .before .before .before in
-    rw (le-ltb _ _ (c .before .before .before .before .if1 .left), eqb-before _ _ (c .before .before .if2 .left), c .same .ensures, c .before .natural .ensures, c .before .before .before .size .ensures, toZ-ofZ (p .fits .v))
+    rw (
+      le-ltb _ _ (c .before .before .before .before .if1 .left),
+      eqb-before _ _ (c .before .before .if2 .left),
+      c .same .ensures,
+      c .before .natural .ensures,
+      c .before .before .before .size .ensures,
+      toZ-ofZ (p .fits .v),
+    )
     (either-side (size (p .args .v)) (suc (p .args .last)) (λ k. same (natural (p .args .v)) (eqb k 1)))
 
 pub is-loop-due-spec : {M : Type 1} → statement M

@@ -119,7 +119,13 @@ returns-4 : tie.Need-returns-4
 unfolding lineAsks
 returns-4 c =
     let x = c .before .before in
-    rw (c .permitted2 .ensures, c .before .is-line-kind .ensures, number (c .before .before .before .before), passed-on (x .at2 .ok) (x .at2 .ensures), c .before .before .before .match .keys4)
+    rw (
+      c .permitted2 .ensures,
+      c .before .is-line-kind .ensures,
+      number (c .before .before .before .before),
+      passed-on (x .at2 .ok) (x .at2 .ensures),
+      c .before .before .before .match .keys4,
+    )
 
 returns-5 : tie.Need-returns-5
 unfolding lineAsks firstAsked
@@ -145,7 +151,13 @@ returns-10 : tie.Need-returns-10
 unfolding lineAsks
 returns-10 c =
     let x = c .before .before in
-    rw (c .permitted6 .ensures, c .before .is-side .ensures, number (c .before .before .before .before), passed-on (x .at3 .ok) (x .at3 .ensures), c .before .before .before .match .keys10)
+    rw (
+      c .permitted6 .ensures,
+      c .before .is-side .ensures,
+      number (c .before .before .before .before),
+      passed-on (x .at3 .ok) (x .at3 .ensures),
+      c .before .before .before .match .keys10,
+    )
 
 returns-11 : tie.Need-returns-11
 unfolding lineAsks
@@ -155,7 +167,13 @@ returns-12 : tie.Need-returns-12
 unfolding lineAsks
 returns-12 c =
     let x = c .before .before in
-    rw (c .permitted8 .ensures, c .before .is-side2 .ensures, number (c .before .before .before .before), passed-on (x .at4 .ok) (x .at4 .ensures), c .before .before .before .match .keys12)
+    rw (
+      c .permitted8 .ensures,
+      c .before .is-side2 .ensures,
+      number (c .before .before .before .before),
+      passed-on (x .at4 .ok) (x .at4 .ensures),
+      c .before .before .before .match .keys12,
+    )
 
 returns-13 : tie.Need-returns-13
 unfolding lineAsks

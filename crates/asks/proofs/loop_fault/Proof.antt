@@ -57,7 +57,14 @@ returns c = rw (c .in-step .ensures, c .before .is-loop-due .ensures, number (c 
 
 returns-2 : tie.Need-returns-2
 unfolding loopAsks
-returns-2 c = rw (c .both .ensures, c .before .before .at-least .ensures, c .before .is .ensures, number (c .before .before .before .before), c .before .before .before .match .keys2)
+returns-2 c =
+    rw (
+      c .both .ensures,
+      c .before .before .at-least .ensures,
+      c .before .is .ensures,
+      number (c .before .before .before .before),
+      c .before .before .before .match .keys2,
+    )
 
 returns-3 : tie.Need-returns-3
 unfolding loopAsks
@@ -65,11 +72,13 @@ returns-3 c =
     let a = c .before .before .before .before .before .before .before .args in
     let x = c .before .before .before in
     let n = c .before .entries-due .result in
-    let count : c .before .before .size .result ≡ size (at (now (a .ns)) 1) = c .before .before .size .ensures ∙ ap size (passed-on (x .at2 .ok) (x .at2 .ensures)) in
+    let count : c .before .before .size .result ≡ size (at (now (a .ns)) 1) =
+    c .before .before .size .ensures ∙ ap size (passed-on (x .at2 .ok) (x .at2 .ensures)) in
     let due : n ≡ entriesDue (size (at (now (a .ns)) 1)) (a .left) = c .before .entries-due .ensures ∙ rw count in
     let l = above 2 (a .i) (c .before .before .before .before .before .match .rest) in
     c .slot-fault .ensures
-    ∙ slot-asked (loopAsks (a .last) (a .count) (a .left) (now (a .ns))) 2 12 n (a .i) (now (a .ns)) (number (c .before .before .before .before .before .before)) (rw due) l (omega (arith, c .before .before .before .before .if1 .taken))
+    ∙ slot-asked (loopAsks (a .last) (a .count) (a .left) (now (a .ns))) 2 12 n (a .i) (now (a .ns))
+    (number (c .before .before .before .before .before .before)) (rw due) l (omega (arith, c .before .before .before .before .if1 .taken))
 
 returns-4 : tie.Need-returns-4
 unfolding loopAsks from

@@ -66,7 +66,14 @@ permitted-requires-6 c κs = search needs
 
 returns : tie.Need-returns
 unfolding meshAsks
-returns c = rw (c .both .ensures, c .before .before .is-mesh-code .ensures, c .before .follows-mesh .ensures, number (c .before .before .before .before), c .before .before .before .match .keys1)
+returns c =
+    rw (
+      c .both .ensures,
+      c .before .before .is-mesh-code .ensures,
+      c .before .follows-mesh .ensures,
+      number (c .before .before .before .before),
+      c .before .before .before .match .keys1,
+    )
 
 returns-2 : tie.Need-returns-2
 unfolding meshAsks

@@ -103,7 +103,14 @@ unfolding nodeAsks
 returns-6 c =
     let x = c .before .before .before in
     let y = c .before .before in
-    rw (c .permitted4 .ensures, c .before .is-frame .ensures, number (c .before .before .before .before .before), passed-on (x .at2 .ok) (x .at2 .ensures), passed-on (y .at3 .ok) (y .at3 .ensures), c .before .before .before .before .match .keys6)
+    rw (
+      c .permitted4 .ensures,
+      c .before .is-frame .ensures,
+      number (c .before .before .before .before .before),
+      passed-on (x .at2 .ok) (x .at2 .ensures),
+      passed-on (y .at3 .ok) (y .at3 .ensures),
+      c .before .before .before .before .match .keys6,
+    )
 
 returns-7 : tie.Need-returns-7
 unfolding nodeAsks
@@ -118,7 +125,8 @@ returns-8 c =
     let count : n ≡ size (at (now (a .ns)) 6) = c .before .size .ensures ∙ ap size (passed-on (x .at4 .ok) (x .at4 .ensures)) in
     let l = above 7 (a .i) (c .before .before .before .before .match .rest) in
     c .slot-fault .ensures
-    ∙ slot-asked (nodeAsks (a .layer) (a .last) (now (a .ns))) 7 9 n (a .i) (now (a .ns)) (number (c .before .before .before .before .before)) (rw count) l (omega (arith, c .before .before .before .if1 .taken))
+    ∙ slot-asked (nodeAsks (a .layer) (a .last) (now (a .ns))) 7 9 n (a .i) (now (a .ns))
+    (number (c .before .before .before .before .before)) (rw count) l (omega (arith, c .before .before .before .if1 .taken))
 
 returns-9 : tie.Need-returns-9
 unfolding nodeAsks from

@@ -8,7 +8,8 @@ use lib.Dec.{eqb, lit<}
 use borrow.Author.Needs.{needs}
 use borrow.Author.Tests.{eq-eqb, ne-eqb, not-true}
 use Rattle.fields.specs.Ending.{DigitsFrom, EndsIn}
-use Rattle.glances.proofs.AtGlance.{Digit, is-digit, passed-digit, bytes, one-digit, next-digit, glimpse-endless, from-4, from-3, from-2, from-1, from-0, from-none}
+use Rattle.glances.proofs.AtGlance.{Digit, is-digit, passed-digit, bytes, one-digit, next-digit}
+use Rattle.glances.proofs.AtGlance.{glimpse-endless, from-4, from-3, from-2, from-1, from-0, from-none}
 use Rattle.fields.proofs.Places.{both}
 use Rattle.glances.proofs.glance_at.Statement.{statement}
 use Rattle.glances.proofs.glance_at.Tie as tie
@@ -20,32 +21,54 @@ seen s = bytes (s .args .a) (s .args .b) (s .args .c) (s .args .d) (s .args .e)
 said-4 : (c : tie.After-wide) → DigitsFrom (seen (c .before .before .before)) 4 (c .wide .result)
 said-4 c = rw (c .wide .ensures) (one-digit _ _ _ _ _ (passed-digit _ _ (c .before .before .digit .ensures) (c .before .if1 .left)))
 
-said-3 : (c : tie.After-wide2) → DigitsFrom (seen (c .before .before .before .before .before .before)) 3 (c .before .before .before .wide .result + c .wide2 .result * 10)
+said-3 : (c : tie.After-wide2)
+    → DigitsFrom (seen (c .before .before .before .before .before .before)) 3 (c .before .before .before .wide .result + c .wide2 .result * 10)
 said-3 c =
-    rw (c .wide2 .ensures) (next-digit (seen (c .before .before .before .before .before .before)) 4 _ 10 (lit< tt) refl (said-4 (c .before .before .before)) (passed-digit _ _ (c .before .before .digit2 .ensures) (c .before .if2 .left)))
+    let d = c .before .before .before .before .before .before in
+    rw (c .wide2 .ensures)
+    (next-digit (seen d) 4 _ 10 (lit< tt) refl (said-4 (c .before .before .before))
+    (passed-digit _ _ (c .before .before .digit2 .ensures) (c .before .if2 .left)))
 
-said-2 : (c : tie.After-wide3) → DigitsFrom (seen (c .before .before .before .before .before .before .before .before .before)) 2 (c .before .before .before .before .before .before .wide .result + c .before .before .before .wide2 .result * 10 + c .wide3 .result * 100)
+said-2 : (c : tie.After-wide3)
+    → DigitsFrom (seen (c .before .before .before .before .before .before .before .before .before)) 2
+    (c .before .before .before .before .before .before .wide .result + c .before .before .before .wide2 .result * 10 + c .wide3 .result * 100)
 said-2 c =
-    rw (c .wide3 .ensures) (next-digit (seen (c .before .before .before .before .before .before .before .before .before)) 3 _ 100 (lit< tt) refl (said-3 (c .before .before .before)) (passed-digit _ _ (c .before .before .digit3 .ensures) (c .before .if4 .left)))
+    let d = c .before .before .before .before .before .before .before .before .before in
+    rw (c .wide3 .ensures)
+    (next-digit (seen d) 3 _ 100 (lit< tt) refl (said-3 (c .before .before .before))
+    (passed-digit _ _ (c .before .before .digit3 .ensures) (c .before .if4 .left)))
 
-said-1 : (c : tie.After-wide4) → DigitsFrom (seen (c .before .before .before .before .before .before .before .before .before .before .before .before)) 1 (c .before .before .before .before .before .before .before .before .before .wide .result + c .before .before .before .before .before .before .wide2 .result * 10 + c .before .before .before .wide3 .result * 100 + c .wide4 .result * 1000)
+said-1 : (c : tie.After-wide4)
+    → DigitsFrom (seen (c .before .before .before .before .before .before .before .before .before .before .before .before)) 1
+    (c .before .before .before .before .before .before .before .before .before .wide .result
+    + c .before .before .before .before .before .before .wide2 .result * 10 + c .before .before .before .wide3 .result * 100 + c .wide4 .result * 1000)
 said-1 c =
-    rw (c .wide4 .ensures) (next-digit (seen (c .before .before .before .before .before .before .before .before .before .before .before .before)) 2 _ 1000 (lit< tt) refl (said-2 (c .before .before .before)) (passed-digit _ _ (c .before .before .digit4 .ensures) (c .before .if6 .left)))
+    let d = c .before .before .before .before .before .before .before .before .before .before .before .before in
+    rw (c .wide4 .ensures)
+    (next-digit (seen d) 2 _ 1000 (lit< tt) refl (said-2 (c .before .before .before))
+    (passed-digit _ _ (c .before .before .digit4 .ensures) (c .before .if6 .left)))
 
 -- and no digit stands before them
 ends-4 : (c : tie.Then2) → EndsIn (seen (c .before .before .before .before .before)) 4 (c .before .before .wide .result)
 ends-4 c = record { digits = said-4 (c .before .before); all = λ q. sym (c .before .digit2 .ensures) ∙ not-true _ (c .if2 .taken) }
 
-ends-3 : (c : tie.Then4) → EndsIn (seen (c .before .before .before .before .before .before .before .before)) 3 (c .before .before .before .before .before .wide .result + c .before .before .wide2 .result * 10)
+ends-3 : (c : tie.Then4)
+    → EndsIn (seen (c .before .before .before .before .before .before .before .before)) 3
+    (c .before .before .before .before .before .wide .result + c .before .before .wide2 .result * 10)
 ends-3 c = record { digits = said-3 (c .before .before); all = λ q. sym (c .before .digit3 .ensures) ∙ not-true _ (c .if4 .taken) }
 
-ends-2 : (c : tie.Then6) → EndsIn (seen (c .before .before .before .before .before .before .before .before .before .before .before)) 2 (c .before .before .before .before .before .before .before .before .wide .result + c .before .before .before .before .before .wide2 .result * 10 + c .before .before .wide3 .result * 100)
+ends-2 : (c : tie.Then6)
+    → EndsIn (seen (c .before .before .before .before .before .before .before .before .before .before .before)) 2
+    (c .before .before .before .before .before .before .before .before .wide .result
+    + c .before .before .before .before .before .wide2 .result * 10 + c .before .before .wide3 .result * 100)
 ends-2 c = record { digits = said-2 (c .before .before); all = λ q. sym (c .before .digit4 .ensures) ∙ not-true _ (c .if6 .taken) }
 
 -- the first of five digits
-last : (c : tie.Then10) → Digit (c .before .before .before .before .before .before .before .before .before .before .before .before .before .before .before .args .a)
+last : (c : tie.Then10)
+    → Digit (c .before .before .before .before .before .before .before .before .before .before .before .before .before .before .before .args .a)
 last c =
-    is-digit _ (sym (c .before .digit5 .ensures) ∙ both (c .before .digit5 .result) (not (eqb (c .before .before .before .before .before .before .before .before .before .before .before .before .before .before .before .args .a) 48)) (c .if10 .taken) .0)
+    let a = c .before .before .before .before .before .before .before .before .before .before .before .before .before .before .before in
+    is-digit _ (sym (c .before .digit5 .ensures) ∙ both (c .before .digit5 .result) (not (eqb (a .args .a) 48)) (c .if10 .taken) .0)
 
 digit-requires : tie.Need-digit-requires
 digit-requires c κs = search needs
@@ -145,7 +168,8 @@ add-t39 c = search needs
 
 returns-10 : tie.Need-returns-10
 returns-10 c =
-    let n = not-true (eqb (c .before .before .before .before .before .before .before .before .before .before .before .before .before .before .before .before .args .a) 48) (both (c .before .before .digit5 .result) (not (eqb (c .before .before .before .before .before .before .before .before .before .before .before .before .before .before .before .before .args .a) 48)) (c .before .if10 .taken) .1) in
+    let a = c .before .before .before .before .before .before .before .before .before .before .before .before .before .before .before .before in
+    let n = not-true (eqb (a .args .a) 48) (both (c .before .before .digit5 .result) (not (eqb (a .args .a) 48)) (c .before .if10 .taken) .1) in
     rw (c .wide5 .ensures) (from-0 (said-1 (c .before .before .before .before)) (last (c .before)) false n)
 
 returns-11 : tie.Need-returns-11

@@ -1,4 +1,5 @@
--- `glances::glance_in` meets its contract: spaces in front change nothing, and what has more than five bytes in use says no number from 0 to 99999. Assumes nothing.
+-- `glances::glance_in` meets its contract: spaces in front change nothing, and what has more than five
+-- bytes in use says no number from 0 to 99999. Assumes nothing.
 use denote.Ref.{now}
 use lib.Dec.{lit≤}
 use borrow.Author.Needs.{needs}
@@ -97,23 +98,34 @@ returns-2 c = rw (short-is 4 1 (now (c .before .before .before .before .args .f)
 
 returns-3 : tie.Need-returns-3
 unfolding entries
-returns-3 c = rw (short-is 3 2 (now (c .before .before .before .before .before .args .f)) (c .before .before .before .match .keys2) (lit≤ tt) (lit≤ tt)) (c .glance-at2 .ensures)
+returns-3 c =
+    let a = c .before .before .before .before .before in
+    rw (short-is 3 2 (now (a .args .f)) (c .before .before .before .match .keys2) (lit≤ tt) (lit≤ tt)) (c .glance-at2 .ensures)
 
 returns-4 : tie.Need-returns-4
 unfolding entries
-returns-4 c = rw (short-is 2 3 (now (c .before .before .before .before .before .before .args .f)) (c .before .before .before .before .match .keys3) (lit≤ tt) (lit≤ tt)) (c .glance-at3 .ensures)
+returns-4 c =
+    let a = c .before .before .before .before .before .before in
+    rw (short-is 2 3 (now (a .args .f)) (c .before .before .before .before .match .keys3) (lit≤ tt) (lit≤ tt)) (c .glance-at3 .ensures)
 
 returns-5 : tie.Need-returns-5
 unfolding entries
-returns-5 c = rw (short-is 1 4 (now (c .before .before .before .before .before .before .before .args .f)) (c .before .before .before .before .before .match .keys4) (lit≤ tt) (lit≤ tt)) (c .glance-at4 .ensures)
+returns-5 c =
+    let m = c .before .before .before .before .before in
+    rw (short-is 1 4 (now (m .before .before .args .f)) (m .match .keys4) (lit≤ tt) (lit≤ tt)) (c .glance-at4 .ensures)
 
 returns-6 : tie.Need-returns-6
 unfolding entries
-returns-6 c = rw (short-is 0 5 (now (c .before .before .before .before .before .before .before .before .args .f)) (c .before .before .before .before .before .before .match .keys5) (lit≤ tt) (lit≤ tt)) (c .glance-at5 .ensures)
+returns-6 c =
+    let m = c .before .before .before .before .before .before in
+    rw (short-is 0 5 (now (m .before .before .args .f)) (m .match .keys5) (lit≤ tt) (lit≤ tt)) (c .glance-at5 .ensures)
 
 returns-7 : tie.Need-returns-7
 unfolding entries
-returns-7 c = rw (long-is (now (c .before .before .before .before .before .before .before .before .before .before .args .f)) (c .before .before .before .before .before .before .before .before .match .keys6) (c .before .before .before .before .before .before .if1 .left)) (c .glance-at6 .ensures)
+returns-7 c =
+    let i = c .before .before .before .before .before .before in
+    let a = i .before .before .before .before in
+    rw (long-is (now (a .args .f)) (i .before .before .match .keys6) (i .if1 .left)) (c .glance-at6 .ensures)
 
 returns-8 : tie.Need-returns-8
 returns-8 c =

@@ -12,7 +12,8 @@ use Rattle.glances.proofs.sum_of_five.Statement.{statement}
 use Rattle.glances.proofs.sum_of_five.Tie as tie
 
 -- past the first test the field lies inside
-bounds : (c : tie.Else1) → (1 ≤ c .before .before .before .args .column) × (c .before .before .before .args .column - 1 + 5 ≤ length (now (c .before .before .before .args .s)))
+bounds : (c : tie.Else1)
+    → (1 ≤ c .before .before .before .args .column) × (c .before .before .before .args .column - 1 + 5 ≤ length (now (c .before .before .before .args .s)))
 bounds c = passed _ _ _ _ (c .before .inside .ensures) (c .if1 .left)
 
 inside-requires : tie.Need-inside-requires

@@ -17,19 +17,24 @@ use Rattle.judge.proofs.area_measure.Statement.{statement}
 use Rattle.judge.proofs.area_measure.Tie as tie
 
 abbrev Inv-loop : tie.InvT-loop
-Inv-loop file l kept a n sum₀ f₀ i₀ sum f i = (i ≤ n) × (f ≡ a + 1 + recordsTo file a i) × (recordsTo file a i ≤ 834 * i) × (toZ w64 sum ≡ areaMeasure (keptMeasure l kept) (loopsTo file a i))
+Inv-loop file l kept a n sum₀ f₀ i₀ sum f i =
+    (i ≤ n) × (f ≡ a + 1 + recordsTo file a i) × (recordsTo file a i ≤ 834 * i) × (toZ w64 sum ≡ areaMeasure (keptMeasure l kept) (loopsTo file a i))
 
 abbrev μ-loop : tie.MeasureT-loop
 μ-loop file l kept a n sum₀ f₀ i₀ sum f i = n - i
 
 -- the loop's measure goes to the sum
 next : (c : tie.After-loop-measure Inv-loop μ-loop)
-    → Added (toZ w64 (c .before .before .loop .sum)) (c .loop-measure .result) (areaMeasure (keptMeasure (c .before .before .before .before .before .args .l) (c .before .before .before .before .before .args .kept .now)) (loopsTo (c .before .before .before .before .before .args .file .now) (c .before .before .before .before .before .args .a) (c .before .before .loop .i + 1)))
+    → Added (toZ w64 (c .before .before .loop .sum)) (c .loop-measure .result)
+    (areaMeasure (keptMeasure (c .before .before .before .before .before .args .l) (c .before .before .before .before .before .args .kept .now))
+    (loopsTo (c .before .before .before .before .before .args .file .now)
+    (c .before .before .before .before .before .args .a) (c .before .before .loop .i + 1)))
 unfolding keptLoop
 next c =
     let s = c .before .before .before .before .before in
     let l = c .before .before .loop in
-    loop-added _ _ _ (l .i) (s .pre .1) (omega (arith, c .before .loop-test .taken, c .before .before .before .loops-at .ensures .0)) (l .inv .1) (l .inv .3) (c .loop-measure .ok) (c .loop-measure .ensures)
+    loop-added _ _ _ (l .i) (s .pre .1) (omega (arith, c .before .loop-test .taken, c .before .before .before .loops-at .ensures .0))
+    (l .inv .1) (l .inv .3) (c .loop-measure .ok) (c .loop-measure .ensures)
 
 loops-at-requires : tie.Need-loops-at-requires Inv-loop μ-loop
 loops-at-requires c κs = search needs

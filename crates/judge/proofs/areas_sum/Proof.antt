@@ -21,11 +21,16 @@ abbrev μ-loop : tie.MeasureT-loop
 
 -- the area's measure goes to the sum
 next : (c : tie.After-area-measure Inv-loop μ-loop)
-    → Added (toZ w64 (c .before .before .before .loop .sum)) (c .area-measure .result) (sumTo (c .before .before .before .loop .a + 1) (areaOfLayer (now (c .before .before .before .before .before .before .before .args .file)) (now (c .before .before .before .before .before .before .before .args .table)) (c .before .before .before .before .before .before .before .args .l)))
+    → Added (toZ w64 (c .before .before .before .loop .sum)) (c .area-measure .result)
+    (sumTo (c .before .before .before .loop .a + 1)
+    (areaOfLayer (now (c .before .before .before .before .before .before .before .args .file))
+    (now (c .before .before .before .before .before .before .before .args .table)) (c .before .before .before .before .before .before .before .args .l)))
 next c =
+    let p = c .before .before .before .before .before .before .before in
     let h = c .before .before .loop-test .taken in
     let l = c .before .before .before .loop in
-    sum-added _ _ (l .a) (c .before .before .before .before .before .before .before .pre .1 .areas) h (l .inv .1) (c .area-measure .ok) (area-told _ _ _ h (c .before .area-word .ensures .0) (c .before .before .before .before .before .before .before .pre .0) (c .area-measure .ensures))
+    sum-added _ _ (l .a) (p .pre .1 .areas) h (l .inv .1) (c .area-measure .ok)
+    (area-told _ _ _ h (c .before .area-word .ensures .0) (p .pre .0) (c .area-measure .ensures))
 
 cast-n : tie.Need-cast-n Inv-loop μ-loop
 cast-n c = search needs

@@ -39,7 +39,9 @@ mul-t13 : tie.Need-mul-t13 Inv-loop μ-loop
 mul-t13 c = search needs
 
 slice-set-from-measures : tie.Need-slice-set-from-measures Inv-loop μ-loop
-slice-set-from-measures c = rw (c .before .before .before .loop .inv .1, length-sets) (omega (arith, c .before .before .loop-test .taken, c .before .before .before .before .before .before .before .pre .0))
+slice-set-from-measures c =
+    let p = c .before .before .before .before .before .before .before .pre .0 in
+    rw (c .before .before .before .loop .inv .1, length-sets) (omega (arith, c .before .before .loop-test .taken, p))
 
 add-a : tie.Need-add-a Inv-loop μ-loop
 add-a c = omega (arith, c .before .before .loop-test .taken)
@@ -48,7 +50,12 @@ loop-less : tie.Need-loop-less Inv-loop μ-loop
 loop-less c = search needs
 
 loop-again : tie.Need-loop-again Inv-loop μ-loop
-loop-again c = (omega (arith, c .before .before .loop-test .taken), area-stored _ _ _ (c .before .before .loop-test .taken) (c .before .area-word .ensures .0) (c .before .before .before .before .before .before .before .pre .1) _ _ (c .before .before .before .loop .inv .1) (c .area-measure .ok) (c .area-measure .ensures))
+loop-again c =
+    let p = c .before .before .before .before .before .before .before .pre .1 in (
+      omega (arith, c .before .before .loop-test .taken),
+      area-stored _ _ _ (c .before .before .loop-test .taken) (c .before .area-word .ensures .0) p _ _
+          (c .before .before .before .loop .inv .1) (c .area-measure .ok) (c .area-measure .ensures),
+    )
 
 same-length : tie.Need-same-length Inv-loop μ-loop
 same-length c = rw (c .before .loop .inv .1) (simp length-sets)

@@ -15,7 +15,8 @@ use Rattle.judge.proofs.fill_measures.Statement.{statement}
 use Rattle.judge.proofs.fill_measures.Tie as tie
 
 abbrev Inv-loop : tie.InvT-loop
-Inv-loop file table b n measures₀ kept₀ at₀ i₀ measures kept at i = (i ≤ n) × (length kept ≡ 9999) × (at ≡ wordsBefore table 3 i) × (measures ≡ filledTo file table b i measures₀)
+Inv-loop file table b n measures₀ kept₀ at₀ i₀ measures kept at i =
+    (i ≤ n) × (length kept ≡ 9999) × (at ≡ wordsBefore table 3 i) × (measures ≡ filledTo file table b i measures₀)
 
 abbrev μ-loop : tie.MeasureT-loop
 μ-loop file table b n measures₀ kept₀ at₀ i₀ measures kept at i = n - i
@@ -45,32 +46,44 @@ fill-layer-requires c κs =
     let l = c .before .before .before .before .before .before .before .loop in
     let h = c .before .before .before .before .before .before .loop-test .taken in
     let e = c .before .before .before .before .before .layer-in .ensures in
-    let u = layer-summable _ _ _ _ _ _ (s .pre) (l .inv .2) (l .inv .3) h e in
-    (room _ _ _ _ _ _ (s .pre) (l .inv .2) (l .inv .3) h e, kept-lines _ _ _ _ (c .before .before .before .keep-measures .ensures) (omega (arith, l .inv .1)) (u .sound), u)
+    let u = layer-summable _ _ _ _ _ _ (s .pre) (l .inv .2) (l .inv .3) h e in (
+      room _ _ _ _ _ _ (s .pre) (l .inv .2) (l .inv .3) h e,
+      kept-lines _ _ _ _ (c .before .before .before .keep-measures .ensures) (omega (arith, l .inv .1)) (u .sound),
+      u,
+    )
 
 cast-at : tie.Need-cast-at Inv-loop μ-loop
 cast-at c = search needs
 
 add-at : tie.Need-add-at Inv-loop μ-loop
 add-at c =
+    let i = c .before .before .before .before .before .before .before .before .layer-in .ensures in
     let s = c .before .before .before .before .before .before .before .before .before .before .before .before .before in
     let l = c .before .before .before .before .before .before .before .before .before .before .loop in
     let h = c .before .before .before .before .before .before .before .before .before .loop-test .taken in
-    omega (arith, room _ _ _ _ _ _ (s .pre) (l .inv .2) (l .inv .3) h (c .before .before .before .before .before .before .before .before .layer-in .ensures), same-many _ _ _ _ _ _ (s .pre) (l .inv .2) (l .inv .3) (l .inv .0), s .good)
+    omega (arith, room _ _ _ _ _ _ (s .pre) (l .inv .2) (l .inv .3) h i, same-many _ _ _ _ _ _ (s .pre) (l .inv .2) (l .inv .3) (l .inv .0), s .good)
 
 add-i : tie.Need-add-i Inv-loop μ-loop
-add-i c = omega (arith, c .before .before .before .before .before .before .before .before .before .loop-test .taken, c .before .before .before .before .before .before .before .before .before .before .before .before .before .pre .few)
+add-i c =
+    let l = c .before .before .before .before .before .before .before .before .before .loop-test .taken in
+    let p = c .before .before .before .before .before .before .before .before .before .before .before .before .before .pre .few in
+    omega (arith, l, p)
 
 loop-less : tie.Need-loop-less Inv-loop μ-loop
 loop-less c = search needs
 
 loop-again : tie.Need-loop-again Inv-loop μ-loop
 loop-again c =
+    let k = c .before .before .before .before .before .before .keep-measures .ensures in
     let s = c .before .before .before .before .before .before .before .before .before .before .before .before .before in
     let l = c .before .before .before .before .before .before .before .before .before .before .loop in
     let h = c .before .before .before .before .before .before .before .before .before .loop-test .taken in
-    let e = c .before .before .before .before .before .before .before .before .layer-in .ensures in
-    (omega (arith, h), kept-length _ _ _ _ (c .before .before .before .before .before .before .keep-measures .ensures) ∙ l .inv .1, at-more _ _ _ _ _ _ (s .pre) (l .inv .2) (l .inv .3) h e, layer-put _ _ _ _ _ _ (s .pre) (l .inv .2) (l .inv .3) h e (c .before .before .fill-layer .ensures))
+    let e = c .before .before .before .before .before .before .before .before .layer-in .ensures in (
+      omega (arith, h),
+      kept-length _ _ _ _ k ∙ l .inv .1,
+      at-more _ _ _ _ _ _ (s .pre) (l .inv .2) (l .inv .3) h e,
+      layer-put _ _ _ _ _ _ (s .pre) (l .inv .2) (l .inv .3) h e (c .before .before .fill-layer .ensures),
+    )
 
 same-length : tie.Need-same-length Inv-loop μ-loop
 same-length c = same-many _ _ _ _ _ _ (c .before .before .before .before .pre) (c .before .loop .inv .2) (c .before .loop .inv .3) (c .before .loop .inv .0)

@@ -15,7 +15,9 @@ enum-told : tie.Need-enum-told
 enum-told c = search needs
 
 returns : tie.Need-returns
-returns c = third-broken _ (c .before .before .before .before .before .before .pre .0) (c .before .before .before .before .before .before .pre .1) (c .before .before .before .bases-of .ensures) (c .before .before .stage-three .ensures) (c .enum-told .given .1)
+returns c =
+    let p = c .before .before .before .before .before .before in
+    third-broken _ (p .pre .0) (p .pre .1) (c .before .before .before .bases-of .ensures) (c .before .before .stage-three .ensures) (c .enum-told .given .1)
 
 enum-told-2 : tie.Need-enum-told-2
 enum-told-2 c = search needs
@@ -27,7 +29,11 @@ enum-told-3 : tie.Need-enum-told-3
 enum-told-3 c = search needs
 
 returns-2 : tie.Need-returns-2
-returns-2 c = fourth-broken _ (c .before .before .before .before .before .before .before .before .before .pre .0) (c .before .before .before .before .before .before .before .before .before .pre .1) (c .before .before .before .before .before .before .bases-of .ensures) (c .before .before .before .before .before .stage-three .ensures) (c .before .before .before .enum-told2 .given .1) (c .before .before .stage-four .ensures) (c .enum-told3 .given .1)
+returns-2 c =
+    let s = c .before .before .before .before .before in
+    let p = s .before .before .before .before in
+    fourth-broken _ (p .pre .0) (p .pre .1) (s .before .bases-of .ensures) (s .stage-three .ensures)
+    (c .before .before .before .enum-told2 .given .1) (c .before .before .stage-four .ensures) (c .enum-told3 .given .1)
 
 enum-told-4 : tie.Need-enum-told-4
 enum-told-4 c = search needs
@@ -39,7 +45,12 @@ enum-told-5 : tie.Need-enum-told-5
 enum-told-5 c = search needs
 
 returns-3 : tie.Need-returns-3
-returns-3 c = fifth-broken _ (c .before .before .before .before .before .before .before .before .before .before .before .before .pre .0) (c .before .before .before .before .before .before .before .before .before .before .before .before .pre .1) (c .before .before .before .before .before .before .before .before .before .bases-of .ensures) (c .before .before .before .before .before .before .before .before .stage-three .ensures) (c .before .before .before .before .before .before .enum-told2 .given .1) (c .before .before .before .before .before .stage-four .ensures) (c .before .before .before .enum-told4 .given .1) (c .before .before .before .before .before .before .before .before .before .before .before .before .pre .2) (c .before .before .stage-five .ensures) (c .enum-told5 .given .1)
+returns-3 c =
+    let s = c .before .before .before .before .before in
+    let t = s .before .before .before in
+    let p = t .before .before .before .before in
+    fifth-broken _ (p .pre .0) (p .pre .1) (t .before .bases-of .ensures) (t .stage-three .ensures) (s .before .enum-told2 .given .1)
+    (s .stage-four .ensures) (c .before .before .before .enum-told4 .given .1) (p .pre .2) (c .before .before .stage-five .ensures) (c .enum-told5 .given .1)
 
 enum-told-6 : tie.Need-enum-told-6
 enum-told-6 c = search needs
@@ -48,7 +59,13 @@ stage-six-requires : tie.Need-stage-six-requires
 stage-six-requires c κs = search needs
 
 returns-4 : tie.Need-returns-4
-returns-4 c = sixth-speaks _ (c .before .before .before .before .before .before .before .before .before .before .before .before .before .pre .0) (c .before .before .before .before .before .before .before .before .before .before .before .before .before .pre .1) (c .before .before .before .before .before .before .before .before .before .before .bases-of .ensures) (c .before .before .before .before .before .before .before .before .before .stage-three .ensures) (c .before .before .before .before .before .before .before .enum-told2 .given .1) (c .before .before .before .before .before .before .stage-four .ensures) (c .before .before .before .before .enum-told4 .given .1) (c .before .before .before .before .before .before .before .before .before .before .before .before .before .pre .2) (c .before .before .before .stage-five .ensures) (c .before .enum-told6 .given .1) (c .stage-six .ensures)
+returns-4 c =
+    let s = c .before .before .before .before .before .before in
+    let t = s .before .before .before in
+    let p = t .before .before .before .before in
+    sixth-speaks _ (p .pre .0) (p .pre .1) (t .before .bases-of .ensures) (t .stage-three .ensures)
+    (s .before .enum-told2 .given .1) (s .stage-four .ensures) (c .before .before .before .before .enum-told4 .given .1)
+    (p .pre .2) (c .before .before .before .stage-five .ensures) (c .before .enum-told6 .given .1) (c .stage-six .ensures)
 
 pub judge-late-spec : {M : Type 1} → statement M
 judge-late-spec =

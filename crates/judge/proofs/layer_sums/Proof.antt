@@ -3,7 +3,8 @@
 use mathlib.Core.Path.{refl, sym}
 use lib.Seq.{length-take-le}
 use Rattle.judge.proofs.Loading.{counts-few}
-use Rattle.judge.proofs.Calling.{sums-refused, table-sums-refused, judged-counts, judged-fit, judged-words, sums-none, table-none, layer-there, table-there, layer-summable, sums-there}
+use Rattle.judge.proofs.Calling.{sums-refused, table-sums-refused, judged-counts, judged-fit, judged-words}
+use Rattle.judge.proofs.Calling.{sums-none, table-none, layer-there, table-there, layer-summable, sums-there}
 use borrow.Author.Needs.{needs}
 use Rattle.judge.proofs.layer_sums.Statement.{statement}
 use Rattle.judge.proofs.layer_sums.Tie as tie
@@ -21,7 +22,11 @@ same-length : tie.Need-same-length
 same-length c = search needs
 
 returns : tie.Need-returns
-returns c = (sums-refused _ _ (c .before .before .before .before .before .before .judge-file .ensures .0) (c .before .enum-told .given .1) _ (c .no-sums .ensures), table-sums-refused _ _ (c .before .before .before .before .before .before .judge-file .ensures .0) (c .before .enum-told .given .1) _ _ refl (c .before .before .before .before .before .before .judge-file .ensures .1))
+returns c =
+    let j = c .before .before .before .before .before .before in (
+      sums-refused _ _ (j .judge-file .ensures .0) (c .before .enum-told .given .1) _ (c .no-sums .ensures),
+      table-sums-refused _ _ (j .judge-file .ensures .0) (c .before .enum-told .given .1) _ _ refl (j .judge-file .ensures .1),
+    )
 
 enum-told-2 : tie.Need-enum-told-2
 enum-told-2 c = search needs
@@ -33,31 +38,57 @@ same-length-2 : tie.Need-same-length-2
 same-length-2 c = search needs
 
 returns-2 : tie.Need-returns-2
-returns-2 c = (sums-none _ _ (c .before .before .before .before .before .before .before .before .judge-file .ensures .0) (c .before .before .before .enum-told2 .given .1) _ (c .before .if1 .taken) refl (c .no-sums2 .ensures), table-none _ _ (c .before .before .before .before .before .before .before .before .judge-file .ensures .0) (c .before .before .before .enum-told2 .given .1) _ (c .before .if1 .taken) _ refl (c .before .before .before .before .before .before .before .before .judge-file .ensures .1))
+returns-2 c =
+    let e = c .before .before .before in
+    let j = e .before .before .before .before .before in (
+      sums-none _ _ (j .judge-file .ensures .0) (e .enum-told2 .given .1) _ (c .before .if1 .taken) refl (c .no-sums2 .ensures),
+      table-none _ _ (j .judge-file .ensures .0) (e .enum-told2 .given .1) _ (c .before .if1 .taken) _ refl (j .judge-file .ensures .1),
+    )
 
 slice-reshare-prefix-words : tie.Need-slice-reshare-prefix-words
-slice-reshare-prefix-words c = judged-fit _ _ (c .before .before .before .before .before .before .before .judge-file .ensures .0) (c .before .before .enum-told2 .given .1) _ refl (c .before .before .before .before .before .before .before .judge-file .ensures .1)
+slice-reshare-prefix-words c =
+    let j = c .before .before .before .before .before .before .before in
+    judged-fit _ _ (j .judge-file .ensures .0) (c .before .before .enum-told2 .given .1) _ refl (j .judge-file .ensures .1)
 
 slice-aggregate-words : tie.Need-slice-aggregate-words
-slice-aggregate-words c = sym (length-take-le _ _ (judged-fit _ _ (c .before .before .before .before .before .before .before .before .judge-file .ensures .0) (c .before .before .before .enum-told2 .given .1) _ refl (c .before .before .before .before .before .before .before .before .judge-file .ensures .1)))
+slice-aggregate-words c =
+    let j = c .before .before .before .before .before .before .before .before in
+    sym (length-take-le _ _ (judged-fit _ _ (j .judge-file .ensures .0) (c .before .before .before .enum-told2 .given .1) _ refl (j .judge-file .ensures .1)))
 
 bases-of-requires : tie.Need-bases-of-requires
-bases-of-requires c κs = counts-few _ (judged-counts _ _ (c .before .before .before .before .before .before .before .before .judge-file .ensures .0) (c .before .before .before .enum-told2 .given .1))
+bases-of-requires c κs =
+    let j = c .before .before .before .before .before .before .before .before in
+    counts-few _ (judged-counts _ _ (j .judge-file .ensures .0) (c .before .before .before .enum-told2 .given .1))
 
 sub-layer-in : tie.Need-sub-layer-in
-sub-layer-in c = layer-there _ _ (c .before .before .before .before .before .before .before .before .before .judge-file .ensures .0) (c .before .before .before .before .enum-told2 .given .1) _ (c .before .before .if1 .left) .0
+sub-layer-in c =
+    let j = c .before .before .before .before .before .before .before .before .before in
+    layer-there _ _ (j .judge-file .ensures .0) (c .before .before .before .before .enum-told2 .given .1) _ (c .before .before .if1 .left) .0
 
 layer-in-requires : tie.Need-layer-in-requires
 layer-in-requires c κs = search needs
 
 sums-in-requires : tie.Need-sums-in-requires
-sums-in-requires c κs = layer-summable _ _ (c .before .before .before .before .before .before .before .before .before .before .judge-file .ensures .0) (c .before .before .before .before .before .enum-told2 .given .1) _ (c .before .before .before .if1 .left) (judged-words _ _ (c .before .before .before .before .before .before .before .before .before .before .judge-file .ensures .0) (c .before .before .before .before .before .enum-told2 .given .1) _ refl (c .before .before .before .before .before .before .before .before .before .before .judge-file .ensures .1)) (c .before .bases-of .ensures) (c .layer-in .ensures)
+sums-in-requires c κs =
+    let e = c .before .before .before .before .before in
+    let j = e .before .before .before .before .before in
+    layer-summable _ _ (j .judge-file .ensures .0) (e .enum-told2 .given .1) _ (c .before .before .before .if1 .left)
+    (judged-words _ _ (j .judge-file .ensures .0) (e .enum-told2 .given .1) _ refl (j .judge-file .ensures .1))
+    (c .before .bases-of .ensures) (c .layer-in .ensures)
 
 same-length-3 : tie.Need-same-length-3
 same-length-3 c = search needs
 
 returns-3 : tie.Need-returns-3
-returns-3 c = (sums-there _ _ (c .before .before .before .before .before .before .before .before .before .before .before .judge-file .ensures .0) (c .before .before .before .before .before .before .enum-told2 .given .1) _ (c .before .before .before .before .if1 .left) (judged-words _ _ (c .before .before .before .before .before .before .before .before .before .before .before .judge-file .ensures .0) (c .before .before .before .before .before .before .enum-told2 .given .1) _ refl (c .before .before .before .before .before .before .before .before .before .before .before .judge-file .ensures .1)) (c .before .before .bases-of .ensures) (c .before .layer-in .ensures) (c .sums-in .ensures), table-there _ _ (c .before .before .before .before .before .before .before .before .before .before .before .judge-file .ensures .0) (c .before .before .before .before .before .before .enum-told2 .given .1) _ (c .before .before .before .before .if1 .left) _ refl (c .before .before .before .before .before .before .before .before .before .before .before .judge-file .ensures .1))
+returns-3 c =
+    let i = c .before .before .before .before in
+    let e = i .before .before in
+    let j = e .before .before .before .before .before in (
+      sums-there _ _ (j .judge-file .ensures .0) (e .enum-told2 .given .1) _ (i .if1 .left)
+          (judged-words _ _ (j .judge-file .ensures .0) (e .enum-told2 .given .1) _ refl (j .judge-file .ensures .1))
+          (c .before .before .bases-of .ensures) (c .before .layer-in .ensures) (c .sums-in .ensures),
+      table-there _ _ (j .judge-file .ensures .0) (e .enum-told2 .given .1) _ (i .if1 .left) _ refl (j .judge-file .ensures .1),
+    )
 
 pub layer-sums-spec : {M : Type 1} → statement M
 layer-sums-spec =

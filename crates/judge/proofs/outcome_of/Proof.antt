@@ -16,7 +16,18 @@ use Rattle.judge.proofs.outcome_of.Tie as tie
 
 -- a refusal t, with the need
 abbrev refused : Told → ℕ → Outcome
-refused t need = record { number = t .number; place = t .place; column = t .column; meshes = 0; layers = 0; nodes = 0; lines = 0; areas = 0; records = 0; need = need }
+refused t need = record {
+  number = t .number;
+  place = t .place;
+  column = t .column;
+  meshes = 0;
+  layers = 0;
+  nodes = 0;
+  lines = 0;
+  areas = 0;
+  records = 0;
+  need = need;
+}
 
 -- 9 tells the need
 short : (v : Verdict) (c : Counts) (records : ℕ) {t : Told} → t ≡ toldOf v → t .number ≡ 9 → refused t (c .words) ≡ outcomeBy v c records (c .words)
@@ -28,7 +39,8 @@ short (Broken n r k) c records e q =
     rw (e, eq-eqb n 9 z)
 
 -- no other number does
-other : {v : Verdict} {n r k : ℕ} (c : Counts) (records : ℕ) {t : Told} → t ≡ toldOf v → (t .number ≡ 9 → ⊥) → v ≡ Broken n r k → refused t 0 ≡ outcomeBy v c records (c .words)
+other : {v : Verdict} {n r k : ℕ} (c : Counts) (records : ℕ) {t : Told} → t ≡ toldOf v
+    → (t .number ≡ 9 → ⊥) → v ≡ Broken n r k → refused t 0 ≡ outcomeBy v c records (c .words)
 other {v} {n} {r} {k} c records {t} e q f =
     let p : t ≡ toldOf (Broken n r k) = e ∙ ap toldOf f in
     rw (f, p, ne-eqb n 9 (λ z. q (ap (λ t. t .number) p ∙ z)))
@@ -69,7 +81,10 @@ cast-o-6 : tie.Need-cast-o-6
 cast-o-6 c = search needs
 
 returns-3 : tie.Need-returns-3
-returns-3 c = rw (c .before .before .before .before .before .before .before .before .before .by-number .ensures, c .before .before .before .before .before .enum-told2 .given .1)
+returns-3 c =
+    let e = c .before .before .before .before .before in
+    let b = e .before .before .before .before in
+    rw (b .by-number .ensures, e .enum-told2 .given .1)
 
 pub outcome-of-spec : {M : Type 1} → statement M
 outcome-of-spec =

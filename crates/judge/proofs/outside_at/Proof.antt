@@ -7,10 +7,16 @@ use Rattle.judge.proofs.outside_at.Statement.{statement}
 use Rattle.judge.proofs.outside_at.Tie as tie
 
 -- which of the line's two areas are 0
-sides : (c : tie.After-same) → Sided (now (c .before .before .before .before .before .before .before .before .args .file)) (now (c .before .before .before .before .before .before .before .before .args .table)) (c .before .before .before .before .before .before .before .before .args .l) (c .before .before .before .before .before .before .before .before .args .n) (c .before .before .before .is-zero .result) (c .before .is-zero2 .result)
+sides : (c : tie.After-same)
+    → Sided (now (c .before .before .before .before .before .before .before .before .args .file))
+    (now (c .before .before .before .before .before .before .before .before .args .table))
+    (c .before .before .before .before .before .before .before .before .args .l)
+    (c .before .before .before .before .before .before .before .before .args .n) (c .before .before .before .is-zero .result) (c .before .is-zero2 .result)
 sides c =
     let s = c .before .before .before .before in
-    sided _ _ _ _ (c .before .before .before .before .before .before .before .before .pre .0) (s .before .line-of .ensures) (s .value-at .ok) (s .value-at .ensures) (c .before .before .before .is-zero .ensures) (c .before .before .value-at2 .ok) (c .before .before .value-at2 .ensures) (c .before .is-zero2 .ensures)
+    sided _ _ _ _ (c .before .before .before .before .before .before .before .before .pre .0)
+    (s .before .line-of .ensures) (s .value-at .ok) (s .value-at .ensures) (c .before .before .before .is-zero .ensures)
+    (c .before .before .value-at2 .ok) (c .before .before .value-at2 .ensures) (c .before .is-zero2 .ensures)
 
 cast-v : tie.Need-cast-v
 cast-v c = search needs
@@ -40,13 +46,23 @@ line-measure-requires : tie.Need-line-measure-requires
 line-measure-requires c κs = search needs
 
 returns-2 : tie.Need-returns-2
-returns-2 c = outside-left _ _ _ _ (sides (c .before .before .before)) (c .before .before .before .same .ensures) (c .before .before .if1 .left) (c .if2 .taken) (measure-passed _ _ _ _ (c .before .before .before .before .before .before .before .before .before .before .before .pre .0) (c .before .before .before .before .before .before .before .before .before .before .before .pre .1) (c .before .line-measure .ensures))
+returns-2 c =
+    let s = c .before .before .before in
+    let p = s .before .before .before .before .before .before .before .before in
+    outside-left _ _ _ _ (sides s) (s .same .ensures) (c .before .before .if1 .left) (c .if2 .taken)
+    (measure-passed _ _ _ _ (p .pre .0) (p .pre .1) (c .before .line-measure .ensures))
 
 sub-result : tie.Need-sub-result
-sub-result c = measure-fits _ _ _ _ (c .before .before .before .before .before .before .before .before .before .before .before .pre .0) (c .before .before .before .before .before .before .before .before .before .before .before .pre .1) (c .before .line-measure .ensures)
+sub-result c =
+    let p = c .before .before .before .before .before .before .before .before .before .before .before in
+    measure-fits _ _ _ _ (p .pre .0) (p .pre .1) (c .before .line-measure .ensures)
 
 returns-3 : tie.Need-returns-3
-returns-3 c = outside-right _ _ _ _ (sides (c .before .before .before)) (c .before .before .before .same .ensures) (c .before .before .if1 .left) (c .if2 .left) (measure-turned _ _ _ _ (c .before .before .before .before .before .before .before .before .before .before .before .pre .0) (c .before .before .before .before .before .before .before .before .before .before .before .pre .1) (c .before .line-measure .ensures))
+returns-3 c =
+    let s = c .before .before .before in
+    let p = s .before .before .before .before .before .before .before .before in
+    outside-right _ _ _ _ (sides s) (s .same .ensures) (c .before .before .if1 .left) (c .if2 .left)
+    (measure-turned _ _ _ _ (p .pre .0) (p .pre .1) (c .before .line-measure .ensures))
 
 pub outside-at-spec : {M : Type 1} → statement M
 outside-at-spec =

@@ -23,10 +23,15 @@ abbrev μ-loop : tie.MeasureT-loop
 
 -- what the line adds goes to the sum
 next : (c : tie.After-outside-at Inv-loop μ-loop)
-    → Added (toZ w64 (c .before .before .loop .sum)) (c .outside-at .result) (sumTo (c .before .before .loop .i + 1) (outsideAt (now (c .before .before .before .before .before .before .args .file)) (now (c .before .before .before .before .before .before .args .table)) (c .before .before .before .before .before .before .args .l)))
+    → Added (toZ w64 (c .before .before .loop .sum)) (c .outside-at .result)
+    (sumTo (c .before .before .loop .i + 1)
+    (outsideAt (now (c .before .before .before .before .before .before .args .file))
+    (now (c .before .before .before .before .before .before .args .table)) (c .before .before .before .before .before .before .args .l)))
 next c =
+    let p = c .before .before .before .before .before .before in
     let l = c .before .before .loop in
-    sum-added _ _ (l .i) (c .before .before .before .before .before .before .pre .1 .outside) (c .before .loop-test .taken) (l .inv .1) (c .outside-at .ok) (c .outside-at .ensures ∙ ap (outsideAt _ _ _) (add-one (l .i)))
+    sum-added _ _ (l .i) (p .pre .1 .outside) (c .before .loop-test .taken) (l .inv .1)
+    (c .outside-at .ok) (c .outside-at .ensures ∙ ap (outsideAt _ _ _) (add-one (l .i)))
 
 cast-n : tie.Need-cast-n Inv-loop μ-loop
 cast-n c = search needs
@@ -38,7 +43,9 @@ add-outside-at : tie.Need-add-outside-at Inv-loop μ-loop
 add-outside-at c = omega (arith, c .loop-test .taken, c .before .before .before .before .before .pre .1 .sound .few)
 
 outside-at-requires : tie.Need-outside-at-requires Inv-loop μ-loop
-outside-at-requires c κs = (omega (arith, c .loop-test .taken, c .before .before .before .before .before .pre .1 .sound .few), c .before .before .before .before .before .pre .0)
+outside-at-requires c κs =
+    let p = c .before .before .before .before .before .pre in
+    (omega (arith, c .loop-test .taken, p .1 .sound .few), p .0)
 
 add-sum : tie.Need-add-sum Inv-loop μ-loop
 add-sum c = next c .fits

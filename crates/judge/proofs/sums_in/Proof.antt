@@ -34,7 +34,9 @@ outside-sum-requires c κs =
     (kept-lines _ _ _ _ (c .before .before .before .keep-measures .ensures) (lit≤ tt) (u .sound), u)
 
 returns : tie.Need-returns
-returns c = ap₂ (sumsWith Fine) (toZ-ofZ {w = w64} (record { sfits = c .before .areas-sum .ok }) ∙ c .before .areas-sum .ensures) (toZ-ofZ {w = w64} (record { sfits = c .outside-sum .ok }) ∙ c .outside-sum .ensures)
+returns c =
+    ap₂ (sumsWith Fine) (toZ-ofZ {w = w64} (record { sfits = c .before .areas-sum .ok }) ∙ c .before .areas-sum .ensures)
+    (toZ-ofZ {w = w64} (record { sfits = c .outside-sum .ok }) ∙ c .outside-sum .ensures)
 
 pub sums-in-spec : {M : Type 1} → statement M
 sums-in-spec =

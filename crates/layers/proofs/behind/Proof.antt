@@ -1,5 +1,4 @@
 -- `layers::behind` meets its contract: no walk of a file stops it, and only an H changes the layer. Assumes nothing.
-use mathlib.Core.Path.{_≡_}
 use native.Mathlib.Omega.{arith}
 use Rattle.layers.proofs.Walks.{rows-less, behind-same, behind-other}
 use borrow.Author.Needs.{needs}

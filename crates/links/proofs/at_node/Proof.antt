@@ -32,7 +32,13 @@ equal-requires-2 : tie.Need-equal-requires-2
 equal-requires-2 c κs = search needs
 
 returns-2 : tie.Need-returns-2
-returns-2 c = at-named _ _ _ _ _ (c .before .before .before .before .before .before .before .before .before .before .fits .v .sfits) (c .before .before .before .before .before .before .before .before .names .ensures) (c .before .before .before .before .before .before .node-of .ensures) (c .before .before .before .before .before .slot-at .ok) (c .before .before .before .before .before .slot-at .ensures) (c .before .before .before .before .slot-at2 .ok) (c .before .before .before .before .slot-at2 .ensures) (c .before .before .before .value-at .ok) (c .before .before .before .value-at .ensures) (c .before .value-at2 .ok) (c .before .value-at2 .ensures) (c .before .before .equal .ensures) (c .equal2 .ensures) (c .before .before .before .before .before .before .before .if1 .left)
+returns-2 c =
+    let v = c .before .before .before in
+    let s = v .before .before in
+    let n = s .before .before .before in
+    at-named _ _ _ _ _ (n .before .before .fits .v .sfits) (n .names .ensures) (s .before .node-of .ensures) (s .slot-at .ok) (s .slot-at .ensures)
+    (v .before .slot-at2 .ok) (v .before .slot-at2 .ensures) (v .value-at .ok) (v .value-at .ensures) (c .before .value-at2 .ok)
+    (c .before .value-at2 .ensures) (c .before .before .equal .ensures) (c .equal2 .ensures) (s .before .before .if1 .left)
 
 pub at-node-spec : {M : Type 1} → statement M
 at-node-spec =

@@ -26,7 +26,15 @@ returns c =
     let p = c .before .before in
     let n = p .before .before in
     let a = n .before in
-    rw (p .same .ensures, n .natural .ensures, p .before .natural2 .ensures, c .before .size .ensures, c .size2 .ensures, toZ-ofZ (a .fits .a), toZ-ofZ (a .fits .b))
+    rw (
+      p .same .ensures,
+      n .natural .ensures,
+      p .before .natural2 .ensures,
+      c .before .size .ensures,
+      c .size2 .ensures,
+      toZ-ofZ (a .fits .a),
+      toZ-ofZ (a .fits .b),
+    )
 
 pub equal-spec : {M : Type 1} → statement M
 equal-spec =

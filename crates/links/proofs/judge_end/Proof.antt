@@ -14,7 +14,9 @@ broken-requires : tie.Need-broken-requires
 broken-requires c κs = search needs
 
 returns : tie.Need-returns
-returns c = end-unnamed _ _ _ _ _ _ _ (c .before .before .before .value-at .ok) (c .before .before .before .value-at .ensures) (c .before .before .names .ensures) (c .before .if1 .taken) (c .broken .ensures)
+returns c =
+    end-unnamed _ _ _ _ _ _ _ (c .before .before .before .value-at .ok) (c .before .before .before .value-at .ensures)
+    (c .before .before .names .ensures) (c .before .if1 .taken) (c .broken .ensures)
 
 node-of-requires : tie.Need-node-of-requires
 node-of-requires c κs = search needs
@@ -29,7 +31,12 @@ broken-requires-2 : tie.Need-broken-requires-2
 broken-requires-2 c κs = search needs
 
 returns-2 : tie.Need-returns-2
-returns-2 c = end-unlisted _ _ _ _ _ _ _ (c .before .before .before .before .before .before .before .value-at .ok) (c .before .before .before .before .before .before .before .value-at .ensures) (c .before .before .before .before .node-of .ensures) (c .before .before .before .serial-in .ensures) (c .before .before .listed .ensures) (c .before .before .before .before .before .before .names .ensures) (c .before .before .before .before .before .if1 .left) (c .before .if2 .taken) (c .broken2 .ensures)
+returns-2 c =
+    let i = c .before .before .before .before .before in
+    let v = i .before .before in
+    end-unlisted _ _ _ _ _ _ _ (v .value-at .ok) (v .value-at .ensures) (c .before .before .before .before .node-of .ensures)
+    (c .before .before .before .serial-in .ensures) (c .before .before .listed .ensures) (i .before .names .ensures)
+    (i .if1 .left) (c .before .if2 .taken) (c .broken2 .ensures)
 
 value-at-requires-2 : tie.Need-value-at-requires-2
 value-at-requires-2 c κs = search needs
@@ -44,10 +51,24 @@ broken-requires-3 : tie.Need-broken-requires-3
 broken-requires-3 c κs = search needs
 
 returns-3 : tie.Need-returns-3
-returns-3 c = end-unfit _ _ _ _ _ _ _ (c .before .before .before .before .before .before .before .before .before .before .before .value-at .ok) (c .before .before .before .before .before .before .before .before .before .before .before .value-at .ensures) (c .before .before .before .before .before .before .before .before .node-of .ensures) (c .before .before .before .before .value-at2 .ok) (c .before .before .before .before .value-at2 .ensures) (c .before .before .before .value-at3 .ok) (c .before .before .before .value-at3 .ensures) (c .before .before .link-fits .ensures) (c .before .before .before .before .before .before .before .before .before .before .names .ensures) (c .before .before .before .before .before .before .before .before .before .if1 .left) (c .before .before .before .before .before .before .before .serial-in .ensures) (c .before .before .before .before .before .before .listed .ensures) (c .before .before .before .before .before .if2 .left) (c .before .if3 .taken) (c .broken3 .ensures)
+returns-3 c =
+    let v = c .before .before .before in
+    let l = v .before .before .before in
+    let i = l .before .before .before in
+    let a = i .before .before in
+    end-unfit _ _ _ _ _ _ _ (a .value-at .ok) (a .value-at .ensures) (l .before .before .node-of .ensures) (v .before .value-at2 .ok)
+    (v .before .value-at2 .ensures) (v .value-at3 .ok) (v .value-at3 .ensures) (c .before .before .link-fits .ensures) (i .before .names .ensures)
+    (i .if1 .left) (l .before .serial-in .ensures) (l .listed .ensures) (v .before .before .if2 .left) (c .before .if3 .taken) (c .broken3 .ensures)
 
 returns-4 : tie.Need-returns-4
-returns-4 c = end-fine _ _ _ _ _ _ _ (c .before .before .before .before .before .before .before .before .before .before .value-at .ok) (c .before .before .before .before .before .before .before .before .before .before .value-at .ensures) (c .before .before .before .before .before .before .before .node-of .ensures) (c .before .before .before .value-at2 .ok) (c .before .before .before .value-at2 .ensures) (c .before .before .value-at3 .ok) (c .before .before .value-at3 .ensures) (c .before .link-fits .ensures) (c .before .before .before .before .before .before .before .before .before .names .ensures) (c .before .before .before .before .before .before .before .before .if1 .left) (c .before .before .before .before .before .before .serial-in .ensures) (c .before .before .before .before .before .listed .ensures) (c .before .before .before .before .if2 .left) (c .if3 .left)
+returns-4 c =
+    let v = c .before .before in
+    let l = v .before .before .before in
+    let i = l .before .before .before in
+    let a = i .before .before in
+    end-fine _ _ _ _ _ _ _ (a .value-at .ok) (a .value-at .ensures) (l .before .before .node-of .ensures) (v .before .value-at2 .ok)
+    (v .before .value-at2 .ensures) (v .value-at3 .ok) (v .value-at3 .ensures) (c .before .link-fits .ensures) (i .before .names .ensures)
+    (i .if1 .left) (l .before .serial-in .ensures) (l .listed .ensures) (v .before .before .if2 .left) (c .if3 .left)
 
 pub judge-end-spec : {M : Type 1} → statement M
 judge-end-spec =

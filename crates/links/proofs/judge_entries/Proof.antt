@@ -41,7 +41,8 @@ returns c =
     let v = n .before .before in
     let t = v .before in
     let e = v .slot-of .ensures ∙ slot-first _ _ _ (t .loop-test .taken) in
-    entries-stop _ _ _ _ _ (v .slot-of .ok) e (n .before .is-zero .ensures) (n .names-line .ensures) (slot-told loopEntries (omega arith) (c .slot-broken .ensures)) (c .before .if1 .taken)
+    entries-stop _ _ _ _ _ (v .slot-of .ok) e (n .before .is-zero .ensures) (n .names-line .ensures)
+    (slot-told loopEntries (omega arith) (c .slot-broken .ensures)) (c .before .if1 .taken)
     (t .loop-test .taken) (t .before .loop .inv .1)
 
 add-i : tie.Need-add-i Inv-loop μ-loop

@@ -17,7 +17,9 @@ size-requires : tie.Need-size-requires
 size-requires c κs = search needs
 
 returns-2 : tie.Need-returns-2
-returns-2 c = first-later _ _ _ _ _ _ (c .before .before .before .if1 .left) (c .before .before .value-at .ok) (c .before .before .value-at .ensures) (c .before .size .ensures) (c .if2 .taken)
+returns-2 c =
+    first-later _ _ _ _ _ _ (c .before .before .before .if1 .left) (c .before .before .value-at .ok)
+    (c .before .before .value-at .ensures) (c .before .size .ensures) (c .if2 .taken)
 
 value-at-requires-2 : tie.Need-value-at-requires-2
 value-at-requires-2 c κs = search needs
@@ -29,10 +31,19 @@ slot-broken-requires : tie.Need-slot-broken-requires
 slot-broken-requires c κs = search needs
 
 returns-3 : tie.Need-returns-3
-returns-3 c = first-broken _ _ _ _ _ _ (c .before .before .before .before .before .before .before .if1 .left) (c .before .before .before .before .before .before .value-at .ok) (c .before .before .before .before .before .before .value-at .ensures) (c .before .before .before .before .before .size .ensures) (c .before .before .before .before .if2 .left) (c .before .before .before .value-at2 .ok) (c .before .before .before .value-at2 .ensures) (c .before .before .at-node .ensures) (c .before .if3 .taken) (slot-told pointsX (lit≤ tt) (c .slot-broken .ensures))
+returns-3 c =
+    let v = c .before .before .before in
+    let a = v .before .before .before in
+    first-broken _ _ _ _ _ _ (a .before .if1 .left) (a .value-at .ok) (a .value-at .ensures)
+    (v .before .before .size .ensures) (v .before .if2 .left) (v .value-at2 .ok) (v .value-at2 .ensures)
+    (c .before .before .at-node .ensures) (c .before .if3 .taken) (slot-told pointsX (lit≤ tt) (c .slot-broken .ensures))
 
 returns-4 : tie.Need-returns-4
-returns-4 c = first-kept _ _ _ _ _ _ (c .before .before .before .before .before .before .if1 .left) (c .before .before .before .before .before .value-at .ok) (c .before .before .before .before .before .value-at .ensures) (c .before .before .before .before .size .ensures) (c .before .before .before .if2 .left) (c .before .before .value-at2 .ok) (c .before .before .value-at2 .ensures) (c .before .at-node .ensures) (c .if3 .left)
+returns-4 c =
+    let v = c .before .before in
+    let a = v .before .before .before in
+    first-kept _ _ _ _ _ _ (a .before .if1 .left) (a .value-at .ok) (a .value-at .ensures) (v .before .before .size .ensures)
+    (v .before .if2 .left) (v .value-at2 .ok) (v .value-at2 .ensures) (c .before .at-node .ensures) (c .if3 .left)
 
 pub judge-first-spec : {M : Type 1} → statement M
 judge-first-spec =

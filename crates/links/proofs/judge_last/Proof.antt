@@ -29,10 +29,16 @@ slot-broken-requires : tie.Need-slot-broken-requires
 slot-broken-requires c κs = search needs
 
 returns-3 : tie.Need-returns-3
-returns-3 c = last-broken _ _ _ _ _ _ (c .before .before .before .before .before .if1 .left) (c .before .before .before .before .if2 .left) (c .before .before .before .value-at .ok) (c .before .before .before .value-at .ensures) (c .before .before .at-node .ensures) (c .before .if3 .taken) (slot-told pointsX (omega arith) (c .slot-broken .ensures))
+returns-3 c =
+    let i = c .before .before .before .before .before .if1 .left in
+    last-broken _ _ _ _ _ _ i (c .before .before .before .before .if2 .left) (c .before .before .before .value-at .ok)
+    (c .before .before .before .value-at .ensures) (c .before .before .at-node .ensures) (c .before .if3 .taken)
+    (slot-told pointsX (omega arith) (c .slot-broken .ensures))
 
 returns-4 : tie.Need-returns-4
-returns-4 c = last-kept _ _ _ _ _ _ (c .before .before .before .before .if1 .left) (c .before .before .before .if2 .left) (c .before .before .value-at .ok) (c .before .before .value-at .ensures) (c .before .at-node .ensures) (c .if3 .left)
+returns-4 c =
+    last-kept _ _ _ _ _ _ (c .before .before .before .before .if1 .left) (c .before .before .before .if2 .left)
+    (c .before .before .value-at .ok) (c .before .before .value-at .ensures) (c .before .at-node .ensures) (c .if3 .left)
 
 pub judge-last-spec : {M : Type 1} → statement M
 judge-last-spec =

@@ -26,7 +26,10 @@ enum-told-3 c = search needs
 
 returns-2 : tie.Need-returns-2
 unfolding lineChecks
-returns-2 c = part-passes _ _ _ (c .before .before .before .enum-told2 .given .1) (c .before .before .before .before .before .judge-end .ensures) (part-stops _ _ _ (c .enum-told3 .given .1) (c .before .before .judge-end2 .ensures))
+returns-2 c =
+    let j = c .before .before .before .before .before in
+    part-passes _ _ _ (c .before .before .before .enum-told2 .given .1) (j .judge-end .ensures)
+    (part-stops _ _ _ (c .enum-told3 .given .1) (c .before .before .judge-end2 .ensures))
 
 enum-told-4 : tie.Need-enum-told-4
 enum-told-4 c = search needs
@@ -39,7 +42,12 @@ enum-told-5 c = search needs
 
 returns-3 : tie.Need-returns-3
 unfolding lineChecks
-returns-3 c = part-passes _ _ _ (c .before .before .before .before .before .before .enum-told2 .given .1) (c .before .before .before .before .before .before .before .before .judge-end .ensures) (part-passes _ _ _ (c .before .before .before .enum-told4 .given .1) (c .before .before .before .before .before .judge-end2 .ensures) (part-stops _ _ _ (c .enum-told5 .given .1) (c .before .before .judge-side .ensures)))
+returns-3 c =
+    let j = c .before .before .before .before .before in
+    let e = j .before .before .before in
+    part-passes _ _ _ (j .before .enum-told2 .given .1) (e .judge-end .ensures)
+    (part-passes _ _ _ (c .before .before .before .enum-told4 .given .1) (j .judge-end2 .ensures)
+    (part-stops _ _ _ (c .enum-told5 .given .1) (c .before .before .judge-side .ensures)))
 
 enum-told-6 : tie.Need-enum-told-6
 enum-told-6 c = search needs
@@ -49,7 +57,12 @@ judge-side-requires-2 c κs = search needs
 
 returns-4 : tie.Need-returns-4
 unfolding lineChecks
-returns-4 c = part-passes _ _ _ (c .before .before .before .before .before .before .before .enum-told2 .given .1) (c .before .before .before .before .before .before .before .before .before .judge-end .ensures) (part-passes _ _ _ (c .before .before .before .before .enum-told4 .given .1) (c .before .before .before .before .before .before .judge-end2 .ensures) (part-passes _ _ _ (c .before .enum-told6 .given .1) (c .before .before .before .judge-side .ensures) (c .judge-side2 .ensures)))
+returns-4 c =
+    let j = c .before .before .before .before .before .before in
+    let e = j .before .before .before in
+    part-passes _ _ _ (j .before .enum-told2 .given .1) (e .judge-end .ensures)
+    (part-passes _ _ _ (c .before .before .before .before .enum-told4 .given .1) (j .judge-end2 .ensures)
+    (part-passes _ _ _ (c .before .enum-told6 .given .1) (c .before .before .before .judge-side .ensures) (c .judge-side2 .ensures)))
 
 pub judge-line-spec : {M : Type 1} → statement M
 judge-line-spec =

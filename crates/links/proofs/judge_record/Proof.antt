@@ -61,7 +61,8 @@ returns-4 c = rw (c .before .enum-told4 .given .1) (c .judge-line .ensures)
 returns-5 : tie.Need-returns-5
 returns-5 c =
     let a = c .before .before .before .before .before .before .before .args in
-    points-arm (now (a .file)) (now (a .table)) (a .l) (a .line) (a .r) (c .before .before .before .d .given .1) (c .before .current-line .ensures) (c .judge-points .ensures)
+    points-arm (now (a .file)) (now (a .table)) (a .l) (a .line) (a .r)
+    (c .before .before .before .d .given .1) (c .before .current-line .ensures) (c .judge-points .ensures)
 
 returns-6 : tie.Need-returns-6
 returns-6 c = rw (c .enum-told5 .given .1) (check-none fifth _)

@@ -14,13 +14,18 @@ is-zero-requires : tie.Need-is-zero-requires
 is-zero-requires c κs = search needs
 
 returns : tie.Need-returns
-returns c = side-none _ _ _ _ _ _ _ (c .before .before .before .before .value-at .ok) (c .before .before .before .before .value-at .ensures) (c .before .before .before .names .ensures) (c .before .before .if1 .taken) (c .before .is-zero .ensures) (c .if2 .taken)
+returns c =
+    side-none _ _ _ _ _ _ _ (c .before .before .before .before .value-at .ok) (c .before .before .before .before .value-at .ensures)
+    (c .before .before .before .names .ensures) (c .before .before .if1 .taken) (c .before .is-zero .ensures) (c .if2 .taken)
 
 broken-requires : tie.Need-broken-requires
 broken-requires c κs = search needs
 
 returns-2 : tie.Need-returns-2
-returns-2 c = side-unnamed _ _ _ _ _ _ _ (c .before .before .before .before .before .value-at .ok) (c .before .before .before .before .before .value-at .ensures) (c .before .before .before .before .names .ensures) (c .before .before .before .if1 .taken) (c .before .before .is-zero .ensures) (c .before .if2 .left) (c .broken .ensures)
+returns-2 c =
+    let v = c .before .before .before .before .before in
+    side-unnamed _ _ _ _ _ _ _ (v .value-at .ok) (v .value-at .ensures) (c .before .before .before .before .names .ensures)
+    (c .before .before .before .if1 .taken) (c .before .before .is-zero .ensures) (c .before .if2 .left) (c .broken .ensures)
 
 area-of-requires : tie.Need-area-of-requires
 area-of-requires c κs = search needs
@@ -38,10 +43,22 @@ broken-requires-2 : tie.Need-broken-requires-2
 broken-requires-2 c κs = search needs
 
 returns-3 : tie.Need-returns-3
-returns-3 c = side-unlike _ _ _ _ _ _ _ (c .before .before .before .before .before .before .before .before .value-at .ok) (c .before .before .before .before .before .before .before .before .value-at .ensures) (c .before .before .before .before .before .before .before .names .ensures) (c .before .before .before .before .before .area-of .ensures) (c .before .before .before .before .value-at2 .ok) (c .before .before .before .before .value-at2 .ensures) (c .before .before .before .value-at3 .ok) (c .before .before .before .value-at3 .ensures) (c .before .before .equal .ensures) (c .before .before .before .before .before .before .if1 .left) (c .before .if3 .taken) (c .broken2 .ensures)
+returns-3 c =
+    let v = c .before .before .before in
+    let i = v .before .before .before in
+    let a = i .before .before in
+    side-unlike _ _ _ _ _ _ _ (a .value-at .ok) (a .value-at .ensures) (i .before .names .ensures)
+    (v .before .before .area-of .ensures) (v .before .value-at2 .ok) (v .before .value-at2 .ensures) (v .value-at3 .ok)
+    (v .value-at3 .ensures) (c .before .before .equal .ensures) (i .if1 .left) (c .before .if3 .taken) (c .broken2 .ensures)
 
 returns-4 : tie.Need-returns-4
-returns-4 c = side-fine _ _ _ _ _ _ _ (c .before .before .before .before .before .before .before .value-at .ok) (c .before .before .before .before .before .before .before .value-at .ensures) (c .before .before .before .before .before .before .names .ensures) (c .before .before .before .before .area-of .ensures) (c .before .before .before .value-at2 .ok) (c .before .before .before .value-at2 .ensures) (c .before .before .value-at3 .ok) (c .before .before .value-at3 .ensures) (c .before .equal .ensures) (c .before .before .before .before .before .if1 .left) (c .if3 .left)
+returns-4 c =
+    let v = c .before .before in
+    let i = v .before .before .before in
+    let a = i .before .before in
+    side-fine _ _ _ _ _ _ _ (a .value-at .ok) (a .value-at .ensures) (i .before .names .ensures)
+    (v .before .before .area-of .ensures) (v .before .value-at2 .ok) (v .before .value-at2 .ensures)
+    (v .value-at3 .ok) (v .value-at3 .ensures) (c .before .equal .ensures) (i .if1 .left) (c .if3 .left)
 
 pub judge-side-spec : {M : Type 1} → statement M
 judge-side-spec =

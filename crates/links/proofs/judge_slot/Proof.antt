@@ -35,7 +35,9 @@ returns-2 c =
     let m = c .before .before in
     let z = m .before .before in
     let e = z .before .node-entry in
-    slot-eleven _ _ _ _ _ _ (asked isZero (e .ok) (e .ensures) (z .is-zero .ensures) (m .before .if1 .left)) (slot-told nodeEntries (z .before .before .before .before .pre .0) (c .slot-broken .ensures)) (asked (namesLine _) (e .ok) (e .ensures) (m .names-line .ensures) (not-true _ (c .before .if2 .taken)))
+    slot-eleven _ _ _ _ _ _ (asked isZero (e .ok) (e .ensures) (z .is-zero .ensures) (m .before .if1 .left))
+    (slot-told nodeEntries (z .before .before .before .before .pre .0) (c .slot-broken .ensures))
+    (asked (namesLine _) (e .ok) (e .ensures) (m .names-line .ensures) (not-true _ (c .before .if2 .taken)))
 
 meets-requires : tie.Need-meets-requires
 meets-requires c κs = search needs
@@ -48,7 +50,10 @@ returns-3 c =
     let m = c .before .before .before .before in
     let z = m .before .before in
     let e = z .before .node-entry in
-    slot-twelve _ _ _ _ _ _ (asked isZero (e .ok) (e .ensures) (z .is-zero .ensures) (m .before .if1 .left)) (asked (namesLine _) (e .ok) (e .ensures) (m .names-line .ensures) (not-false _ (c .before .before .before .if2 .left))) (slot-told nodeEntries (z .before .before .before .before .pre .0) (c .slot-broken2 .ensures)) (asked (meets _ _ _ _) (e .ok) (e .ensures) (c .before .before .meets .ensures) (not-true _ (c .before .if3 .taken)))
+    slot-twelve _ _ _ _ _ _ (asked isZero (e .ok) (e .ensures) (z .is-zero .ensures) (m .before .if1 .left))
+    (asked (namesLine _) (e .ok) (e .ensures) (m .names-line .ensures) (not-false _ (c .before .before .before .if2 .left)))
+    (slot-told nodeEntries (z .before .before .before .before .pre .0) (c .slot-broken2 .ensures))
+    (asked (meets _ _ _ _) (e .ok) (e .ensures) (c .before .before .meets .ensures) (not-true _ (c .before .if3 .taken)))
 
 slot-broken-requires-3 : tie.Need-slot-broken-requires-3
 slot-broken-requires-3 c κs = search needs
@@ -58,14 +63,21 @@ returns-4 c =
     let m = c .before .before .before .before .before in
     let z = m .before .before in
     let e = z .before .node-entry in
-    slot-thirteen _ _ _ _ _ _ (asked isZero (e .ok) (e .ensures) (z .is-zero .ensures) (m .before .if1 .left)) (asked (namesLine _) (e .ok) (e .ensures) (m .names-line .ensures) (not-false _ (c .before .before .before .before .if2 .left))) (asked (meets _ _ _ _) (e .ok) (e .ensures) (c .before .before .before .meets .ensures) (not-false _ (c .before .before .if3 .left))) (slot-told nodeEntries (z .before .before .before .before .pre .0) (c .slot-broken3 .ensures)) (not-true _ (sym (z .before .before .before .before .pre .1) ∙ c .before .if4 .taken))
+    slot-thirteen _ _ _ _ _ _ (asked isZero (e .ok) (e .ensures) (z .is-zero .ensures) (m .before .if1 .left))
+    (asked (namesLine _) (e .ok) (e .ensures) (m .names-line .ensures) (not-false _ (c .before .before .before .before .if2 .left)))
+    (asked (meets _ _ _ _) (e .ok) (e .ensures) (c .before .before .before .meets .ensures) (not-false _ (c .before .before .if3 .left)))
+    (slot-told nodeEntries (z .before .before .before .before .pre .0) (c .slot-broken3 .ensures))
+    (not-true _ (sym (z .before .before .before .before .pre .1) ∙ c .before .if4 .taken))
 
 returns-5 : tie.Need-returns-5
 returns-5 c =
     let m = c .before .before .before .before in
     let z = m .before .before in
     let e = z .before .node-entry in
-    slot-fine _ _ _ _ _ _ (asked isZero (e .ok) (e .ensures) (z .is-zero .ensures) (m .before .if1 .left)) (asked (namesLine _) (e .ok) (e .ensures) (m .names-line .ensures) (not-false _ (c .before .before .before .if2 .left))) (asked (meets _ _ _ _) (e .ok) (e .ensures) (c .before .before .meets .ensures) (not-false _ (c .before .if3 .left))) (not-false _ (sym (z .before .before .before .before .pre .1) ∙ c .if4 .left))
+    slot-fine _ _ _ _ _ _ (asked isZero (e .ok) (e .ensures) (z .is-zero .ensures) (m .before .if1 .left))
+    (asked (namesLine _) (e .ok) (e .ensures) (m .names-line .ensures) (not-false _ (c .before .before .before .if2 .left)))
+    (asked (meets _ _ _ _) (e .ok) (e .ensures) (c .before .before .meets .ensures) (not-false _ (c .before .if3 .left)))
+    (not-false _ (sym (z .before .before .before .before .pre .1) ∙ c .if4 .left))
 
 pub judge-slot-spec : {M : Type 1} → statement M
 judge-slot-spec =

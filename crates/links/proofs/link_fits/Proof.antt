@@ -16,7 +16,14 @@ same-requires c κs = search needs
 
 returns : tie.Need-returns
 unfolding linkFits
-returns c = rw (c .same .ensures, c .before .before .is-zero .ensures, c .before .is-zero2 .ensures, toZ-ofZ (c .before .before .before .fits .link), toZ-ofZ (c .before .before .before .fits .frame))
+returns c =
+    rw (
+      c .same .ensures,
+      c .before .before .is-zero .ensures,
+      c .before .is-zero2 .ensures,
+      toZ-ofZ (c .before .before .before .fits .link),
+      toZ-ofZ (c .before .before .before .fits .frame),
+    )
 
 pub link-fits-spec : {M : Type 1} → statement M
 link-fits-spec = tie.close (tie.spec is-zero-requires is-zero-requires-2 same-requires returns)

@@ -24,7 +24,9 @@ entry-is-requires : tie.Need-entry-is-requires Inv-loop μ-loop
 entry-is-requires c κs = search needs
 
 returns : tie.Need-returns Inv-loop μ-loop
-returns c = listed-hit _ _ _ _ _ (c .before .before .node-entry .ok) (c .before .before .node-entry .ensures) (c .before .entry-is .ensures) (c .before .before .before .loop-test .taken) (c .if1 .taken)
+returns c =
+    listed-hit _ _ _ _ _ (c .before .before .node-entry .ok) (c .before .before .node-entry .ensures)
+    (c .before .entry-is .ensures) (c .before .before .before .loop-test .taken) (c .if1 .taken)
 
 add-i : tie.Need-add-i Inv-loop μ-loop
 add-i c = search needs
@@ -33,7 +35,11 @@ loop-less : tie.Need-loop-less Inv-loop μ-loop
 loop-less c = search needs
 
 loop-again : tie.Need-loop-again Inv-loop μ-loop
-loop-again c = (search needs, listed-pass _ _ _ _ _ (c .before .before .node-entry .ok) (c .before .before .node-entry .ensures) (c .before .entry-is .ensures) (c .before .before .before .before .loop .inv .1) (c .if1 .left))
+loop-again c = (
+  search needs,
+  listed-pass _ _ _ _ _ (c .before .before .node-entry .ok) (c .before .before .node-entry .ensures)
+      (c .before .entry-is .ensures) (c .before .before .before .before .loop .inv .1) (c .if1 .left),
+)
 
 returns-2 : tie.Need-returns-2 Inv-loop μ-loop
 returns-2 c = listed-done _ _ _ _ _ (c .before .loop .inv .0) (c .loop-test .left) (c .before .loop .inv .1)

@@ -1,6 +1,5 @@
 -- `links::stage_four` meets its contract: the loop leaves at the first broken rule, and passes records that break none. Assumes nothing.
 use native.Mathlib.Omega.{arith}
-use mathlib.Core.Path.{_≡_}
 use borrow.Author.Needs.{needs}
 use Prim.Native.Nat.{_-_}
 use Rattle.layers.proofs.Walks.{Stands, stands, records-are, quiet-most, are-quiet, stands-behind, stands-past, records-past}

@@ -20,7 +20,9 @@ area-record-requires : tie.Need-area-record-requires
 area-record-requires c κs = search needs
 
 repeat-in-requires : tie.Need-repeat-in-requires
-repeat-in-requires c κs = (c .area-record .ensures .1, c .before .before .before .before .before .before .pre .0, rw (c .area-record .ensures .0) (c .before .before .before .before .before .before .pre .1))
+repeat-in-requires c κs =
+    let p = c .before .before .before .before .before .before in
+    (c .area-record .ensures .1, p .pre .0, rw (c .area-record .ensures .0) (p .pre .1))
 
 first-record-requires : tie.Need-first-record-requires
 first-record-requires c κs = search needs
@@ -33,7 +35,8 @@ returns-2 c =
     let a = c .before .before .before in
     let e = a .before in
     let v = e .before .before in
-    λ h. loop-passes _ _ _ _ _ _ _ (wind-kept _ _ _ _ _ _ h (v .judge-winding .ensures)) (e .enum-told2 .given .1) (a .area-record .ensures .0) (c .before .first-record .ensures) (c .judge-slots .ensures)
+    λ h. loop-passes _ _ _ _ _ _ _ (wind-kept _ _ _ _ _ _ h (v .judge-winding .ensures)) (e .enum-told2 .given .1)
+    (a .area-record .ensures .0) (c .before .first-record .ensures) (c .judge-slots .ensures)
 
 pub judge-loop-spec : {M : Type 1} → statement M
 judge-loop-spec =

@@ -24,14 +24,16 @@ returns-2 c =
     let m = c .before .before in
     let n = m .before in
     let i = n .before in
-    wind-broken _ _ _ _ (i .if1 .left) (n .value-at .ok) (n .value-at .ensures) (m .loop-measure .ok) (m .loop-measure .ensures) (c .before .winds .ensures) (c .if2 .taken)
+    wind-broken _ _ _ _ (i .if1 .left) (n .value-at .ok) (n .value-at .ensures)
+    (m .loop-measure .ok) (m .loop-measure .ensures) (c .before .winds .ensures) (c .if2 .taken)
 
 returns-3 : tie.Need-returns-3
 returns-3 c =
     let m = c .before .before in
     let n = m .before in
     let i = n .before in
-    wind-fine _ _ _ _ (i .if1 .left) (n .value-at .ok) (n .value-at .ensures) (m .loop-measure .ok) (m .loop-measure .ensures) (c .before .winds .ensures) (c .if2 .left)
+    wind-fine _ _ _ _ (i .if1 .left) (n .value-at .ok) (n .value-at .ensures)
+    (m .loop-measure .ok) (m .loop-measure .ensures) (c .before .winds .ensures) (c .if2 .left)
 
 pub judge-winding-spec : {M : Type 1} → statement M
 judge-winding-spec =

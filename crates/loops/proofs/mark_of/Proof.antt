@@ -28,7 +28,9 @@ mul-result : tie.Need-mul-result
 mul-result c = omega (arith, sized (c .before .before .before .fits .v) (c .size .ensures))
 
 returns : tie.Need-returns
-returns c = rw (own-asked natural (c .before .before .before .fits .v) (c .before .before .natural .ensures) (c .before .if1 .taken)) (omega (arith, sized (c .before .before .before .fits .v) (c .size .ensures)))
+returns c =
+    rw (own-asked natural (c .before .before .before .fits .v) (c .before .before .natural .ensures) (c .before .if1 .taken))
+    (omega (arith, sized (c .before .before .before .fits .v) (c .size .ensures)))
 
 size-requires-2 : tie.Need-size-requires-2
 size-requires-2 c κs = search needs
@@ -40,7 +42,9 @@ add-result : tie.Need-add-result
 add-result c = omega (arith, sized (c .before .before .before .fits .v) (c .size2 .ensures))
 
 returns-2 : tie.Need-returns-2
-returns-2 c = rw (own-asked natural (c .before .before .before .fits .v) (c .before .before .natural .ensures) (c .before .if1 .left)) (omega (arith, sized (c .before .before .before .fits .v) (c .size2 .ensures)))
+returns-2 c =
+    rw (own-asked natural (c .before .before .before .fits .v) (c .before .before .natural .ensures) (c .before .if1 .left))
+    (omega (arith, sized (c .before .before .before .fits .v) (c .size2 .ensures)))
 
 pub mark-of-spec : {M : Type 1} → statement M
 mark-of-spec =

@@ -24,13 +24,16 @@ abbrev μ-loop : tie.MeasureT-loop
 
 -- X and Y, as the machine hands them on
 x-is : (c : tie.After-coordinate Inv-loop μ-loop)
-    → back (c .coordinate .result) ≡ addedUp (now (c .before .before .before .before .before .args .s)) (slotColumn pointsX (c .before .before .before .loop .i))
+    → back (c .coordinate .result)
+    ≡ addedUp (now (c .before .before .before .before .before .args .s)) (slotColumn pointsX (c .before .before .before .loop .i))
 x-is c =
     toZ-ofZ {w = w64} (record { sfits = c .coordinate .ok }) ∙ c .coordinate .ensures
     ∙ ap (addedUp _) (c .before .slot-column .ensures .0 ∙ start-there 1 10 7 _ (omega arith))
 
 y-is : (c : tie.After-coordinate2 Inv-loop μ-loop)
-    → back (c .coordinate2 .result) ≡ addedUp (now (c .before .before .before .before .before .before .before .args .s)) (slotColumn pointsY (c .before .before .before .before .before .loop .i))
+    → back (c .coordinate2 .result)
+    ≡ addedUp (now (c .before .before .before .before .before .before .before .args .s))
+    (slotColumn pointsY (c .before .before .before .before .before .loop .i))
 y-is c =
     toZ-ofZ {w = w64} (record { sfits = c .coordinate2 .ok }) ∙ c .coordinate2 .ensures
     ∙ ap (addedUp _) (c .before .slot-column2 .ensures .0 ∙ start-there 6 10 7 _ (omega arith))

@@ -1,5 +1,5 @@
--- `numerals::digits_at_end` meets its contract. The loop's invariant: from index `i` on there are digits alone, they say `size`, and the next digit to the left counts `unit`.
--- Assumes nothing.
+-- `numerals::digits_at_end` meets its contract. The loop's invariant: from index `i` on there are digits
+-- alone, they say `size`, and the next digit to the left counts `unit`. Assumes nothing.
 use denote.Ref.{now}
 use mathlib.Core.Path.{_≡_}
 use Prim.Native.Nat.{_≤_, _-_, _^_}
@@ -41,7 +41,8 @@ wide-requires c κs = search needs
 small : (c : tie.After-wide Inv-loop μ-loop) → c .before .before .before .before .before .loop .unit ≤ 100000
 small c =
     let l = c .before .before .before .before .before in
-    unit-small (now (l .before .before .args .f)) (l .loop .i) _ (l .before .before .pre) (c .before .before .before .before .loop-test .taken) (l .loop .inv .1)
+    unit-small (now (l .before .before .args .f)) (l .loop .i) _ (l .before .before .pre)
+    (c .before .before .before .before .loop-test .taken) (l .loop .inv .1)
 
 digit : (c : tie.After-wide Inv-loop μ-loop) → c .wide .result ≤ 9
 digit c = omega arith
@@ -67,7 +68,8 @@ loop-again : tie.Need-loop-again Inv-loop μ-loop
 loop-again c =
     let l = c .before .before .before .before .before in
     rw (c .wide .ensures)
-    (digits-more _ _ _ _ (c .before .before .before .before .loop-test .taken) (l .loop .inv .1) (l .loop .inv .0) (c .before .before .if1 .left) (c .before .if2 .left))
+    (digits-more _ _ _ _ (c .before .before .before .before .loop-test .taken)
+    (l .loop .inv .1) (l .loop .inv .0) (c .before .before .if1 .left) (c .before .if2 .left))
 
 returns-3 : tie.Need-returns-3 Inv-loop μ-loop
 returns-3 c = let z : c .before .loop .i ≡ 0 = omega arith in

@@ -18,12 +18,21 @@ use Rattle.numerals.proofs.read_number.Statement.{statement}
 use Rattle.numerals.proofs.read_number.Tie as tie
 
 -- past the first test the field lies inside
-bounds : (c : tie.Else1) → (1 ≤ c .before .before .before .args .column) × (c .before .before .before .args .column - 1 + c .before .before .before .args .width ≤ length (now (c .before .before .before .args .s)))
+bounds : (c : tie.Else1)
+    → (1 ≤ c .before .before .before .args .column)
+    × (c .before .before .before .args .column - 1 + c .before .before .before .args .width ≤ length (now (c .before .before .before .args .s)))
 bounds c = passed _ _ _ _ (c .before .inside .ensures) (c .if1 .left)
 
 -- what a sure glance says
-sure : (c : tie.After-g) → (numberAt (now (c .before .before .before .before .before .before .before .args .s)) (c .before .before .before .before .before .before .before .args .column) (c .before .before .before .before .before .before .before .args .width) ≡ Value (pos (c .g .given .0 .0))) × (c .g .given .0 .0 < 100000)
-sure c = sure-says _ (c .g .given .1) (rw (number-inside _ _ _ (c .before .before .before .before .before .inside .ensures) (not-false _ (c .before .before .before .before .if1 .left))) at (c .before .before .glance-in .ensures))
+sure : (c : tie.After-g)
+    → (numberAt (now (c .before .before .before .before .before .before .before .args .s))
+    (c .before .before .before .before .before .before .before .args .column) (c .before .before .before .before .before .before .before .args .width)
+    ≡ Value (pos (c .g .given .0 .0)))
+    × (c .g .given .0 .0 < 100000)
+sure c =
+    let i = c .before .before .before .before .before in
+    sure-says _ (c .g .given .1)
+    (rw (number-inside _ _ _ (i .inside .ensures) (not-false _ (c .before .before .before .before .if1 .left))) at (c .before .before .glance-in .ensures))
 
 inside-requires : tie.Need-inside-requires
 inside-requires c κs = search needs
@@ -59,7 +68,9 @@ number-of-requires : tie.Need-number-of-requires
 number-of-requires c κs = search needs
 
 returns-2 : tie.Need-returns-2
-returns-2 c = c .number-of .ensures ∙ number-inside _ _ _ (c .before .before .before .before .before .before .inside .ensures) (not-false _ (c .before .before .before .before .before .if1 .left))
+returns-2 c =
+    let i = c .before .before .before .before .before in
+    c .number-of .ensures ∙ number-inside _ _ _ (i .before .inside .ensures) (not-false _ (i .if1 .left))
 
 cast-t14 : tie.Need-cast-t14
 cast-t14 c = size-fits _ (omega (arith, sure (c .before) .1))

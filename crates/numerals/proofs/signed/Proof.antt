@@ -19,7 +19,9 @@ small : (c : tie.Start) → c .args .size < 1000000
 small c = plain-small (c .pre)
 
 -- a "-" behind spaces
-minus-said : (c : tie.Else3) → numberOf (now (c .before .before .before .before .before .before .before .args .f)) ≡ minus (Value (pos (c .before .before .before .before .before .before .before .args .size)))
+minus-said : (c : tie.Else3)
+    → numberOf (now (c .before .before .before .before .before .before .before .args .f))
+    ≡ minus (Value (pos (c .before .before .before .before .before .before .before .args .size)))
 minus-said c =
     let s = c .before .before .before .before .before .before .before in
     taken-minus (s .pre) (omega arith) (c .before .before .before .if2 .taken) (sym (c .before .blanks .ensures) ∙ not-false _ (c .if3 .left))

@@ -16,7 +16,8 @@ use Rattle.numerals.proofs.value_of.Statement.{statement}
 use Rattle.numerals.proofs.value_of.Tie as tie
 
 -- what a sure glance says
-sure : (c : tie.After-g) → (numberOf (now (c .before .before .before .before .before .before .args .f)) ≡ Value (pos (c .g .given .0 .0))) × (c .g .given .0 .0 < 100000)
+sure : (c : tie.After-g)
+    → (numberOf (now (c .before .before .before .before .before .before .args .f)) ≡ Value (pos (c .g .given .0 .0))) × (c .g .given .0 .0 < 100000)
 sure c = sure-says _ (c .g .given .1) (c .before .before .glance-in .ensures)
 
 lone-zero-requires : tie.Need-lone-zero-requires
@@ -47,7 +48,8 @@ returns-2 : tie.Need-returns-2
 returns-2 c = ap valueOf (sym (c .enum-told2 .given .1) ∙ c .before .before .number-of .ensures)
 
 returns-3 : tie.Need-returns-3
-returns-3 c = toZ-ofZ (record { sfits = c .known-told2 .given .0 .1 }) ∙ ap valueOf (sym (c .before .answer .given .1) ∙ c .before .before .before .number-of .ensures)
+returns-3 c =
+    toZ-ofZ (record { sfits = c .known-told2 .given .0 .1 }) ∙ ap valueOf (sym (c .before .answer .given .1) ∙ c .before .before .before .number-of .ensures)
 
 cast-result : tie.Need-cast-result
 cast-result c = size-fits _ (omega (arith, sure (c .before) .1))

@@ -7,7 +7,8 @@ use Rattle.permitted.proofs.is_frame.Statement.{statement}
 use Rattle.permitted.proofs.is_frame.Tie as tie
 
 -- the test's answer, of the numbers themselves
-lies : (c : tie.After-on-frame) → onFrame (size (c .before .before .before .before .before .args .x)) (size (c .before .before .before .before .before .args .y)) ≡ c .on-frame .result
+lies : (c : tie.After-on-frame)
+    → onFrame (size (c .before .before .before .before .before .args .x)) (size (c .before .before .before .before .before .args .y)) ≡ c .on-frame .result
 lies c =
     let p = c .before .before .before .before .before in
     sym (c .on-frame .ensures ∙ rw (c .before .before .size2 .ensures, c .before .size3 .ensures, toZ-ofZ (p .fits .x), toZ-ofZ (p .fits .y)))

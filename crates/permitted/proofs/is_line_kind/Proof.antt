@@ -25,7 +25,15 @@ unfolding isLineKind
 returns c =
     let p = c .before .before .before in
     let s = c .before .before .before .before .before in
-    rw (p .natural .ensures, c .before .before .layer-kind .ensures, c .same .ensures, p .before .size .ensures, c .before .size2 .ensures, toZ-ofZ (s .fits .v), toZ-ofZ (s .fits .item))
+    rw (
+      p .natural .ensures,
+      c .before .before .layer-kind .ensures,
+      c .same .ensures,
+      p .before .size .ensures,
+      c .before .size2 .ensures,
+      toZ-ofZ (s .fits .v),
+      toZ-ofZ (s .fits .item),
+    )
 
 pub is-line-kind-spec : {M : Type 1} → statement M
 is-line-kind-spec =

@@ -20,11 +20,25 @@ node-item-five-requires c κs = search needs
 
 returns : tie.Need-returns
 unfolding isNodeItem
-returns c = rw (c .before .before .natural .ensures, c .node-item-one .ensures, c .before .before .before .size .ensures, c .before .match .keys1, toZ-ofZ (c .before .before .before .before .fits .v))
+returns c =
+    rw (
+      c .before .before .natural .ensures,
+      c .node-item-one .ensures,
+      c .before .before .before .size .ensures,
+      c .before .match .keys1,
+      toZ-ofZ (c .before .before .before .before .fits .v),
+    )
 
 returns-2 : tie.Need-returns-2
 unfolding isNodeItem
-returns-2 c = rw (c .before .before .natural .ensures, c .node-item-five .ensures, c .before .before .before .size .ensures, c .before .match .keys2, toZ-ofZ (c .before .before .before .before .fits .v))
+returns-2 c =
+    rw (
+      c .before .before .natural .ensures,
+      c .node-item-five .ensures,
+      c .before .before .before .size .ensures,
+      c .before .match .keys2,
+      toZ-ofZ (c .before .before .before .before .fits .v),
+    )
 
 returns-3 : tie.Need-returns-3
 unfolding isNodeItem

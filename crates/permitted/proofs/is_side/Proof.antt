@@ -21,7 +21,14 @@ returns : tie.Need-returns
 unfolding isSide
 returns c =
     let s = c .before .before .before .before in
-    rw (c .before .before .before .natural .ensures, c .same .ensures, c .before .before .size .ensures, c .before .size2 .ensures, toZ-ofZ (s .fits .v), toZ-ofZ (s .fits .code))
+    rw (
+      c .before .before .before .natural .ensures,
+      c .same .ensures,
+      c .before .before .size .ensures,
+      c .before .size2 .ensures,
+      toZ-ofZ (s .fits .v),
+      toZ-ofZ (s .fits .code),
+    )
 
 pub is-side-spec : {M : Type 1} → statement M
 is-side-spec =

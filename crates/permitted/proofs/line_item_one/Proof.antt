@@ -8,7 +8,8 @@ returns : tie.Need-returns
 returns c = let n = c .before .before .args .n in rw (lt-leb 1 n (c .if1 .taken), ne-eqb n 9 (c .before .match .rest .1))
 
 returns-2 : tie.Need-returns-2
-returns-2 c = let n = c .before .before .before .args .n in rw (le-leb 1 n (omega arith), lt-leb n 5 (omega arith), ne-eqb n 9 (c .before .before .match .rest .1))
+returns-2 c =
+    let n = c .before .before .before .args .n in rw (le-leb 1 n (omega arith), lt-leb n 5 (omega arith), ne-eqb n 9 (c .before .before .match .rest .1))
 
 returns-3 : tie.Need-returns-3
 returns-3 c = rw (c .match .keys1)

@@ -56,12 +56,14 @@ loop-less c = search needs
 
 loop-again : tie.Need-loop-again Inv-loop μ-loop
 loop-again c =
+    let o = c .before .before .before .before .before .before .before .loop .inv .1 in
     let l = c .before .before .before .before .before .before .loop-test .taken in
     let s = sure-says _ (c .before .before .before .g .given .1) (c .before .before .before .before .before .glance-number .ensures) in
-    (omega (arith, l), number-glanced (c .before .before .before .before .before .before .before .loop .inv .1) l (s .0) (rw (c .before .most-at .ensures) at (c .if1 .left)))
+    (omega (arith, l), number-glanced o l (s .0) (rw (c .before .most-at .ensures) at (c .if1 .left)))
 
 -- behind the loop all numbers were passed
-all : (c : tie.After-read-blank Inv-loop μ-loop) → Glancing (c .before .before .before .before .args .left) (now (c .before .before .before .before .args .s)) 14
+all : (c : tie.After-read-blank Inv-loop μ-loop)
+    → Glancing (c .before .before .before .before .args .left) (now (c .before .before .before .before .args .s)) 14
 all c =
     let g = c .before .before .loop in
     let z : g .i ≡ 14 = omega (arith, g .inv .0, c .before .loop-test .left) in

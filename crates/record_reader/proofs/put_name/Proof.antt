@@ -38,7 +38,11 @@ loop-again : tie.Need-loop-again Inv-loop μ-loop
 loop-again c = (
   simp length-set (c .before .before .loop .inv .0),
   omega arith,
-  rw (sets-next _ _ _ _ (c .before .loop-test .taken)) (ap (λ l. set l (c .before .before .before .args .m + c .before .before .loop .i) (getD (now (c .before .before .before .args .p)) (c .before .before .loop .i) 0)) (c .before .before .loop .inv .2)),
+  rw (sets-next _ _ _ _ (c .before .loop-test .taken))
+      (ap
+      (λ l. set l (c .before .before .before .args .m + c .before .before .loop .i)
+      (getD (now (c .before .before .before .args .p)) (c .before .before .loop .i) 0))
+      (c .before .before .loop .inv .2)),
 )
 
 returns : tie.Need-returns Inv-loop μ-loop

@@ -12,7 +12,8 @@ use Rattle.records.specs.Layout.{layoutOf}
 use Rattle.records.specs.declared.Field.the-variants.{End, Letters, Number, Name, Blank}
 use Rattle.fields.proofs.Places.{inside-bounds}
 use Rattle.records.proofs.Layouts.{Room}
-use Rattle.record_reader.proofs.Along.{Going, start, room, accept, letters-refused, letters-next, number-refused, number-next, name-refused, name-inside, name-next, part-length, blank-refused, blank-next}
+use Rattle.record_reader.proofs.Along.{Going, start, room, accept, letters-refused, letters-next, number-refused, number-next}
+use Rattle.record_reader.proofs.Along.{name-refused, name-inside, name-next, part-length, blank-refused, blank-next}
 use Rattle.record_reader.proofs.read_fields.Statement.{statement}
 use Rattle.record_reader.proofs.read_fields.Tie as tie
 
@@ -23,35 +24,54 @@ abbrev μ-loop : tie.MeasureT-loop
 μ-loop kind s numbers₀ name₀ n₀ m₀ j₀ numbers name n m j = length (layoutOf kind) - j
 
 -- the field is type letters
-letters-is : (c : tie.After-f Inv-loop μ-loop) → Letters (c .f .given .0 .0) (c .f .given .0 .1 .0) ≡ getD (layoutOf (c .before .before .before .before .before .args .kind)) (c .before .before .before .loop .j) End
+letters-is : (c : tie.After-f Inv-loop μ-loop)
+    → Letters (c .f .given .0 .0) (c .f .given .0 .1 .0)
+    ≡ getD (layoutOf (c .before .before .before .before .before .args .kind)) (c .before .before .before .loop .j) End
 letters-is c = sym (c .f .given .1) ∙ c .before .before .field-of .ensures
 
-letters-room : (c : tie.After-f Inv-loop μ-loop) → Room (layoutOf (c .before .before .before .before .before .args .kind)) (Letters (c .f .given .0 .0) (c .f .given .0 .1 .0)) (c .before .before .before .loop .n) (c .before .before .before .loop .m) (c .before .before .before .loop .j)
+letters-room : (c : tie.After-f Inv-loop μ-loop)
+    → Room (layoutOf (c .before .before .before .before .before .args .kind)) (Letters (c .f .given .0 .0) (c .f .given .0 .1 .0))
+    (c .before .before .before .loop .n) (c .before .before .before .loop .m) (c .before .before .before .loop .j)
 letters-room c = room (c .before .before .before .loop .inv) _ (letters-is c) refl
 
 -- the field is a number
-number-is : (c : tie.After-f2 Inv-loop μ-loop) → Number (c .f2 .given .0 .0) (c .f2 .given .0 .1 .0) ≡ getD (layoutOf (c .before .before .before .before .before .args .kind)) (c .before .before .before .loop .j) End
+number-is : (c : tie.After-f2 Inv-loop μ-loop)
+    → Number (c .f2 .given .0 .0) (c .f2 .given .0 .1 .0)
+    ≡ getD (layoutOf (c .before .before .before .before .before .args .kind)) (c .before .before .before .loop .j) End
 number-is c = sym (c .f2 .given .1) ∙ c .before .before .field-of .ensures
 
-number-room : (c : tie.After-f2 Inv-loop μ-loop) → Room (layoutOf (c .before .before .before .before .before .args .kind)) (Number (c .f2 .given .0 .0) (c .f2 .given .0 .1 .0)) (c .before .before .before .loop .n) (c .before .before .before .loop .m) (c .before .before .before .loop .j)
+number-room : (c : tie.After-f2 Inv-loop μ-loop)
+    → Room (layoutOf (c .before .before .before .before .before .args .kind)) (Number (c .f2 .given .0 .0) (c .f2 .given .0 .1 .0))
+    (c .before .before .before .loop .n) (c .before .before .before .loop .m) (c .before .before .before .loop .j)
 number-room c = room (c .before .before .before .loop .inv) _ (number-is c) refl
 
 -- the field is a name
-name-is : (c : tie.After-f3 Inv-loop μ-loop) → Name (c .f3 .given .0 .0) (c .f3 .given .0 .1 .0) ≡ getD (layoutOf (c .before .before .before .before .before .args .kind)) (c .before .before .before .loop .j) End
+name-is : (c : tie.After-f3 Inv-loop μ-loop)
+    → Name (c .f3 .given .0 .0) (c .f3 .given .0 .1 .0)
+    ≡ getD (layoutOf (c .before .before .before .before .before .args .kind)) (c .before .before .before .loop .j) End
 name-is c = sym (c .f3 .given .1) ∙ c .before .before .field-of .ensures
 
-name-room : (c : tie.After-f3 Inv-loop μ-loop) → Room (layoutOf (c .before .before .before .before .before .args .kind)) (Name (c .f3 .given .0 .0) (c .f3 .given .0 .1 .0)) (c .before .before .before .loop .n) (c .before .before .before .loop .m) (c .before .before .before .loop .j)
+name-room : (c : tie.After-f3 Inv-loop μ-loop)
+    → Room (layoutOf (c .before .before .before .before .before .args .kind)) (Name (c .f3 .given .0 .0) (c .f3 .given .0 .1 .0))
+    (c .before .before .before .loop .n) (c .before .before .before .loop .m) (c .before .before .before .loop .j)
 name-room c = room (c .before .before .before .loop .inv) _ (name-is c) refl
 
 -- the field is blanks
-blank-is : (c : tie.After-f4 Inv-loop μ-loop) → Blank (c .f4 .given .0 .0) (c .f4 .given .0 .1 .0) ≡ getD (layoutOf (c .before .before .before .before .before .args .kind)) (c .before .before .before .loop .j) End
+blank-is : (c : tie.After-f4 Inv-loop μ-loop)
+    → Blank (c .f4 .given .0 .0) (c .f4 .given .0 .1 .0)
+    ≡ getD (layoutOf (c .before .before .before .before .before .args .kind)) (c .before .before .before .loop .j) End
 blank-is c = sym (c .f4 .given .1) ∙ c .before .before .field-of .ensures
 
-blank-room : (c : tie.After-f4 Inv-loop μ-loop) → Room (layoutOf (c .before .before .before .before .before .args .kind)) (Blank (c .f4 .given .0 .0) (c .f4 .given .0 .1 .0)) (c .before .before .before .loop .n) (c .before .before .before .loop .m) (c .before .before .before .loop .j)
+blank-room : (c : tie.After-f4 Inv-loop μ-loop)
+    → Room (layoutOf (c .before .before .before .before .before .args .kind)) (Blank (c .f4 .given .0 .0) (c .f4 .given .0 .1 .0))
+    (c .before .before .before .loop .n) (c .before .before .before .loop .m) (c .before .before .before .loop .j)
 blank-room c = room (c .before .before .before .loop .inv) _ (blank-is c) refl
 
 -- a well-formed name lies inside
-name-bounds : (c : tie.After-enum-told3 Inv-loop μ-loop) → (1 ≤ c .before .before .before .before .f3 .given .0 .0) × (c .before .before .before .before .f3 .given .0 .0 - 1 + c .before .before .before .before .f3 .given .0 .1 .0 ≤ length (now (c .before .before .before .before .before .before .before .before .before .args .s)))
+name-bounds : (c : tie.After-enum-told3 Inv-loop μ-loop)
+    → (1 ≤ c .before .before .before .before .f3 .given .0 .0)
+    × (c .before .before .before .before .f3 .given .0 .0 - 1 + c .before .before .before .before .f3 .given .0 .1 .0
+    ≤ length (now (c .before .before .before .before .before .before .before .before .before .args .s)))
 name-bounds c =
     let p = c .before .before .before .before in
     inside-bounds _ _ _ (name-inside _ (p .before .before .before .loop .inv) _ _ (name-is p) (c .before .before .read-name .ensures) (c .enum-told3 .given .1))
@@ -124,7 +144,8 @@ returns-3 : tie.Need-returns-3 Inv-loop μ-loop
 returns-3 c =
     let p = c .before .before .before .before .before in
     c .refused2 .ensures
-    ∙ number-refused _ (p .before .before .before .loop .inv) _ _ (number-is p) (c .before .before .before .read-number .ensures) (c .before .enum-told2 .given .1)
+    ∙ number-refused _ (p .before .before .before .loop .inv) _ _ (number-is p)
+    (c .before .before .before .read-number .ensures) (c .before .enum-told2 .given .1)
 
 mul-numbers : tie.Need-mul-numbers Inv-loop μ-loop
 mul-numbers c = omega (arith, number-room (c .before .before .before .before .before))
@@ -144,7 +165,8 @@ loop-less-2 c = omega (arith, number-room (c .before .before .before .before .be
 loop-again-2 : tie.Need-loop-again-2 Inv-loop μ-loop
 loop-again-2 c =
     let p = c .before .before .before .before .before in
-    rw (toZ-ofZ {w = w32} (record { sfits = c .known-told3 .given .0 .1 })) (number-next _ (p .before .before .before .loop .inv) _ _ (number-is p) (c .before .before .before .read-number .ensures) _ (c .before .answer .given .1))
+    rw (toZ-ofZ {w = w32} (record { sfits = c .known-told3 .given .0 .1 }))
+    (number-next _ (p .before .before .before .loop .inv) _ _ (number-is p) (c .before .before .before .read-number .ensures) _ (c .before .answer .given .1))
 
 enum-known-f-3 : tie.Need-enum-known-f-3 Inv-loop μ-loop
 enum-known-f-3 c = search needs
@@ -184,9 +206,11 @@ part-put-name-end c = let b = name-bounds (c) in omega (arith, c .before .before
 
 put-name-requires : tie.Need-put-name-requires Inv-loop μ-loop
 put-name-requires c κs =
+    let f = c .before .before .before .before .before .f3 .given .0 in
+    let a = c .before .before .before .before .before .before .before .before .before .before .args .s in
     let b = name-bounds (c .before) in
     let r = name-room (c .before .before .before .before .before) in
-    rw (part-length (now (c .before .before .before .before .before .before .before .before .before .before .args .s)) (c .before .before .before .before .before .f3 .given .0 .0) (c .before .before .before .before .before .f3 .given .0 .1 .0) (b .1)) (omega arith)
+    rw (part-length (now a) (f .0) (f .1 .0) (b .1)) (omega arith)
 
 add-m : tie.Need-add-m Inv-loop μ-loop
 add-m c = omega (arith, name-room (c .before .before .before .before .before .before))
@@ -200,7 +224,8 @@ loop-less-3 c = omega (arith, name-room (c .before .before .before .before .befo
 loop-again-3 : tie.Need-loop-again-3 Inv-loop μ-loop
 loop-again-3 c =
     let p = c .before .before .before .before in
-    rw (c .put-name .ensures) (name-next _ (p .before .before .before .before .before .loop .inv) _ _ (name-is (p .before .before)) (p .read-name .ensures) (c .before .before .enum-told3 .given .1))
+    let l = p .before .before .before .before .before in
+    rw (c .put-name .ensures) (name-next _ (l .loop .inv) _ _ (name-is (p .before .before)) (p .read-name .ensures) (c .before .before .enum-told3 .given .1))
 
 enum-known-f-4 : tie.Need-enum-known-f-4 Inv-loop μ-loop
 enum-known-f-4 c = search needs

@@ -31,7 +31,8 @@ refused-requires-3 c κs = search needs
 returns-3 : tie.Need-returns-3
 unfolding readingOf
 returns-3 c =
-    rw (eq-eqb _ _ (c .before .before .before .before .before .if1 .left), eq-eqb _ _ (c .before .before .before .if2 .left), ne-eqb _ _ (c .before .if3 .taken)) (c .refused3 .ensures)
+    let i = c .before .before .before .before .before in
+    rw (eq-eqb _ _ (i .if1 .left), eq-eqb _ _ (c .before .before .before .if2 .left), ne-eqb _ _ (c .before .if3 .taken)) (c .refused3 .ensures)
 
 read-fields-requires : tie.Need-read-fields-requires
 read-fields-requires c κs = search needs
@@ -39,7 +40,8 @@ read-fields-requires c κs = search needs
 returns-4 : tie.Need-returns-4
 unfolding readingOf
 returns-4 c =
-    rw (eq-eqb _ _ (c .before .before .before .before .before .if1 .left), eq-eqb _ _ (c .before .before .before .if2 .left), eq-eqb _ _ (c .before .if3 .left)) (c .read-fields .ensures)
+    let i = c .before .before .before .before .before in
+    rw (eq-eqb _ _ (i .if1 .left), eq-eqb _ _ (c .before .before .before .if2 .left), eq-eqb _ _ (c .before .if3 .left)) (c .read-fields .ensures)
 
 pub read-record-spec : {M : Type 1} → statement M
 read-record-spec =

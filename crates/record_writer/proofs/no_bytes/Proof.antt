@@ -25,7 +25,9 @@ shared-slice-read-if1 c = search needs
 
 returns : tie.Need-returns Inv-loop μ-loop
 returns c =
-    sym (c .before .before .before .loop .inv ∙ every-stop (λ b. eqb b 0) (now (c .before .before .before .before .args .name)) (c .before .before .before .loop .i) 0 (c .before .before .loop-test .taken) (ne-eqb _ _ (c .if1 .taken)))
+    sym (c .before .before .before .loop .inv
+    ∙ every-stop (λ b. eqb b 0) (now (c .before .before .before .before .args .name))
+    (c .before .before .before .loop .i) 0 (c .before .before .loop-test .taken) (ne-eqb _ _ (c .if1 .taken)))
 
 add-i : tie.Need-add-i Inv-loop μ-loop
 add-i c = search needs
@@ -36,7 +38,8 @@ loop-less c = search needs
 loop-again : tie.Need-loop-again Inv-loop μ-loop
 loop-again c =
     c .before .before .before .loop .inv
-    ∙ every-more (λ b. eqb b 0) (now (c .before .before .before .before .args .name)) (c .before .before .before .loop .i) 0 (c .before .before .loop-test .taken) (eq-eqb _ _ (c .if1 .left))
+    ∙ every-more (λ b. eqb b 0) (now (c .before .before .before .before .args .name))
+    (c .before .before .before .loop .i) 0 (c .before .before .loop-test .taken) (eq-eqb _ _ (c .if1 .left))
 
 returns-2 : tie.Need-returns-2 Inv-loop μ-loop
 returns-2 c = sym (c .before .loop .inv ∙ every-end (λ b. eqb b 0) (now (c .before .before .args .name)) (c .before .loop .i) 0 (c .loop-test .left))

@@ -29,7 +29,9 @@ shared-slice-copy-out-if1 c = search needs
 returns : tie.Need-returns Inv-loop μ-loop
 returns c =
     let p = c .before .before .before .before in
-    sym (c .before .before .before .loop .inv ∙ every-stop isZero (now (p .args .numbers)) (c .before .before .before .loop .i) (pos 0) (c .before .before .loop-test .taken) (some-bits (getD (now (p .args .numbers)) (c .before .before .before .loop .i) (pos 0)) (c .if1 .taken)))
+    sym (c .before .before .before .loop .inv
+    ∙ every-stop isZero (now (p .args .numbers)) (c .before .before .before .loop .i) (pos 0) (c .before .before .loop-test .taken)
+    (some-bits (getD (now (p .args .numbers)) (c .before .before .before .loop .i) (pos 0)) (c .if1 .taken)))
 
 add-i : tie.Need-add-i Inv-loop μ-loop
 add-i c = search needs
@@ -41,7 +43,8 @@ loop-again : tie.Need-loop-again Inv-loop μ-loop
 loop-again c =
     let p = c .before .before .before .before in
     c .before .before .before .loop .inv
-    ∙ every-more isZero (now (p .args .numbers)) (c .before .before .before .loop .i) (pos 0) (c .before .before .loop-test .taken) (zero-bits (getD (now (p .args .numbers)) (c .before .before .before .loop .i) (pos 0)) (record { sfits = c .before .if12 .given }) (c .if1 .left))
+    ∙ every-more isZero (now (p .args .numbers)) (c .before .before .before .loop .i) (pos 0) (c .before .before .loop-test .taken)
+    (zero-bits (getD (now (p .args .numbers)) (c .before .before .before .loop .i) (pos 0)) (record { sfits = c .before .if12 .given }) (c .if1 .left))
 
 returns-2 : tie.Need-returns-2 Inv-loop μ-loop
 returns-2 c = sym (c .before .loop .inv ∙ every-end isZero (now (c .before .before .args .numbers)) (c .before .loop .i) (pos 0) (c .loop-test .left))

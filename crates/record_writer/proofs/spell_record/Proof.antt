@@ -11,7 +11,8 @@ use Rattle.records.specs.Layout.{layoutOf}
 use Rattle.records.specs.Writing.{fitsAll, recordBytes}
 use Rattle.records.specs.declared.Field.the-variants.{End, Letters, Number, Name, Blank}
 use Rattle.records.proofs.Layouts.{Room}
-use Rattle.record_writer.proofs.Lines.{refused-line, Lines, start, room, ends, letters-next, number-next, number-unfit, name-next, name-unfit, blank-next}
+use Rattle.record_writer.proofs.Lines.{refused-line, Lines, start, room, ends, letters-next}
+use Rattle.record_writer.proofs.Lines.{number-next, number-unfit, name-next, name-unfit, blank-next}
 use Rattle.record_writer.proofs.spell_record.Statement.{statement}
 use Rattle.record_writer.proofs.spell_record.Tie as tie
 
@@ -22,31 +23,47 @@ abbrev μ-loop : tie.MeasureT-loop
 μ-loop kind numbers name line₀ n₀ m₀ j₀ line n m j = length (layoutOf kind) - j
 
 -- the field is type letters
-letters-is : (c : tie.After-f Inv-loop μ-loop) → Letters (c .f .given .0 .0) (c .f .given .0 .1 .0) ≡ getD (layoutOf (c .before .before .before .before .before .before .args .r .kind)) (c .before .before .before .loop .j) End
+letters-is : (c : tie.After-f Inv-loop μ-loop)
+    → Letters (c .f .given .0 .0) (c .f .given .0 .1 .0)
+    ≡ getD (layoutOf (c .before .before .before .before .before .before .args .r .kind)) (c .before .before .before .loop .j) End
 letters-is c = sym (c .f .given .1) ∙ c .before .before .field-of .ensures
 
-letters-room : (c : tie.After-f Inv-loop μ-loop) → Room (layoutOf (c .before .before .before .before .before .before .args .r .kind)) (Letters (c .f .given .0 .0) (c .f .given .0 .1 .0)) (c .before .before .before .loop .n) (c .before .before .before .loop .m) (c .before .before .before .loop .j)
+letters-room : (c : tie.After-f Inv-loop μ-loop)
+    → Room (layoutOf (c .before .before .before .before .before .before .args .r .kind)) (Letters (c .f .given .0 .0) (c .f .given .0 .1 .0))
+    (c .before .before .before .loop .n) (c .before .before .before .loop .m) (c .before .before .before .loop .j)
 letters-room c = room (c .before .before .before .loop .inv) _ (letters-is c) refl
 
 -- the field is a number
-number-is : (c : tie.After-f2 Inv-loop μ-loop) → Number (c .f2 .given .0 .0) (c .f2 .given .0 .1 .0) ≡ getD (layoutOf (c .before .before .before .before .before .before .args .r .kind)) (c .before .before .before .loop .j) End
+number-is : (c : tie.After-f2 Inv-loop μ-loop)
+    → Number (c .f2 .given .0 .0) (c .f2 .given .0 .1 .0)
+    ≡ getD (layoutOf (c .before .before .before .before .before .before .args .r .kind)) (c .before .before .before .loop .j) End
 number-is c = sym (c .f2 .given .1) ∙ c .before .before .field-of .ensures
 
-number-room : (c : tie.After-f2 Inv-loop μ-loop) → Room (layoutOf (c .before .before .before .before .before .before .args .r .kind)) (Number (c .f2 .given .0 .0) (c .f2 .given .0 .1 .0)) (c .before .before .before .loop .n) (c .before .before .before .loop .m) (c .before .before .before .loop .j)
+number-room : (c : tie.After-f2 Inv-loop μ-loop)
+    → Room (layoutOf (c .before .before .before .before .before .before .args .r .kind)) (Number (c .f2 .given .0 .0) (c .f2 .given .0 .1 .0))
+    (c .before .before .before .loop .n) (c .before .before .before .loop .m) (c .before .before .before .loop .j)
 number-room c = room (c .before .before .before .loop .inv) _ (number-is c) refl
 
 -- the field is a name
-name-is : (c : tie.After-f3 Inv-loop μ-loop) → Name (c .f3 .given .0 .0) (c .f3 .given .0 .1 .0) ≡ getD (layoutOf (c .before .before .before .before .before .before .args .r .kind)) (c .before .before .before .loop .j) End
+name-is : (c : tie.After-f3 Inv-loop μ-loop)
+    → Name (c .f3 .given .0 .0) (c .f3 .given .0 .1 .0)
+    ≡ getD (layoutOf (c .before .before .before .before .before .before .args .r .kind)) (c .before .before .before .loop .j) End
 name-is c = sym (c .f3 .given .1) ∙ c .before .before .field-of .ensures
 
-name-room : (c : tie.After-f3 Inv-loop μ-loop) → Room (layoutOf (c .before .before .before .before .before .before .args .r .kind)) (Name (c .f3 .given .0 .0) (c .f3 .given .0 .1 .0)) (c .before .before .before .loop .n) (c .before .before .before .loop .m) (c .before .before .before .loop .j)
+name-room : (c : tie.After-f3 Inv-loop μ-loop)
+    → Room (layoutOf (c .before .before .before .before .before .before .args .r .kind)) (Name (c .f3 .given .0 .0) (c .f3 .given .0 .1 .0))
+    (c .before .before .before .loop .n) (c .before .before .before .loop .m) (c .before .before .before .loop .j)
 name-room c = room (c .before .before .before .loop .inv) _ (name-is c) refl
 
 -- the field is blanks
-blank-is : (c : tie.After-f4 Inv-loop μ-loop) → Blank (c .f4 .given .0 .0) (c .f4 .given .0 .1 .0) ≡ getD (layoutOf (c .before .before .before .before .before .before .args .r .kind)) (c .before .before .before .loop .j) End
+blank-is : (c : tie.After-f4 Inv-loop μ-loop)
+    → Blank (c .f4 .given .0 .0) (c .f4 .given .0 .1 .0)
+    ≡ getD (layoutOf (c .before .before .before .before .before .before .args .r .kind)) (c .before .before .before .loop .j) End
 blank-is c = sym (c .f4 .given .1) ∙ c .before .before .field-of .ensures
 
-blank-room : (c : tie.After-f4 Inv-loop μ-loop) → Room (layoutOf (c .before .before .before .before .before .before .args .r .kind)) (Blank (c .f4 .given .0 .0) (c .f4 .given .0 .1 .0)) (c .before .before .before .loop .n) (c .before .before .before .loop .m) (c .before .before .before .loop .j)
+blank-room : (c : tie.After-f4 Inv-loop μ-loop)
+    → Room (layoutOf (c .before .before .before .before .before .before .args .r .kind)) (Blank (c .f4 .given .0 .0) (c .f4 .given .0 .1 .0))
+    (c .before .before .before .loop .n) (c .before .before .before .loop .m) (c .before .before .before .loop .j)
 blank-room c = room (c .before .before .before .loop .inv) _ (blank-is c) refl
 
 loop-holds : tie.Need-loop-holds Inv-loop μ-loop
@@ -79,7 +96,8 @@ no-bytes-requires c κs = search needs
 returns : tie.Need-returns Inv-loop μ-loop
 unfolding fitsAll recordBytes
 returns c =
-    let d = ends (c .before .before .before .before .before .before .before .loop .inv) (sym (c .before .before .before .before .enum-told .given .1) ∙ c .before .before .before .before .before .before .field-of .ensures) in
+    let f = c .before .before .before .before .before .before in
+    let d = ends (f .before .loop .inv) (sym (c .before .before .before .before .enum-told .given .1) ∙ f .field-of .ensures) in
     record { answer = rw (c .before .before .no-numbers .ensures, c .no-bytes .ensures) (sym (d .0)); text = λ y. d .1 }
 
 enum-known-f : tie.Need-enum-known-f Inv-loop μ-loop
@@ -125,7 +143,11 @@ returns-2 : tie.Need-returns-2 Inv-loop μ-loop
 unfolding fitsAll
 returns-2 c =
     let p = c .before .before .before .before in
-    refused-line _ _ (number-unfit (p .before .before .before .before .before .before .loop .inv) _ _ (number-is (p .before .before .before)) (toZ-ofZ {w = w32} (record { sfits = p .write-number-arg .given })) (c .before .before .before .write-number .ensures) (c .enum-told3 .given .1))
+    let d = p .before .before .before in
+    let l = d .before .before .before in
+    refused-line _ _
+    (number-unfit (l .loop .inv) _ _ (number-is d) (toZ-ofZ {w = w32} (record { sfits = p .write-number-arg .given }))
+    (c .before .before .before .write-number .ensures) (c .enum-told3 .given .1))
 
 add-n : tie.Need-add-n Inv-loop μ-loop
 add-n c = omega (arith, number-room (c .before .before .before .before .before .before .before))
@@ -139,7 +161,10 @@ loop-less-2 c = omega (arith, number-room (c .before .before .before .before .be
 loop-again-2 : tie.Need-loop-again-2 Inv-loop μ-loop
 loop-again-2 c =
     let p = c .before .before .before .before in
-    number-next (p .before .before .before .before .before .before .loop .inv) _ _ (number-is (p .before .before .before)) (toZ-ofZ {w = w32} (record { sfits = p .write-number-arg .given })) (c .before .before .before .write-number .ensures) (c .enum-told2 .given .1)
+    let d = p .before .before .before in
+    let l = d .before .before .before in
+    number-next (l .loop .inv) _ _ (number-is d) (toZ-ofZ {w = w32} (record { sfits = p .write-number-arg .given }))
+    (c .before .before .before .write-number .ensures) (c .enum-told2 .given .1)
 
 enum-known-f-3 : tie.Need-enum-known-f-3 Inv-loop μ-loop
 enum-known-f-3 c = search needs
@@ -172,7 +197,8 @@ returns-3 : tie.Need-returns-3 Inv-loop μ-loop
 unfolding fitsAll
 returns-3 c =
     let p = c .before .before .before .before .before .before .before .before in
-    refused-line _ _ (name-unfit (p .before .before .before .loop .inv) _ _ (name-is p) (c .before .before .before .write-name .ensures) (c .enum-told5 .given .1))
+    refused-line _ _
+    (name-unfit (p .before .before .before .loop .inv) _ _ (name-is p) (c .before .before .before .write-name .ensures) (c .enum-told5 .given .1))
 
 add-j-3 : tie.Need-add-j-3 Inv-loop μ-loop
 add-j-3 c = omega (arith, name-room (c .before .before .before .before .before .before .before .before))

@@ -21,7 +21,8 @@ spell-record-requires c κs = search needs
 
 returns-2 : tie.Need-returns-2
 returns-2 c =
-    written-unfit _ _ (c .before .before .before .before .if1 .left) (sym (c .before .before .before .spell-record .ensures .answer) ∙ not-true _ (c .if2 .taken))
+    written-unfit _ _ (c .before .before .before .before .if1 .left)
+    (sym (c .before .before .before .spell-record .ensures .answer) ∙ not-true _ (c .if2 .taken))
 
 slice-aggregate-copy : tie.Need-slice-aggregate-copy
 slice-aggregate-copy c = search needs

@@ -54,7 +54,9 @@ value-of-requires : tie.Need-value-of-requires
 value-of-requires c κs = search needs
 
 returns-6 : tie.Need-returns-6
-returns-6 c = toZ-ofZ (record { sfits = c .value-of .ok }) ∙ c .value-of .ensures ∙ sym (number-there _ _ (omega arith) (c .before .before .before .before .before .if2 .left) _ _ (omega arith) (omega arith))
+returns-6 c =
+    let i = c .before .before .before .before .before .if2 .left in
+    toZ-ofZ (record { sfits = c .value-of .ok }) ∙ c .value-of .ensures ∙ sym (number-there _ _ (omega arith) i _ _ (omega arith) (omega arith))
 
 pub number-at-spec : {M : Type 1} → statement M
 number-at-spec =

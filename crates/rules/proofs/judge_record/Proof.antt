@@ -10,7 +10,8 @@ use borrow.Author.Needs.{needs}
 use Rattle.records.specs.Layout.{layoutOf}
 use Rattle.records.specs.declared.Field.the-variants.{End, Letters, Number, Name, Blank}
 use Rattle.rules.specs.Checks.{kindOf}
-use Rattle.rules.proofs.Going.{Going, start, ends, Room, room-for, letters-broken, letters-next, number-ill, number-broken, number-next, name-ill, name-next, blank-ill, blank-next}
+use Rattle.rules.proofs.Going.{Going, start, ends, Room, room-for, letters-broken, letters-next, number-ill}
+use Rattle.rules.proofs.Going.{number-broken, number-next, name-ill, name-next, blank-ill, blank-next}
 use Rattle.rules.proofs.judge_record.Statement.{statement}
 use Rattle.rules.proofs.judge_record.Tie as tie
 
@@ -21,31 +22,55 @@ abbrev μ-loop : tie.MeasureT-loop
 μ-loop due s row kind numbers₀ n₀ j₀ numbers n j = length (layoutOf (kindOf due)) - j
 
 -- the field is type letters, and there is room for it
-letters-is : (c : tie.After-f Inv-loop μ-loop) → Letters (c .f .given .0 .0) (c .f .given .0 .1 .0) ≡ getD (layoutOf (kindOf (c .before .before .before .before .before .before .args .due))) (c .before .before .before .loop .j) End
-letters-is c = sym (c .f .given .1) ∙ c .before .before .field-of .ensures ∙ ap (λ k. getD (layoutOf k) (c .before .before .before .loop .j) End) (c .before .before .before .before .kind-of .ensures)
+letters-is : (c : tie.After-f Inv-loop μ-loop)
+    → Letters (c .f .given .0 .0) (c .f .given .0 .1 .0)
+    ≡ getD (layoutOf (kindOf (c .before .before .before .before .before .before .args .due))) (c .before .before .before .loop .j) End
+letters-is c =
+    sym (c .f .given .1) ∙ c .before .before .field-of .ensures
+    ∙ ap (λ k. getD (layoutOf k) (c .before .before .before .loop .j) End) (c .before .before .before .before .kind-of .ensures)
 
-letters-room : (c : tie.After-f Inv-loop μ-loop) → Room (c .before .before .before .before .before .before .args .due) (Letters (c .f .given .0 .0) (c .f .given .0 .1 .0)) (c .before .before .before .loop .n) (c .before .before .before .loop .j)
+letters-room : (c : tie.After-f Inv-loop μ-loop)
+    → Room (c .before .before .before .before .before .before .args .due) (Letters (c .f .given .0 .0) (c .f .given .0 .1 .0))
+    (c .before .before .before .loop .n) (c .before .before .before .loop .j)
 letters-room c = room-for (c .before .before .before .loop .inv) _ (letters-is c) refl
 
 -- the field is a number, and there is room for it
-number-is : (c : tie.After-f2 Inv-loop μ-loop) → Number (c .f2 .given .0 .0) (c .f2 .given .0 .1 .0) ≡ getD (layoutOf (kindOf (c .before .before .before .before .before .before .args .due))) (c .before .before .before .loop .j) End
-number-is c = sym (c .f2 .given .1) ∙ c .before .before .field-of .ensures ∙ ap (λ k. getD (layoutOf k) (c .before .before .before .loop .j) End) (c .before .before .before .before .kind-of .ensures)
+number-is : (c : tie.After-f2 Inv-loop μ-loop)
+    → Number (c .f2 .given .0 .0) (c .f2 .given .0 .1 .0)
+    ≡ getD (layoutOf (kindOf (c .before .before .before .before .before .before .args .due))) (c .before .before .before .loop .j) End
+number-is c =
+    sym (c .f2 .given .1) ∙ c .before .before .field-of .ensures
+    ∙ ap (λ k. getD (layoutOf k) (c .before .before .before .loop .j) End) (c .before .before .before .before .kind-of .ensures)
 
-number-room : (c : tie.After-f2 Inv-loop μ-loop) → Room (c .before .before .before .before .before .before .args .due) (Number (c .f2 .given .0 .0) (c .f2 .given .0 .1 .0)) (c .before .before .before .loop .n) (c .before .before .before .loop .j)
+number-room : (c : tie.After-f2 Inv-loop μ-loop)
+    → Room (c .before .before .before .before .before .before .args .due) (Number (c .f2 .given .0 .0) (c .f2 .given .0 .1 .0))
+    (c .before .before .before .loop .n) (c .before .before .before .loop .j)
 number-room c = room-for (c .before .before .before .loop .inv) _ (number-is c) refl
 
 -- the field is a name, and there is room for it
-name-is : (c : tie.After-f3 Inv-loop μ-loop) → Name (c .f3 .given .0 .0) (c .f3 .given .0 .1 .0) ≡ getD (layoutOf (kindOf (c .before .before .before .before .before .before .args .due))) (c .before .before .before .loop .j) End
-name-is c = sym (c .f3 .given .1) ∙ c .before .before .field-of .ensures ∙ ap (λ k. getD (layoutOf k) (c .before .before .before .loop .j) End) (c .before .before .before .before .kind-of .ensures)
+name-is : (c : tie.After-f3 Inv-loop μ-loop)
+    → Name (c .f3 .given .0 .0) (c .f3 .given .0 .1 .0)
+    ≡ getD (layoutOf (kindOf (c .before .before .before .before .before .before .args .due))) (c .before .before .before .loop .j) End
+name-is c =
+    sym (c .f3 .given .1) ∙ c .before .before .field-of .ensures
+    ∙ ap (λ k. getD (layoutOf k) (c .before .before .before .loop .j) End) (c .before .before .before .before .kind-of .ensures)
 
-name-room : (c : tie.After-f3 Inv-loop μ-loop) → Room (c .before .before .before .before .before .before .args .due) (Name (c .f3 .given .0 .0) (c .f3 .given .0 .1 .0)) (c .before .before .before .loop .n) (c .before .before .before .loop .j)
+name-room : (c : tie.After-f3 Inv-loop μ-loop)
+    → Room (c .before .before .before .before .before .before .args .due) (Name (c .f3 .given .0 .0) (c .f3 .given .0 .1 .0))
+    (c .before .before .before .loop .n) (c .before .before .before .loop .j)
 name-room c = room-for (c .before .before .before .loop .inv) _ (name-is c) refl
 
 -- the field is blanks, and there is room for it
-blank-is : (c : tie.After-f4 Inv-loop μ-loop) → Blank (c .f4 .given .0 .0) (c .f4 .given .0 .1 .0) ≡ getD (layoutOf (kindOf (c .before .before .before .before .before .before .args .due))) (c .before .before .before .loop .j) End
-blank-is c = sym (c .f4 .given .1) ∙ c .before .before .field-of .ensures ∙ ap (λ k. getD (layoutOf k) (c .before .before .before .loop .j) End) (c .before .before .before .before .kind-of .ensures)
+blank-is : (c : tie.After-f4 Inv-loop μ-loop)
+    → Blank (c .f4 .given .0 .0) (c .f4 .given .0 .1 .0)
+    ≡ getD (layoutOf (kindOf (c .before .before .before .before .before .before .args .due))) (c .before .before .before .loop .j) End
+blank-is c =
+    sym (c .f4 .given .1) ∙ c .before .before .field-of .ensures
+    ∙ ap (λ k. getD (layoutOf k) (c .before .before .before .loop .j) End) (c .before .before .before .before .kind-of .ensures)
 
-blank-room : (c : tie.After-f4 Inv-loop μ-loop) → Room (c .before .before .before .before .before .before .args .due) (Blank (c .f4 .given .0 .0) (c .f4 .given .0 .1 .0)) (c .before .before .before .loop .n) (c .before .before .before .loop .j)
+blank-room : (c : tie.After-f4 Inv-loop μ-loop)
+    → Room (c .before .before .before .before .before .before .args .due) (Blank (c .f4 .given .0 .0) (c .f4 .given .0 .1 .0))
+    (c .before .before .before .loop .n) (c .before .before .before .loop .j)
 blank-room c = room-for (c .before .before .before .loop .inv) _ (blank-is c) refl
 
 kind-of-requires : tie.Need-kind-of-requires Inv-loop μ-loop
@@ -61,7 +86,10 @@ enum-told : tie.Need-enum-told Inv-loop μ-loop
 enum-told c = search needs
 
 returns : tie.Need-returns Inv-loop μ-loop
-returns c = ends (c .before .before .before .loop .inv) (sym (c .enum-told .given .1) ∙ c .before .before .field-of .ensures ∙ ap (λ k. getD (layoutOf k) (c .before .before .before .loop .j) End) (c .before .before .before .before .kind-of .ensures))
+returns c =
+    ends (c .before .before .before .loop .inv)
+    (sym (c .enum-told .given .1) ∙ c .before .before .field-of .ensures
+    ∙ ap (λ k. getD (layoutOf k) (c .before .before .before .loop .j) End) (c .before .before .before .before .kind-of .ensures))
 
 enum-known-f : tie.Need-enum-known-f Inv-loop μ-loop
 enum-known-f c = search needs
@@ -79,7 +107,13 @@ broken-requires : tie.Need-broken-requires Inv-loop μ-loop
 broken-requires c κs = search needs
 
 returns-2 : tie.Need-returns-2 Inv-loop μ-loop
-returns-2 c = c .broken .ensures ∙ letters-broken (c .before .before .before .before .before .before .before .before .before .loop .inv) _ _ (letters-is (c .before .before .before .before .before .before)) (rw (c .before .before .before .before .byte-at .ensures, c .before .before .before .byte-at2 .ensures) at (c .before .before .letters-fault .ensures)) (c .before .if1 .taken)
+returns-2 c =
+    let d = c .before .before .before .before .before .before in
+    let l = d .before .before .before in
+    c .broken .ensures
+    ∙ letters-broken (l .loop .inv) _ _ (letters-is d)
+    (rw (c .before .before .before .before .byte-at .ensures, c .before .before .before .byte-at2 .ensures) at (c .before .before .letters-fault .ensures))
+    (c .before .if1 .taken)
 
 add-j : tie.Need-add-j Inv-loop μ-loop
 add-j c = omega (arith, letters-room (c .before .before .before .before .before))
@@ -88,7 +122,11 @@ loop-less : tie.Need-loop-less Inv-loop μ-loop
 loop-less c = omega (arith, letters-room (c .before .before .before .before .before))
 
 loop-again : tie.Need-loop-again Inv-loop μ-loop
-loop-again c = letters-next (c .before .before .before .before .before .before .before .before .loop .inv) _ _ (letters-is (c .before .before .before .before .before)) (rw (c .before .before .before .byte-at .ensures, c .before .before .byte-at2 .ensures) at (c .before .letters-fault .ensures)) (c .if1 .left)
+loop-again c =
+    let d = c .before .before .before .before .before in
+    let l = d .before .before .before in
+    letters-next (l .loop .inv) _ _ (letters-is d)
+    (rw (c .before .before .before .byte-at .ensures, c .before .before .byte-at2 .ensures) at (c .before .letters-fault .ensures)) (c .if1 .left)
 
 enum-known-f-2 : tie.Need-enum-known-f-2 Inv-loop μ-loop
 enum-known-f-2 c = search needs
@@ -106,7 +144,10 @@ broken-requires-2 : tie.Need-broken-requires-2 Inv-loop μ-loop
 broken-requires-2 c κs = omega (arith, number-room (c .before .before .before .before) .column)
 
 returns-3 : tie.Need-returns-3 Inv-loop μ-loop
-returns-3 c = c .broken2 .ensures ∙ number-ill (c .before .before .before .before .before .before .before .before .loop .inv) _ _ (number-is (c .before .before .before .before .before)) (c .before .before .before .read-number .ensures) (c .before .enum-told2 .given .1)
+returns-3 c =
+    let d = c .before .before .before .before .before in
+    let l = d .before .before .before in
+    c .broken2 .ensures ∙ number-ill (l .loop .inv) _ _ (number-is d) (c .before .before .before .read-number .ensures) (c .before .enum-told2 .given .1)
 
 mul-numbers : tie.Need-mul-numbers Inv-loop μ-loop
 mul-numbers c = omega (arith, number-room (c .before .before .before .before .before))
@@ -124,7 +165,14 @@ broken-requires-3 : tie.Need-broken-requires-3 Inv-loop μ-loop
 broken-requires-3 c κs = omega (arith, number-room (c .before .before .before .before .before .before .before .before) .column)
 
 returns-4 : tie.Need-returns-4 Inv-loop μ-loop
-returns-4 c = c .broken3 .ensures ∙ number-broken (c .before .before .before .before .before .before .before .before .before .before .before .before .loop .inv) _ _ (number-is (c .before .before .before .before .before .before .before .before .before)) (c .before .before .before .before .before .before .before .read-number .ensures) _ (c .before .before .before .before .before .answer .given .1) (rw (toZ-ofZ {w = w32} (record { sfits = c .before .before .before .before .known-told3 .given .0 .1 })) at (c .before .before .value-fault .ensures)) (c .before .if2 .taken)
+returns-4 c =
+    let a = c .before .before .before .before .before in
+    let d = a .before .before .before .before in
+    let l = d .before .before .before in
+    c .broken3 .ensures
+    ∙ number-broken (l .loop .inv) _ _ (number-is d) (a .before .before .read-number .ensures) _ (a .answer .given .1)
+    (rw (toZ-ofZ {w = w32} (record { sfits = c .before .before .before .before .known-told3 .given .0 .1 })) at (c .before .before .value-fault .ensures))
+    (c .before .if2 .taken)
 
 add-n : tie.Need-add-n Inv-loop μ-loop
 add-n c = omega (arith, number-room (c .before .before .before .before .before .before .before .before))
@@ -136,7 +184,13 @@ loop-less-2 : tie.Need-loop-less-2 Inv-loop μ-loop
 loop-less-2 c = omega (arith, number-room (c .before .before .before .before .before .before .before .before))
 
 loop-again-2 : tie.Need-loop-again-2 Inv-loop μ-loop
-loop-again-2 c = rw (toZ-ofZ {w = w32} (record { sfits = c .before .before .before .known-told3 .given .0 .1 })) (number-next (c .before .before .before .before .before .before .before .before .before .before .before .loop .inv) _ _ (number-is (c .before .before .before .before .before .before .before .before)) (c .before .before .before .before .before .before .read-number .ensures) _ (c .before .before .before .before .answer .given .1) (rw (toZ-ofZ {w = w32} (record { sfits = c .before .before .before .known-told3 .given .0 .1 })) at (c .before .value-fault .ensures)) (c .if2 .left))
+loop-again-2 c =
+    let k = c .before .before .before in
+    let r = k .before .before .before in
+    let l = r .before .before .before .before .before in
+    rw (toZ-ofZ {w = w32} (record { sfits = k .known-told3 .given .0 .1 }))
+    (number-next (l .loop .inv) _ _ (number-is (r .before .before)) (r .read-number .ensures) _ (k .before .answer .given .1)
+    (rw (toZ-ofZ {w = w32} (record { sfits = k .known-told3 .given .0 .1 })) at (c .before .value-fault .ensures)) (c .if2 .left))
 
 enum-known-f-3 : tie.Need-enum-known-f-3 Inv-loop μ-loop
 enum-known-f-3 c = search needs
@@ -154,7 +208,10 @@ broken-requires-4 : tie.Need-broken-requires-4 Inv-loop μ-loop
 broken-requires-4 c κs = omega (arith, name-room (c .before .before .before .before) .column)
 
 returns-5 : tie.Need-returns-5 Inv-loop μ-loop
-returns-5 c = c .broken4 .ensures ∙ name-ill (c .before .before .before .before .before .before .before .before .loop .inv) _ _ (name-is (c .before .before .before .before .before)) (c .before .before .before .read-name .ensures) (c .before .enum-told4 .given .1)
+returns-5 c =
+    let d = c .before .before .before .before .before in
+    let l = d .before .before .before in
+    c .broken4 .ensures ∙ name-ill (l .loop .inv) _ _ (name-is d) (c .before .before .before .read-name .ensures) (c .before .enum-told4 .given .1)
 
 add-j-3 : tie.Need-add-j-3 Inv-loop μ-loop
 add-j-3 c = omega (arith, name-room (c .before .before .before .before))
@@ -163,7 +220,9 @@ loop-less-3 : tie.Need-loop-less-3 Inv-loop μ-loop
 loop-less-3 c = omega (arith, name-room (c .before .before .before .before))
 
 loop-again-3 : tie.Need-loop-again-3 Inv-loop μ-loop
-loop-again-3 c = name-next (c .before .before .before .before .before .before .before .loop .inv) _ _ (name-is (c .before .before .before .before)) (c .before .before .read-name .ensures) (c .enum-told3 .given .1)
+loop-again-3 c =
+    let l = c .before .before .before .before .before .before .before in
+    name-next (l .loop .inv) _ _ (name-is (c .before .before .before .before)) (c .before .before .read-name .ensures) (c .enum-told3 .given .1)
 
 enum-known-f-4 : tie.Need-enum-known-f-4 Inv-loop μ-loop
 enum-known-f-4 c = search needs
@@ -181,7 +240,10 @@ broken-requires-5 : tie.Need-broken-requires-5 Inv-loop μ-loop
 broken-requires-5 c κs = omega (arith, blank-room (c .before .before .before .before) .column)
 
 returns-6 : tie.Need-returns-6 Inv-loop μ-loop
-returns-6 c = c .broken5 .ensures ∙ blank-ill (c .before .before .before .before .before .before .before .before .loop .inv) _ _ (blank-is (c .before .before .before .before .before)) (c .before .before .before .read-blank .ensures) (c .before .enum-told6 .given .1)
+returns-6 c =
+    let d = c .before .before .before .before .before in
+    let l = d .before .before .before in
+    c .broken5 .ensures ∙ blank-ill (l .loop .inv) _ _ (blank-is d) (c .before .before .before .read-blank .ensures) (c .before .enum-told6 .given .1)
 
 add-j-4 : tie.Need-add-j-4 Inv-loop μ-loop
 add-j-4 c = omega (arith, blank-room (c .before .before .before .before))
@@ -190,7 +252,9 @@ loop-less-4 : tie.Need-loop-less-4 Inv-loop μ-loop
 loop-less-4 c = omega (arith, blank-room (c .before .before .before .before))
 
 loop-again-4 : tie.Need-loop-again-4 Inv-loop μ-loop
-loop-again-4 c = blank-next (c .before .before .before .before .before .before .before .loop .inv) _ _ (blank-is (c .before .before .before .before)) (c .before .before .read-blank .ensures) (c .enum-told5 .given .1)
+loop-again-4 c =
+    let l = c .before .before .before .before .before .before .before in
+    blank-next (l .loop .inv) _ _ (blank-is (c .before .before .before .before)) (c .before .before .read-blank .ensures) (c .enum-told5 .given .1)
 
 pub judge-record-spec : {M : Type 1} → statement M
 judge-record-spec =

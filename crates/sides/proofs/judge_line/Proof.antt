@@ -23,10 +23,12 @@ unlisted-requires-2 c κs = search needs
 returns-2 : tie.Need-returns-2
 returns-2 c =
     c .unlisted2 .ensures
-    ∙ line-right _ _ _ _ _ (c .before .before .before .before .side-listed .ensures) (c .before .before .before .if1 .left) (c .before .before .side-listed2 .ensures) (c .before .if2 .taken)
+    ∙ line-right _ _ _ _ _ (c .before .before .before .before .side-listed .ensures)
+    (c .before .before .before .if1 .left) (c .before .before .side-listed2 .ensures) (c .before .if2 .taken)
 
 returns-3 : tie.Need-returns-3
-returns-3 c = line-fine _ _ _ _ _ (c .before .before .before .side-listed .ensures) (c .before .before .if1 .left) (c .before .side-listed2 .ensures) (c .if2 .left)
+returns-3 c =
+    line-fine _ _ _ _ _ (c .before .before .before .side-listed .ensures) (c .before .before .if1 .left) (c .before .side-listed2 .ensures) (c .if2 .left)
 
 pub judge-line-spec : {M : Type 1} → statement M
 judge-line-spec =

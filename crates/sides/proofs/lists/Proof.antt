@@ -32,7 +32,11 @@ entry-is-requires : tie.Need-entry-is-requires Inv-loop μ-loop
 entry-is-requires c κs = search needs
 
 returns : tie.Need-returns Inv-loop μ-loop
-returns c = lists-hit _ _ _ _ (c .before .before .before .before .before .area-slots .ensures .0) _ (c .before .before .slot-of .ok) (c .before .before .slot-of .ensures) (c .before .entry-is .ensures) (c .before .before .before .loop-test .taken) (c .if1 .taken)
+returns c =
+    let s = c .before .before in
+    let a = s .before .before .before in
+    lists-hit _ _ _ _ (a .area-slots .ensures .0) _ (s .slot-of .ok) (s .slot-of .ensures)
+    (c .before .entry-is .ensures) (s .before .loop-test .taken) (c .if1 .taken)
 
 add-e : tie.Need-add-e Inv-loop μ-loop
 add-e c = search needs
@@ -41,7 +45,11 @@ loop-less : tie.Need-loop-less Inv-loop μ-loop
 loop-less c = search needs
 
 loop-again : tie.Need-loop-again Inv-loop μ-loop
-loop-again c = (search needs, lists-pass _ _ _ _ _ (c .before .before .slot-of .ok) (c .before .before .slot-of .ensures) (c .before .entry-is .ensures) (c .before .before .before .before .loop .inv .1) (c .if1 .left))
+loop-again c = (
+  search needs,
+  lists-pass _ _ _ _ _ (c .before .before .slot-of .ok) (c .before .before .slot-of .ensures)
+      (c .before .entry-is .ensures) (c .before .before .before .before .loop .inv .1) (c .if1 .left),
+)
 
 returns-2 : tie.Need-returns-2 Inv-loop μ-loop
 returns-2 c = lists-done _ _ _ _ (c .before .before .area-slots .ensures .0) _ (c .before .loop .inv .0) (c .loop-test .left) (c .before .loop .inv .1)

@@ -46,7 +46,15 @@ loop-less : tie.Need-loop-less Inv-loop μ-loop
 loop-less c = search needs
 
 loop-again : tie.Need-loop-again Inv-loop μ-loop
-loop-again c = (c .before .before .put-mark .kept .0 ∙ c .before .before .before .before .before .before .before .before .before .loop .inv .0, marked-more _ _ _ (c .before .before .before .before .before .before .before .slot-of .ok) (c .before .before .before .before .before .before .before .slot-of .ensures) (c .before .before .before .before .size .ensures) (c .before .before .before .before .before .natural .ensures) (c .before .before .before .mark-at .ensures) (c .before .before .before .before .before .before .before .before .before .before .area-slots .ensures .0) (c .before .before .before .before .before .before .before .before .loop-test .taken) (c .before .before .before .before .before .before .before .before .before .loop .inv .1) (c .before .before .put-mark .ensures))
+loop-again c =
+    let p = c .before .before in
+    let n = p .before .before .before in
+    let s = n .before .before in
+    let l = s .before .before in (
+      p .put-mark .kept .0 ∙ l .loop .inv .0,
+      marked-more _ _ _ (s .slot-of .ok) (s .slot-of .ensures) (p .before .before .size .ensures) (n .natural .ensures)
+          (p .before .mark-at .ensures) (l .before .area-slots .ensures .0) (s .before .loop-test .taken) (l .loop .inv .1) (p .put-mark .ensures),
+    )
 
 same-length : tie.Need-same-length Inv-loop μ-loop
 same-length c = c .before .loop .inv .0

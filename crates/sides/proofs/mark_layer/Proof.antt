@@ -32,7 +32,10 @@ loop-less : tie.Need-loop-less Inv-loop μ-loop
 loop-less c = search needs
 
 loop-again : tie.Need-loop-again Inv-loop μ-loop
-loop-again c = (c .before .before .mark-area .kept .1 .1 .0 ∙ c .before .before .before .before .before .before .loop .inv .0, c .before .before .mark-area .ensures)
+loop-again c =
+    let m = c .before .before in
+    let l = m .before .before .before .before in
+    (m .mark-area .kept .1 .1 .0 ∙ l .loop .inv .0, m .mark-area .ensures)
 
 same-length : tie.Need-same-length Inv-loop μ-loop
 same-length c = c .before .loop .inv .0

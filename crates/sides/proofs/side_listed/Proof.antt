@@ -20,7 +20,9 @@ has-entry-requires : tie.Need-has-entry-requires
 has-entry-requires c κs = search needs
 
 returns-2 : tie.Need-returns-2
-returns-2 c = side-area _ _ _ _ _ _ _ (c .before .before .before .before .value-at .ok) (c .before .before .before .before .value-at .ensures) (c .before .before .before .is-zero .ensures) (c .before .before .if1 .left) (c .before .area-of .ensures) (c .has-entry .ensures)
+returns-2 c =
+    side-area _ _ _ _ _ _ _ (c .before .before .before .before .value-at .ok) (c .before .before .before .before .value-at .ensures)
+    (c .before .before .before .is-zero .ensures) (c .before .before .if1 .left) (c .before .area-of .ensures) (c .has-entry .ensures)
 
 pub side-listed-spec : {M : Type 1} → statement M
 side-listed-spec =

@@ -51,8 +51,10 @@ loop-less c = search needs
 loop-again : tie.Need-loop-again Inv-loop μ-loop
 loop-again c =
     let l = c .before .before .before .before .before in
-    let p = not-false (c .before .pair .result) (c .if2 .left) in
-    (search needs, l .before .loop .inv .1 ∙ name-pair _ _ _ (l .loop-test .taken) (c .before .before .before .before .if1 .left) (c .before .pair .ensures) ∙ rw p)
+    let p = not-false (c .before .pair .result) (c .if2 .left) in (
+      search needs,
+      l .before .loop .inv .1 ∙ name-pair _ _ _ (l .loop-test .taken) (c .before .before .before .before .if1 .left) (c .before .pair .ensures) ∙ rw p,
+    )
 
 returns-3 : tie.Need-returns-3 Inv-loop μ-loop
 returns-3 c = sym (c .before .loop .inv .1 ∙ name-end _ _ (c .loop-test .left))

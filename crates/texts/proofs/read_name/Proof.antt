@@ -12,7 +12,9 @@ use Rattle.texts.proofs.read_name.Statement.{statement}
 use Rattle.texts.proofs.read_name.Tie as tie
 
 -- past the first test the field lies inside
-bounds : (c : tie.Else1) → (1 ≤ c .before .before .before .args .column) × (c .before .before .before .args .column - 1 + c .before .before .before .args .width ≤ length (now (c .before .before .before .args .s)))
+bounds : (c : tie.Else1)
+    → (1 ≤ c .before .before .before .args .column)
+    × (c .before .before .before .args .column - 1 + c .before .before .before .args .width ≤ length (now (c .before .before .before .args .s)))
 bounds c = passed _ _ _ _ (c .before .inside .ensures) (c .if1 .left)
 
 inside-requires : tie.Need-inside-requires
@@ -42,12 +44,14 @@ pairs-requires c κs = search needs
 returns-2 : tie.Need-returns-2
 returns-2 c =
     let n = not-true (c .before .pairs .result) (c .if2 .taken) in
-    rw n at (text-inside _ _ _ (c .before .before .before .before .inside .ensures) isName (not-false _ (c .before .before .before .if1 .left)) (c .before .pairs .ensures))
+    rw n at (text-inside _ _ _ (c .before .before .before .before .inside .ensures) isName
+    (not-false _ (c .before .before .before .if1 .left)) (c .before .pairs .ensures))
 
 returns-3 : tie.Need-returns-3
 returns-3 c =
     let n = not-false (c .before .pairs .result) (c .if2 .left) in
-    rw n at (text-inside _ _ _ (c .before .before .before .before .inside .ensures) isName (not-false _ (c .before .before .before .if1 .left)) (c .before .pairs .ensures))
+    rw n at (text-inside _ _ _ (c .before .before .before .before .inside .ensures) isName
+    (not-false _ (c .before .before .before .if1 .left)) (c .before .pairs .ensures))
 
 pub read-name-spec : {M : Type 1} → statement M
 read-name-spec =

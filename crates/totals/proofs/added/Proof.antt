@@ -72,7 +72,11 @@ returns-7 : tie.Need-returns-7
 returns-7 c = rw (c .before .enum-told6 .given .1) (c .one-more5 .ensures)
 
 returns-8 : tie.Need-returns-8
-returns-8 c = rw (c .before .before .before .d .given .1) (c .one-more6 .ensures ∙ later-loop (c .before .before .before .d .given .0 .0) (c .before .before .before .d .given .0 .1 .0) (c .before .before .before .d .given .0 .1 .1 .0) _ _ (c .before .if1 .left))
+returns-8 c =
+    rw (c .before .before .before .d .given .1)
+    (c .one-more6 .ensures
+    ∙ later-loop (c .before .before .before .d .given .0 .0) (c .before .before .before .d .given .0 .1 .0)
+    (c .before .before .before .d .given .0 .1 .1 .0) _ _ (c .before .if1 .left))
 
 pub added-spec : {M : Type 1} → statement M
 added-spec =

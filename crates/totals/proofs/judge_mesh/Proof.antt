@@ -26,7 +26,10 @@ enum-told-3 c = search needs
 
 returns-2 : tie.Need-returns-2
 unfolding meshTotals
-returns-2 c = part-passes fourth _ _ _ (c .before .before .before .enum-told2 .given .1) (c .before .before .before .before .before .judge-total .ensures) (part-stops fourth _ _ _ (c .enum-told3 .given .1) (c .before .before .judge-total2 .ensures))
+returns-2 c =
+    let j = c .before .before .before .before .before in
+    part-passes fourth _ _ _ (c .before .before .before .enum-told2 .given .1) (j .judge-total .ensures)
+    (part-stops fourth _ _ _ (c .enum-told3 .given .1) (c .before .before .judge-total2 .ensures))
 
 enum-told-4 : tie.Need-enum-told-4
 enum-told-4 c = search needs
@@ -39,7 +42,12 @@ enum-told-5 c = search needs
 
 returns-3 : tie.Need-returns-3
 unfolding meshTotals
-returns-3 c = part-passes fourth _ _ _ (c .before .before .before .before .before .before .enum-told2 .given .1) (c .before .before .before .before .before .before .before .before .judge-total .ensures) (part-passes fourth _ _ _ (c .before .before .before .enum-told4 .given .1) (c .before .before .before .before .before .judge-total2 .ensures) (part-stops fourth _ _ _ (c .enum-told5 .given .1) (c .before .before .judge-total3 .ensures)))
+returns-3 c =
+    let j = c .before .before .before .before .before in
+    let t = j .before .before .before in
+    part-passes fourth _ _ _ (j .before .enum-told2 .given .1) (t .judge-total .ensures)
+    (part-passes fourth _ _ _ (c .before .before .before .enum-told4 .given .1) (j .judge-total2 .ensures)
+    (part-stops fourth _ _ _ (c .enum-told5 .given .1) (c .before .before .judge-total3 .ensures)))
 
 enum-told-6 : tie.Need-enum-told-6
 enum-told-6 c = search needs
@@ -52,7 +60,13 @@ judge-total-requires-4 c κs = search needs
 
 returns-4 : tie.Need-returns-4
 unfolding meshTotals
-returns-4 c = part-passes fourth _ _ _ (c .before .before .before .before .before .before .before .before .enum-told2 .given .1) (c .before .before .before .before .before .before .before .before .before .before .judge-total .ensures) (part-passes fourth _ _ _ (c .before .before .before .before .before .enum-told4 .given .1) (c .before .before .before .before .before .before .before .judge-total2 .ensures) (part-passes fourth _ _ _ (c .before .before .enum-told6 .given .1) (c .before .before .before .before .judge-total3 .ensures) (rw (c .before .with-bearer .ensures) at (c .judge-total4 .ensures))))
+returns-4 c =
+    let e = c .before .before .before .before .before in
+    let t = e .before .before .before in
+    part-passes fourth _ _ _ (t .enum-told2 .given .1) (t .before .before .judge-total .ensures)
+    (part-passes fourth _ _ _ (e .enum-told4 .given .1) (e .before .before .judge-total2 .ensures)
+    (part-passes fourth _ _ _ (c .before .before .enum-told6 .given .1) (c .before .before .before .before .judge-total3 .ensures)
+    (rw (c .before .with-bearer .ensures) at (c .judge-total4 .ensures))))
 
 pub judge-mesh-spec : {M : Type 1} → statement M
 judge-mesh-spec =

@@ -82,10 +82,14 @@ enum-told-7 : tie.Need-enum-told-7
 enum-told-7 c = search needs
 
 returns : tie.Need-returns
-returns c = mesh-arm _ _ (c .before .before .before .enum-told .given .1) (c .before .record-view .ensures) (c .before .before .sums-behind .ensures .0) (c .judge-mesh .ensures)
+returns c =
+    mesh-arm _ _ (c .before .before .before .enum-told .given .1) (c .before .record-view .ensures)
+    (c .before .before .sums-behind .ensures .0) (c .judge-mesh .ensures)
 
 returns-2 : tie.Need-returns-2
-returns-2 c = layer-arm _ _ (c .before .before .before .before .enum-told2 .given .1) (c .before .before .record-view2 .ensures) (c .before .before .before .sums-behind2 .ensures .0) (c .before .with-bearer .ensures) (c .judge-total .ensures)
+returns-2 c =
+    layer-arm _ _ (c .before .before .before .before .enum-told2 .given .1) (c .before .before .record-view2 .ensures)
+    (c .before .before .before .sums-behind2 .ensures .0) (c .before .with-bearer .ensures) (c .judge-total .ensures)
 
 returns-3 : tie.Need-returns-3
 returns-3 c = rw (c .enum-told3 .given .1) (check-none fourth _)
@@ -97,7 +101,9 @@ returns-5 : tie.Need-returns-5
 returns-5 c = rw (c .enum-told5 .given .1) (check-none fourth _)
 
 returns-6 : tie.Need-returns-6
-returns-6 c = area-arm _ _ (c .before .before .before .enum-told6 .given .1) (c .before .record-view3 .ensures) (c .before .before .sums-behind3 .ensures .0) (c .judge-total2 .ensures)
+returns-6 c =
+    area-arm _ _ (c .before .before .before .enum-told6 .given .1) (c .before .record-view3 .ensures)
+    (c .before .before .sums-behind3 .ensures .0) (c .judge-total2 .ensures)
 
 returns-7 : tie.Need-returns-7
 returns-7 c = rw (c .enum-told7 .given .1) (check-none fourth _)

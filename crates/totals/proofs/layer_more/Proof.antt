@@ -25,7 +25,9 @@ add-u-4 : tie.Need-add-u-4
 add-u-4 c = search needs
 
 returns : tie.Need-returns
-returns c = rw (c .before .before .before .before .before .size-at .ensures .0, c .before .before .before .size-at2 .ensures .0, c .before .size-at3 .ensures .0)
+returns c =
+    let s = c .before .before .before .before .before in
+    rw (s .size-at .ensures .0, c .before .before .before .size-at2 .ensures .0, c .before .size-at3 .ensures .0)
 
 pub layer-more-spec : {M : Type 1} → statement M
 layer-more-spec =

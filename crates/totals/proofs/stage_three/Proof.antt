@@ -42,13 +42,20 @@ next-requires : tie.Need-next-requires Inv-loop μ-loop
 next-requires c κs = search needs
 
 judge-totals-requires : tie.Need-judge-totals-requires Inv-loop μ-loop
-judge-totals-requires c κs = (search needs, next-state _ _ (c .before .before .before .before .loop .inv .1) (rw (← c .before .record-view .ensures) (c .next .ensures)))
+judge-totals-requires c κs = (
+  search needs,
+  next-state _ _ (c .before .before .before .before .loop .inv .1) (rw (← c .before .record-view .ensures) (c .next .ensures)),
+)
 
 enum-told : tie.Need-enum-told Inv-loop μ-loop
 enum-told c = search needs
 
 returns : tie.Need-returns Inv-loop μ-loop
-returns c = three-stops _ (c .before .before .before .before .before .before .before .before .before .records-of .ensures .0) _ (c .enum-told .given .1) (rule-is _ _ (c .before .before .before .before .before .before .before .loop .inv .1) (c .before .before .before .before .before .due .ensures) (c .before .before .judge-totals .ensures)) (c .before .before .before .before .before .before .before .loop .inv .2) (c .before .before .before .before .before .before .loop-test .taken)
+returns c =
+    let d = c .before .before .before .before .before in
+    let l = d .before .before in
+    three-stops _ (l .before .before .records-of .ensures .0) _ (c .enum-told .given .1)
+    (rule-is _ _ (l .loop .inv .1) (d .due .ensures) (c .before .before .judge-totals .ensures)) (l .loop .inv .2) (d .before .loop-test .taken)
 
 enum-told-2 : tie.Need-enum-told-2 Inv-loop μ-loop
 enum-told-2 c = search needs
@@ -63,18 +70,26 @@ pass-quiet-requires : tie.Need-pass-quiet-requires Inv-loop μ-loop
 pass-quiet-requires c κs = search needs
 
 add-k-2 : tie.Need-add-k-2 Inv-loop μ-loop
-add-k-2 c = omega (arith, pass-most _ _ (c .before .before .pass-quiet .ensures .0), c .before .before .before .before .before .before .before .before .before .loop-test .taken, c .before .before .before .before .before .before .before .before .before .before .before .before .records-of .ensures .1)
+add-k-2 c =
+    let l = c .before .before .before .before .before .before .before .before .before .loop-test .taken in
+    let r = c .before .before .before .before .before .before .before .before .before .before .before .before .records-of .ensures .1 in
+    omega (arith, pass-most _ _ (c .before .before .pass-quiet .ensures .0), l, r)
 
 loop-less : tie.Need-loop-less Inv-loop μ-loop
 loop-less c = search needs
 
 loop-again : tie.Need-loop-again Inv-loop μ-loop
 loop-again c =
-    let e = next-state _ _ (c .before .before .before .before .before .before .before .before .before .before .loop .inv .1) (rw (c .before .before .before .before .before .before .before .record-view .ensures) at (c .before .before .before .before .before .before .next .ensures)) in
+    let j = c .before .before .before .before .before .judge-totals .ensures in
+    let n = c .before .before .before .before .before .before .next .ensures in
+    let r = c .before .before .before .before .before .before .before .record-view .ensures in
+    let d = c .before .before .before .before .before .before .before .before .due .ensures in
+    let l = c .before .before .before .before .before .before .before .before .before .before .loop .inv in
+    let e = next-state _ _ (l .1) (rw r at n) in
     let q = pass-are-quiet _ _ (c .before .before .pass-quiet .ensures .0) in (
       search needs,
       c .before .before .pass-quiet .ensures .1 ∙ passed-state _ _ e q _ (le-refl _),
-      three-quiet _ _ e q (rows-pass _ _ (c .before .before .before .before .before .before .before .before .before .before .loop .inv .2) (rule-is _ _ (c .before .before .before .before .before .before .before .before .before .before .loop .inv .1) (c .before .before .before .before .before .before .before .before .due .ensures) (c .before .before .before .before .before .judge-totals .ensures)) (c .before .before .before .enum-told2 .given .1)),
+      three-quiet _ _ e q (rows-pass _ _ (l .2) (rule-is _ _ (l .1) d j) (c .before .before .before .enum-told2 .given .1)),
     )
 
 returns-2 : tie.Need-returns-2 Inv-loop μ-loop

@@ -16,7 +16,8 @@ use Rattle.totals.proofs.sums_behind.Statement.{statement}
 use Rattle.totals.proofs.sums_behind.Tie as tie
 
 abbrev Inv-loop : tie.InvT-loop
-Inv-loop rank file k n sums₀ state₀ i₀ sums state i = (i ≤ 6399936) × (state ≡ stateAt file i) × (Addable i sums) × (sumsFrom rank file i (recordsOf file - i) sums ≡ sumsBehind rank file k)
+Inv-loop rank file k n sums₀ state₀ i₀ sums state i =
+    (i ≤ 6399936) × (state ≡ stateAt file i) × (Addable i sums) × (sumsFrom rank file i (recordsOf file - i) sums ≡ sumsBehind rank file k)
 
 abbrev μ-loop : tie.MeasureT-loop
 μ-loop rank file k n sums₀ state₀ i₀ sums state i = n - i
@@ -28,7 +29,12 @@ no-sums-requires : tie.Need-no-sums-requires Inv-loop μ-loop
 no-sums-requires c κs = search needs
 
 loop-holds : tie.Need-loop-holds Inv-loop μ-loop
-loop-holds c = (c .before .before .before .pre .0, c .before .before .before .pre .1, rw (c .no-sums .ensures) (none-addable _), rw (c .no-sums .ensures) (sums-start _ _ _))
+loop-holds c = (
+  c .before .before .before .pre .0,
+  c .before .before .before .pre .1,
+  rw (c .no-sums .ensures) (none-addable _),
+  rw (c .no-sums .ensures) (sums-start _ _ _),
+)
 
 due-requires : tie.Need-due-requires Inv-loop μ-loop
 due-requires c κs = search needs
@@ -37,7 +43,12 @@ rank-of-requires : tie.Need-rank-of-requires Inv-loop μ-loop
 rank-of-requires c κs = search needs
 
 returns : tie.Need-returns Inv-loop μ-loop
-returns c = (sums-stop _ _ _ (rw (c .before .before .before .before .before .before .records-of .ensures .0) at (c .before .before .before .loop-test .taken)) (c .before .before .before .before .loop .inv .1) (c .before .before .due .ensures) (c .before .rank-of .ensures) (c .if1 .taken) (c .before .before .before .before .loop .inv .3), most-addable _ (c .before .before .before .before .loop .inv .0) (c .before .before .before .before .loop .inv .2))
+returns c =
+    let l = c .before .before .before .before in (
+      sums-stop _ _ _ (rw (l .before .before .records-of .ensures .0) at (c .before .before .before .loop-test .taken))
+          (l .loop .inv .1) (c .before .before .due .ensures) (c .before .rank-of .ensures) (c .if1 .taken) (l .loop .inv .3),
+      most-addable _ (l .loop .inv .0) (l .loop .inv .2),
+    )
 
 add-record-view : tie.Need-add-record-view Inv-loop μ-loop
 add-record-view c = search needs
@@ -65,27 +76,58 @@ pass-quiet-requires c κs = search needs
 
 add-sums : tie.Need-add-sums Inv-loop μ-loop
 add-sums c =
-    let a = more-addable _ (c .before .before .before .before .before .before .before .before .before .due .result) (c .before .before .before .before .before .before .before .before .before .before .before .loop .sums) (now (c .before .before .before .before .before .before .record-view .result)) (c .before .before .before .before .before .added .ensures) (c .before .before .before .before .before .before .before .before .before .before .before .loop .inv .2) in
-    record { fits = omega (arith, a .records, pass-most _ _ (c .before .before .pass-quiet .ensures .0), c .before .before .before .room-for .ensures .0, c .before .before .before .before .before .before .before .before .before .before .loop-test .taken, c .before .before .before .before .before .before .before .before .before .before .before .before .before .records-of .ensures .1) }
+    let d = c .before .before .before .before .before .added .ensures in
+    let r = c .before .before .before .before .before .before .record-view .result in
+    let u = c .before .before .before .before .before .before .before .before .before .due .result in
+    let l = c .before .before .before .before .before .before .before .before .before .before .loop-test .taken in
+    let o = c .before .before .before .before .before .before .before .before .before .before .before .loop in
+    let e = c .before .before .before .before .before .before .before .before .before .before .before .before .before .records-of .ensures .1 in
+    let a = more-addable _ u (o .sums) (now r) d (o .inv .2) in
+    record {
+      fits = omega (arith, a .records, pass-most _ _ (c .before .before .pass-quiet .ensures .0), c .before .before .before .room-for .ensures .0, l, e);
+    }
 
 add-i-2 : tie.Need-add-i-2 Inv-loop μ-loop
-add-i-2 c = record { fits = omega (arith, pass-most _ _ (c .before .before .before .before .pass-quiet .ensures .0), c .before .before .before .before .before .room-for .ensures .0, c .before .before .before .before .before .before .before .before .before .before .before .before .loop-test .taken, c .before .before .before .before .before .before .before .before .before .before .before .before .before .before .before .records-of .ensures .1) }
+add-i-2 c =
+    let r = c .before .before .before .before .before .room-for .ensures .0 in
+    let l = c .before .before .before .before .before .before .before .before .before .before .before .before .loop-test .taken in
+    let o = c .before .before .before .before .before .before .before .before .before .before .before .before .before .before .before .records-of .ensures .1 in
+    record { fits = omega (arith, pass-most _ _ (c .before .before .before .before .pass-quiet .ensures .0), r, l, o) }
 
 loop-less : tie.Need-loop-less Inv-loop μ-loop
-loop-less c = omega (arith, pass-most _ _ (c .before .before .before .before .pass-quiet .ensures .0), c .before .before .before .before .before .room-for .ensures .0, c .before .before .before .before .before .before .before .before .before .before .before .before .loop-test .taken, c .before .before .before .before .before .before .before .before .before .before .before .before .before .before .before .records-of .ensures .1)
+loop-less c =
+    let r = c .before .before .before .before .before .room-for .ensures .0 in
+    let l = c .before .before .before .before .before .before .before .before .before .before .before .before .loop-test .taken in
+    let o = c .before .before .before .before .before .before .before .before .before .before .before .before .before .before .before .records-of .ensures .1 in
+    omega (arith, pass-most _ _ (c .before .before .before .before .pass-quiet .ensures .0), r, l, o)
 
 loop-again : tie.Need-loop-again Inv-loop μ-loop
 loop-again c =
-    let e = next-state _ _ (c .before .before .before .before .before .before .before .before .before .before .before .before .before .loop .inv .1) (rw (c .before .before .before .before .before .before .before .before .record-view .ensures) at (c .before .before .before .before .before .before .next .ensures)) in
+    let r = c .before .before .before .before .before .room-for .ensures in
+    let n = c .before .before .before .before .before .before .next .ensures in
+    let a = c .before .before .before .before .before .before .before .added .ensures in
+    let v = c .before .before .before .before .before .before .before .before .record-view in
+    let i = c .before .before .before .before .before .before .before .before .before .if1 .left in
+    let o = c .before .before .before .before .before .before .before .before .before .before .rank-of .ensures in
+    let d = c .before .before .before .before .before .before .before .before .before .before .before .due in
+    let t = c .before .before .before .before .before .before .before .before .before .before .before .before .loop-test .taken in
+    let p = c .before .before .before .before .before .before .before .before .before .before .before .before .before .loop in
+    let s = c .before .before .before .before .before .before .before .before .before .before .before .before .before .before .before .records-of .ensures in
+    let e = next-state _ _ (p .inv .1) (rw (v .ensures) at n) in
     let q = pass-are-quiet _ _ (c .before .before .before .before .pass-quiet .ensures .0) in (
-      omega (arith, pass-most _ _ (c .before .before .before .before .pass-quiet .ensures .0), c .before .before .before .before .before .room-for .ensures .0, c .before .before .before .before .before .before .before .before .before .before .before .before .loop-test .taken, c .before .before .before .before .before .before .before .before .before .before .before .before .before .before .before .records-of .ensures .1),
+      omega (arith, pass-most _ _ (c .before .before .before .before .pass-quiet .ensures .0), r .0, t, s .1),
       c .before .before .before .before .pass-quiet .ensures .1 ∙ passed-state _ _ e q _ (le-refl _),
-      quiet-addable _ _ (more-addable _ (c .before .before .before .before .before .before .before .before .before .before .before .due .result) (c .before .before .before .before .before .before .before .before .before .before .before .before .before .loop .sums) (now (c .before .before .before .before .before .before .before .before .record-view .result)) (c .before .before .before .before .before .before .before .added .ensures) (c .before .before .before .before .before .before .before .before .before .before .before .before .before .loop .inv .2)),
-      sums-quiet _ _ _ _ e q (λ l. c .before .before .before .before .before .room-for .ensures .1 (omega (arith, l, pass-most _ _ (c .before .before .before .before .pass-quiet .ensures .0)))) _ (le-refl _) (omega (arith, c .before .before .before .before .before .before .before .before .before .before .before .before .before .before .before .records-of .ensures .0, pass-most _ _ (c .before .before .before .before .pass-quiet .ensures .0), c .before .before .before .before .before .room-for .ensures .0, c .before .before .before .before .before .before .before .before .before .before .before .before .loop-test .taken, c .before .before .before .before .before .before .before .before .before .before .before .before .before .before .before .records-of .ensures .1)) (sums-more _ _ _ _ (rw (c .before .before .before .before .before .before .before .before .before .before .before .before .before .before .before .records-of .ensures .0) at (c .before .before .before .before .before .before .before .before .before .before .before .before .loop-test .taken)) (c .before .before .before .before .before .before .before .before .before .before .before .before .before .loop .inv .1) (c .before .before .before .before .before .before .before .before .before .before .before .due .ensures) (c .before .before .before .before .before .before .before .before .before .before .rank-of .ensures) (c .before .before .before .before .before .before .before .before .before .if1 .left) (c .before .before .before .before .before .before .before .before .record-view .ensures) (c .before .before .before .before .before .before .before .added .ensures) (c .before .before .before .before .before .before .before .before .before .before .before .before .before .loop .inv .3)),
+      quiet-addable _ _ (more-addable _ (d .result) (p .sums) (now (v .result)) a (p .inv .2)),
+      sums-quiet _ _ _ _ e q (λ l. r .1 (omega (arith, l, pass-most _ _ (c .before .before .before .before .pass-quiet .ensures .0)))) _
+          (le-refl _) (omega (arith, s .0, pass-most _ _ (c .before .before .before .before .pass-quiet .ensures .0), r .0, t, s .1))
+          (sums-more _ _ _ _ (rw (s .0) at t) (p .inv .1) (d .ensures) o i (v .ensures) a (p .inv .3)),
     )
 
 returns-2 : tie.Need-returns-2 Inv-loop μ-loop
-returns-2 c = (sums-end _ _ _ (rw (c .before .before .before .records-of .ensures .0) at (c .loop-test .left)) (c .before .loop .inv .3), most-addable _ (c .before .loop .inv .0) (c .before .loop .inv .2))
+returns-2 c = (
+  sums-end _ _ _ (rw (c .before .before .before .records-of .ensures .0) at (c .loop-test .left)) (c .before .loop .inv .3),
+  most-addable _ (c .before .loop .inv .0) (c .before .loop .inv .2),
+)
 
 pub sums-behind-spec : {M : Type 1} → statement M
 sums-behind-spec =

@@ -46,7 +46,14 @@ returns-6 c =
     let c3 = c4 .before .before in
     let c2 = c3 .before .before in
     let c1 = c2 .before .before in
-    simp (le-ltb _ _ (c1 .if1 .left), le-ltb _ _ (c2 .if2 .left), le-ltb _ _ (c3 .if3 .left), le-ltb _ _ (c4 .if4 .left), le-ltb _ _ (c5 .if5 .left), lt-ltb _ _ (c .if6 .taken))
+    simp (
+      le-ltb _ _ (c1 .if1 .left),
+      le-ltb _ _ (c2 .if2 .left),
+      le-ltb _ _ (c3 .if3 .left),
+      le-ltb _ _ (c4 .if4 .left),
+      le-ltb _ _ (c5 .if5 .left),
+      lt-ltb _ _ (c .if6 .taken),
+    )
 
 returns-7 : tie.Need-returns-7
 unfolding dueOf
@@ -57,7 +64,15 @@ returns-7 c =
     let c3 = c4 .before .before in
     let c2 = c3 .before .before in
     let c1 = c2 .before .before in
-    simp (le-ltb _ _ (c1 .if1 .left), le-ltb _ _ (c2 .if2 .left), le-ltb _ _ (c3 .if3 .left), le-ltb _ _ (c4 .if4 .left), le-ltb _ _ (c5 .if5 .left), le-ltb _ _ (c6 .if6 .left), lt-ltb _ _ (c .if7 .taken))
+    simp (
+      le-ltb _ _ (c1 .if1 .left),
+      le-ltb _ _ (c2 .if2 .left),
+      le-ltb _ _ (c3 .if3 .left),
+      le-ltb _ _ (c4 .if4 .left),
+      le-ltb _ _ (c5 .if5 .left),
+      le-ltb _ _ (c6 .if6 .left),
+      lt-ltb _ _ (c .if7 .taken),
+    )
 
 returns-8 : tie.Need-returns-8
 unfolding dueOf
@@ -68,7 +83,15 @@ returns-8 c =
     let c3 = c4 .before .before in
     let c2 = c3 .before .before in
     let c1 = c2 .before .before in
-    simp (le-ltb _ _ (c1 .if1 .left), le-ltb _ _ (c2 .if2 .left), le-ltb _ _ (c3 .if3 .left), le-ltb _ _ (c4 .if4 .left), le-ltb _ _ (c5 .if5 .left), le-ltb _ _ (c6 .if6 .left), le-ltb _ _ (c .if7 .left))
+    simp (
+      le-ltb _ _ (c1 .if1 .left),
+      le-ltb _ _ (c2 .if2 .left),
+      le-ltb _ _ (c3 .if3 .left),
+      le-ltb _ _ (c4 .if4 .left),
+      le-ltb _ _ (c5 .if5 .left),
+      le-ltb _ _ (c6 .if6 .left),
+      le-ltb _ _ (c .if7 .left),
+    )
 
 pub due-spec : {M : Type 1} → statement M
 due-spec =

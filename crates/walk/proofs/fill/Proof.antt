@@ -37,8 +37,12 @@ no-counts-requires c κs = search needs
 loop-holds : tie.Need-loop-holds Inv-loop μ-loop
 loop-holds c =
     let r = c .before .before .before .before in
-    let a = r .before .before .before in
-    (search needs, c .before .at-start .ensures ∙ at-none _, c .no-counts .ensures ∙ counts-none _, none-filled _ _ (r .records-of .ensures .0) (a .pre .0) (a .pre .1))
+    let a = r .before .before .before in (
+      search needs,
+      c .before .at-start .ensures ∙ at-none _,
+      c .no-counts .ensures ∙ counts-none _,
+      none-filled _ _ (r .records-of .ensures .0) (a .pre .0) (a .pre .1),
+    )
 
 add-record-view : tie.Need-add-record-view Inv-loop μ-loop
 add-record-view c = search needs
@@ -60,7 +64,8 @@ put-record-requires c κs =
     let l = c .before .before .before .before in
     let r = l .before .before .before .before .before in
     let a = r .before .before .before in
-    room-left _ _ (r .records-of .ensures .0) (a .pre .0) (a .pre .1) _ (c .before .before .before .loop-test .taken) (c .before .due .ensures ∙ ap dueOf (l .loop .inv .1)) (l .loop .inv .2) (l .loop .inv .3)
+    room-left _ _ (r .records-of .ensures .0) (a .pre .0) (a .pre .1) _ (c .before .before .before .loop-test .taken)
+    (c .before .due .ensures ∙ ap dueOf (l .loop .inv .1)) (l .loop .inv .2) (l .loop .inv .3)
 
 counted-requires : tie.Need-counted-requires Inv-loop μ-loop
 counted-requires c κs = rw (c .before .before .before .before .before .before .before .loop .inv .2) (countable _ _ (search needs))
@@ -80,13 +85,25 @@ pass-quiet-requires : tie.Need-pass-quiet-requires Inv-loop μ-loop
 pass-quiet-requires c κs = search needs
 
 -- the state and the counts behind the record
-behind : (c : tie.After-next Inv-loop μ-loop) → (c .next .result ≡ stateAt (now (c .before .before .before .before .before .before .before .before .before .before .before .before .before .before .before .before .before .args .file)) (c .before .before .before .before .before .before .before .before .before .loop .k + 1)) × (c .before .counted .result ≡ countsAt (now (c .before .before .before .before .before .before .before .before .before .before .before .before .before .before .before .before .before .args .file)) (c .before .before .before .before .before .before .before .before .before .loop .k + 1))
+behind : (c : tie.After-next Inv-loop μ-loop)
+    → (c .next .result
+    ≡ stateAt
+    (now
+    (c .before .before .before .before .before .before .before .before .before .before .before .before .before .before .before .before .before .args .file))
+    (c .before .before .before .before .before .before .before .before .before .loop .k + 1))
+    × (c .before .counted .result
+    ≡ countsAt
+    (now
+    (c .before .before .before .before .before .before .before .before .before .before .before .before .before .before .before .before .before .args .file))
+    (c .before .before .before .before .before .before .before .before .before .loop .k + 1))
 behind c =
     let n = c .before in
     let v = n .before .before .before .before .before in
     let l = v .before .before .before in
-    let t = v .before .record-view .ensures in
-    (next-state _ _ (l .loop .inv .1) (rw t at (c .next .ensures)), next-counts _ _ (l .loop .inv .2) (v .due .ensures ∙ ap dueOf (l .loop .inv .1)) (rw t at (n .counted .ensures)))
+    let t = v .before .record-view .ensures in (
+      next-state _ _ (l .loop .inv .1) (rw t at (c .next .ensures)),
+      next-counts _ _ (l .loop .inv .2) (v .due .ensures ∙ ap dueOf (l .loop .inv .1)) (rw t at (n .counted .ensures)),
+    )
 
 counted-past-requires : tie.Need-counted-past-requires Inv-loop μ-loop
 counted-past-requires c κs =
@@ -118,7 +135,9 @@ loop-again c =
     let b = behind x in
     let q = p .pass-quiet .ensures in
     let u = pass-are-quiet _ _ (q .0) in
-    let f = one-filled _ _ (r .records-of .ensures .0) (a .pre .0) (a .pre .1) _ (h .loop-test .taken) (v .due .ensures ∙ ap dueOf (l .loop .inv .1)) (l .loop .inv .2) (l .loop .inv .3) (v .before .record-view .ensures) (w .put-record .ensures) in (
+    let f =
+    one-filled _ _ (r .records-of .ensures .0) (a .pre .0) (a .pre .1) _ (h .loop-test .taken) (v .due .ensures ∙ ap dueOf (l .loop .inv .1))
+    (l .loop .inv .2) (l .loop .inv .3) (v .before .record-view .ensures) (w .put-record .ensures) in (
       omega (arith, h .loop-test .taken, pass-most _ _ (q .0)),
       q .1 ∙ passed-state _ _ (b .0) u _ (le-refl _),
       g .counted-past .ensures ∙ passed-counts _ _ (b .0) u _ (le-refl _) (b .1),

@@ -13,7 +13,9 @@ enum-told : tie.Need-enum-told
 enum-told c = search needs
 
 returns : tie.Need-returns
-returns c = let v = early-broken _ (c .before .before .before .walk-file .ensures) _ (c .enum-told .given .1) in (tabled-is _ _ (c .before .before .before .walk-file .ensures) v, untouched _ _ v (c .enum-told .given .1))
+returns c =
+    let v = early-broken _ (c .before .before .before .walk-file .ensures) _ (c .enum-told .given .1) in
+    (tabled-is _ _ (c .before .before .before .walk-file .ensures) v, untouched _ _ v (c .enum-told .given .1))
 
 enum-told-2 : tie.Need-enum-told-2
 enum-told-2 c = search needs
@@ -22,16 +24,26 @@ too-short-requires : tie.Need-too-short-requires
 too-short-requires c κs = search needs
 
 returns-2 : tie.Need-returns-2
-returns-2 c = let v = short _ (c .before .before .before .before .before .before .walk-file .ensures) (c .before .before .before .enum-told2 .given .1) (length (now (c .before .before .before .before .before .before .before .before .before .args .table))) (search needs) (c .too-short .ensures) in (tabled-is _ _ (c .before .before .before .before .before .before .walk-file .ensures) v, untouched _ _ v (c .too-short .ensures))
+returns-2 c =
+    let w = c .before .before .before .before .before .before .walk-file .ensures in
+    let a = c .before .before .before .before .before .before .before .before .before .args .table in
+    let v = short _ w (c .before .before .before .enum-told2 .given .1) (length (now a)) (search needs) (c .too-short .ensures) in
+    (tabled-is _ _ w v, untouched _ _ v (c .too-short .ensures))
 
 fill-requires : tie.Need-fill-requires
-fill-requires c κs = (all-counted _ (c .before .before .before .before .before .before .walk-file .ensures) (c .before .before .before .enum-told2 .given .1), room-enough _ (c .before .before .before .before .before .before .walk-file .ensures) (c .before .before .before .enum-told2 .given .1) _ (search needs))
+fill-requires c κs =
+    let w = c .before .before .before .before .before .before .walk-file .ensures in
+    (all-counted _ w (c .before .before .before .enum-told2 .given .1), room-enough _ w (c .before .before .before .enum-told2 .given .1) _ (search needs))
 
 same-length : tie.Need-same-length
 same-length c = search needs
 
 returns-3 : tie.Need-returns-3
-returns-3 c = let v = long-enough _ (c .before .before .before .before .before .before .before .before .before .walk-file .ensures) (c .before .before .before .before .before .before .enum-told2 .given .1) (length (now (c .before .before .before .before .before .before .before .before .before .before .before .before .args .table))) (search needs) in (tabled-is _ _ (c .before .before .before .before .before .before .before .before .before .walk-file .ensures) v, table-stands _ _ v (c .before .before .before .before .before .before .enum-told2 .given .1) (c .before .before .fill .ensures))
+returns-3 c =
+    let e = c .before .before .before .before .before .before .enum-told2 .given .1 in
+    let w = c .before .before .before .before .before .before .before .before .before .walk-file .ensures in
+    let a = c .before .before .before .before .before .before .before .before .before .before .before .before .args .table in
+    let v = long-enough _ w e (length (now a)) (search needs) in (tabled-is _ _ w v, table-stands _ _ v e (c .before .before .fill .ensures))
 
 pub fill-table-spec : {M : Type 1} → statement M
 fill-table-spec =

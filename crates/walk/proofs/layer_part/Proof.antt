@@ -16,7 +16,8 @@ size-at-requires-4 : tie.Need-size-at-requires-4
 size-at-requires-4 c κs = search needs
 
 returns : tie.Need-returns
-returns c = simp (c .before .before .before .size-at .ensures .0, c .before .before .size-at2 .ensures .0, c .before .size-at3 .ensures .0, c .size-at4 .ensures .0)
+returns c =
+    simp (c .before .before .before .size-at .ensures .0, c .before .before .size-at2 .ensures .0, c .before .size-at3 .ensures .0, c .size-at4 .ensures .0)
 
 pub layer-part-spec : {M : Type 1} → statement M
 layer-part-spec =

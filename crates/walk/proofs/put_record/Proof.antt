@@ -28,8 +28,10 @@ mul-put-row c =
 put-row-requires : tie.Need-put-row-requires
 put-row-requires c κs =
     let a = c .before .before .before .before .before in
-    let r = rw (a .enum-told2 .given .1) at (a .before .before .before .before .pre .room) in
-    (omega (arith, r), (c .before .before .before .before .size-at .ensures .1, c .before .before .before .size-at2 .ensures .1, c .before .before .size-at3 .ensures .1))
+    let r = rw (a .enum-told2 .given .1) at (a .before .before .before .before .pre .room) in (
+      omega (arith, r),
+      (c .before .before .before .before .size-at .ensures .1, c .before .before .before .size-at2 .ensures .1, c .before .before .size-at3 .ensures .1),
+    )
 
 enum-told-3 : tie.Need-enum-told-3
 enum-told-3 c = search needs
@@ -92,7 +94,8 @@ returns-2 : tie.Need-returns-2
 returns-2 c =
     let z = c .before .before .before .before .before in
     let a = z .before .before .before in
-    rw (a .enum-told2 .given .1, ← z .before .before .size-at .ensures .0, ← z .before .size-at2 .ensures .0, ← z .size-at3 .ensures .0) (c .before .before .put-row .ensures)
+    rw (a .enum-told2 .given .1, ← z .before .before .size-at .ensures .0, ← z .before .size-at2 .ensures .0, ← z .size-at3 .ensures .0)
+    (c .before .before .put-row .ensures)
 
 returns-3 : tie.Need-returns-3
 returns-3 c = rw (c .enum-told3 .given .1)

@@ -46,7 +46,8 @@ returns c =
     let t = a .before in
     let l = t .before .before in
     let n = l .before in
-    one-stops _ (n .records-of .ensures .0) _ (c .enum-told .given .1) (end-is _ _ (t .record-view .ensures) (a .judge-end .ensures)) (l .loop .inv .1) (search needs)
+    one-stops _ (n .records-of .ensures .0) _ (c .enum-told .given .1)
+    (end-is _ _ (t .record-view .ensures) (a .judge-end .ensures)) (l .loop .inv .1) (search needs)
 
 enum-told-2 : tie.Need-enum-told-2 Inv-loop μ-loop
 enum-told-2 c = search needs

@@ -66,7 +66,8 @@ returns c =
     let l = t .before .before in
     let n = l .before .before .before in
     walked-broken _ (e .enum-told .given .1)
-    (two-stops _ (n .records-of .ensures .0) _ (e .enum-told .given .1) (rule-is _ _ (l .loop .inv .1) (d .due .ensures) (t .record-view .ensures) (a .judge-record .ensures)) (l .loop .inv .3) (search needs))
+    (two-stops _ (n .records-of .ensures .0) _ (e .enum-told .given .1)
+    (rule-is _ _ (l .loop .inv .1) (d .due .ensures) (t .record-view .ensures) (a .judge-record .ensures)) (l .loop .inv .3) (search needs))
     (c .refused .ensures)
 
 enum-told-2 : tie.Need-enum-told-2 Inv-loop μ-loop
@@ -79,7 +80,10 @@ next-requires : tie.Need-next-requires Inv-loop μ-loop
 next-requires c κs = search needs
 
 add-k : tie.Need-add-k Inv-loop μ-loop
-add-k c = omega (arith, c .before .before .before .before .before .before .before .loop-test .taken, c .before .before .before .before .before .before .before .before .before .before .before .records-of .ensures .1)
+add-k c =
+    let l = c .before .before .before .before .before .before .before .loop-test .taken in
+    let r = c .before .before .before .before .before .before .before .before .before .before .before .records-of .ensures .1 in
+    omega (arith, l, r)
 
 fine-ahead-requires : tie.Need-fine-ahead-requires Inv-loop μ-loop
 fine-ahead-requires c κs =
@@ -93,7 +97,13 @@ add-k-2 : tie.Need-add-k-2 Inv-loop μ-loop
 add-k-2 c =
     let p = c .before .before in
     let l = p .before .before .before .before .before .before .before .before .before in
-    omega (arith, l .loop-test .taken, pass-most _ _ (p .pass-quiet .ensures .0), found-most _ _ _ _ (p .before .fine-ahead .ensures), l .before .before .before .before .records-of .ensures .1)
+    omega (
+      arith,
+      l .loop-test .taken,
+      pass-most _ _ (p .pass-quiet .ensures .0),
+      found-most _ _ _ _ (p .before .fine-ahead .ensures),
+      l .before .before .before .before .records-of .ensures .1,
+    )
 
 loop-less : tie.Need-loop-less Inv-loop μ-loop
 loop-less c = omega (arith, c .before .before .before .before .before .before .before .before .before .before .before .loop-test .taken)
@@ -119,7 +129,8 @@ loop-again c =
       omega (arith, t .before .loop-test .taken, m, found-most _ _ _ _ (f .fine-ahead .ensures)),
       g .1 ∙ passed-state _ _ s u _ (le-refl _),
       past-counts _ (x .next .result) _ (λ i. o .left (omega (arith, m))) ∙ passed-counts _ _ s u _ (le-refl _) n,
-      fine-rows _ _ s u o m (rows-pass _ _ (l .loop .inv .3) (rule-is _ _ (l .loop .inv .1) (d .due .ensures) r (a .judge-record .ensures)) (e .enum-told2 .given .1)),
+      fine-rows _ _ s u o m
+          (rows-pass _ _ (l .loop .inv .3) (rule-is _ _ (l .loop .inv .1) (d .due .ensures) r (a .judge-record .ensures)) (e .enum-told2 .given .1)),
     )
 
 due-requires-2 : tie.Need-due-requires-2 Inv-loop μ-loop

@@ -39,7 +39,9 @@ loop-again : tie.Need-loop-again Inv-loop μ-loop
 loop-again c = (
   simp length-set (c .before .before .loop .inv .0),
   omega arith,
-  rw (add-one, c .before .before .loop .inv .2) (paste-suc (now (c .before .before .before .args .buf)) (c .before .before .before .args .at) (now (c .before .before .before .args .bytes)) (c .before .before .loop .i) 0 (omega arith) (c .before .loop-test .taken)),
+  rw (add-one, c .before .before .loop .inv .2)
+      (paste-suc (now (c .before .before .before .args .buf)) (c .before .before .before .args .at)
+      (now (c .before .before .before .args .bytes)) (c .before .before .loop .i) 0 (omega arith) (c .before .loop-test .taken)),
 )
 
 same-length : tie.Need-same-length Inv-loop μ-loop

@@ -46,7 +46,9 @@ loop-again c =
     let l = c .before .before .before in (
       simp length-set (l .loop .inv .0),
       omega arith,
-      l .loop .inv .2 ∙ rw (c .before .last-of .ensures, c .rest-of .ensures) (fill-step (l .loop .buf) (l .before .before .args .at) (l .loop .k) (l .loop .l) (c .before .before .loop-test .taken) (omega arith)),
+      l .loop .inv .2
+          ∙ rw (c .before .last-of .ensures, c .rest-of .ensures)
+          (fill-step (l .loop .buf) (l .before .before .args .at) (l .loop .k) (l .loop .l) (c .before .before .loop-test .taken) (omega arith)),
     )
 
 same-length : tie.Need-same-length Inv-loop μ-loop
@@ -54,7 +56,8 @@ same-length c = c .before .loop .inv .0
 
 returns : tie.Need-returns Inv-loop μ-loop
 returns c =
-    sym (c .before .loop .inv .2 ∙ fill-done (c .before .loop .buf) (c .before .before .before .args .at) (c .before .loop .k) (c .before .loop .l) (c .loop-test .left))
+    sym (c .before .loop .inv .2
+    ∙ fill-done (c .before .loop .buf) (c .before .before .before .args .at) (c .before .loop .k) (c .before .loop .l) (c .loop-test .left))
 
 pub fill-spec : {M : Type 1} → statement M
 fill-spec =

@@ -40,7 +40,8 @@ same-length-2 c = search needs
 returns-2 : tie.Need-returns-2
 returns-2 c =
     let e = c .before .before .before .before in
-    wrote-all _ _ _ _ (sym (e .before .inside .ensures) ∙ not-false _ (e .if1 .left)) _ _ (length-replicate (start e .args .width) 32) (c .before .before .fill .ensures ∙ rw blanks-are)
+    wrote-all _ _ _ _ (sym (e .before .inside .ensures) ∙ not-false _ (e .if1 .left)) _ _
+    (length-replicate (start e .args .width) 32) (c .before .before .fill .ensures ∙ rw blanks-are)
 
 pub write-blank-spec : {M : Type 1} → statement M
 write-blank-spec =

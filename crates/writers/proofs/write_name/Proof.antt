@@ -44,7 +44,8 @@ returns-3 : tie.Need-returns-3
 returns-3 c =
     let i = c .before .before .before .before in
     wrote-nothing _ _ _ _
-    (name-fit _ _ _ (i .inside .ensures) _ (not-false _ (c .before .before .before .if1 .left)) (c .before .before .if2 .left) (c .before .pairs .ensures) ∙ not-true _ (c .if3 .taken))
+    (name-fit _ _ _ (i .inside .ensures) _ (not-false _ (c .before .before .before .if1 .left)) (c .before .before .if2 .left) (c .before .pairs .ensures)
+    ∙ not-true _ (c .if3 .taken))
 
 sub-copy : tie.Need-sub-copy
 sub-copy c = let p = bounds (c .before .before .before .before) in omega arith
@@ -60,7 +61,8 @@ returns-4 c =
     let e = c .before .before .before .before in
     let i = e .before .before .before .before in
     wrote-all _ _ _ _
-    (name-fit _ _ _ (i .inside .ensures) _ (not-false _ (e .before .before .before .if1 .left)) (e .before .before .if2 .left) (e .before .pairs .ensures) ∙ not-false _ (e .if3 .left))
+    (name-fit _ _ _ (i .inside .ensures) _ (not-false _ (e .before .before .before .if1 .left)) (e .before .before .if2 .left) (e .before .pairs .ensures)
+    ∙ not-false _ (e .if3 .left))
     _ _ refl (c .before .before .copy .ensures)
 
 pub write-name-spec : {M : Type 1} → statement M

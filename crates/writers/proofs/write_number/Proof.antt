@@ -32,8 +32,13 @@ ranged : (c : tie.After-in-range) → c .in-range .result ≡ holds (start (c .b
 ranged c = c .in-range .ensures ∙ ap (holds (start (c .before) .args .width)) (toZ-ofZ (start (c .before) .fits .value))
 
 -- past the second test the value fits
-fits : (c : tie.Else2) → numberFits (now (start (c .before .before) .args .buf)) (start (c .before .before) .args .column) (start (c .before .before) .args .width) (start (c .before .before) .args .value) ≡ true
-fits c = number-fit _ _ _ (c .before .before .before .inside .ensures) _ (not-false _ (c .before .before .if1 .left)) (ranged (c .before)) ∙ not-false _ (c .if2 .left)
+fits : (c : tie.Else2)
+    → numberFits (now (start (c .before .before) .args .buf)) (start (c .before .before) .args .column)
+    (start (c .before .before) .args .width) (start (c .before .before) .args .value)
+    ≡ true
+fits c =
+    number-fit _ _ _ (c .before .before .before .inside .ensures) _ (not-false _ (c .before .before .if1 .left)) (ranged (c .before))
+    ∙ not-false _ (c .if2 .left)
 
 -- what is to be written is the value
 left-is : (c : tie.After-left-of) → c .left-of .result ≡ leftOf (start (c .before .before .before .before) .args .value)
@@ -56,7 +61,9 @@ same-length-2 c = search needs
 
 returns-2 : tie.Need-returns-2
 returns-2 c =
-    wrote-nothing _ _ _ _ (number-fit _ _ _ (c .before .before .before .inside .ensures) _ (not-false _ (c .before .before .if1 .left)) (ranged (c .before)) ∙ not-true _ (c .if2 .taken))
+    wrote-nothing _ _ _ _
+    (number-fit _ _ _ (c .before .before .before .inside .ensures) _ (not-false _ (c .before .before .if1 .left)) (ranged (c .before))
+    ∙ not-true _ (c .if2 .taken))
 
 sub-fill : tie.Need-sub-fill
 sub-fill c = let p = bounds (c .before .before .before) in omega arith
@@ -76,7 +83,8 @@ returns-3 : tie.Need-returns-3
 returns-3 c =
     let f = c .before .before in
     let s = start (f .before .before .before .before .before) in
-    wrote-all _ _ _ _ (fits (f .before .before .before)) _ _ (spell-length _ _) (f .fill .ensures ∙ rw (spell-is (s .args .width) (s .args .value) (left-is (f .before))))
+    wrote-all _ _ _ _ (fits (f .before .before .before)) _ _ (spell-length _ _)
+    (f .fill .ensures ∙ rw (spell-is (s .args .width) (s .args .value) (left-is (f .before))))
 
 pub write-number-spec : {M : Type 1} → statement M
 write-number-spec =
