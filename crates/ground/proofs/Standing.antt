@@ -20,7 +20,7 @@ use Rattle.measures.proofs.SumLaws.{sumTo-ext}
 use Rattle.entries.specs.Entries.{slotOf, entriesTo, slotsOf}
 use Rattle.entries.specs.Loops.{measureOf}
 use Rattle.entries.proofs.Rows.{row-known, row-own, row-there, row-once, area-row}
-use Rattle.loops.specs.Loops.{repeatsArea, rightArea}
+use Rattle.loops.specs.Loops.{repeatsArea, areaOnHand}
 use Rattle.sides.specs.Sides.{lists}
 use Rattle.ground.specs.Layers.{areaOfLayer, areasSum, leftAreaOf, rightAreaOf, outsideSum}
 use Rattle.ground.specs.Standing.{LineKept, LayerKept}
@@ -43,11 +43,11 @@ sized true a v h = refl
 sized false a v h = and-both (natural v) (eqb (size v) a) h .1
 
 -- the area on the entry's right hand is a
-slot-own : (file t : List ℕ) (l : Layer) (a : ℕ) (v : ℤ) → (isZero v || is a (rightArea file t l v)) ≡ true
+slot-own : (file t : List ℕ) (l : Layer) (a : ℕ) (v : ℤ) → (isZero v || is a (areaOnHand file t l v)) ≡ true
     → (isZero v || eqb (cond (natural v) (rightAreaOf file t l (size v)) (leftAreaOf file t l (size v))) a) ≡ true
-unfolding rightArea rightAreaOf leftAreaOf lineOf namesLine
-slot-own file t l a (pos n) h = sized (isZero (pos n)) a (rightArea file t l (pos n)) h
-slot-own file t l a (negsuc n) h = sized (isZero (negsuc n)) a (rightArea file t l (negsuc n)) h
+unfolding areaOnHand rightAreaOf leftAreaOf lineOf namesLine
+slot-own file t l a (pos n) h = sized (isZero (pos n)) a (areaOnHand file t l (pos n)) h
+slot-own file t l a (negsuc n) h = sized (isZero (negsuc n)) a (areaOnHand file t l (negsuc n)) h
 
 -- an entry of area a, by its line's side
 there : (file t : List ℕ) (l : Layer) (a : ℕ) → 0 < a → ((n : ℕ) → 0 < n → n ≤ l .lines → LineKept file t l n)

@@ -12,7 +12,7 @@ use Rattle.permitted.specs.Permitted.{is, isZero}
 use Rattle.layers.specs.declared.Layer.{Layer}
 use Rattle.layers.specs.Naming.{namesLine, areaOf}
 use Rattle.entries.specs.Entries.{slotOf, slotsOf}
-use Rattle.loops.specs.Loops.{repeatsArea, rightArea}
+use Rattle.loops.specs.Loops.{repeatsArea, areaOnHand}
 use Rattle.sides.specs.Sides.{lists}
 use Rattle.ground.specs.Layers.{leftAreaOf, rightAreaOf}
 
@@ -27,7 +27,7 @@ pub record LineKept (file t : List ℕ) (l : Layer) (n : ℕ) : Type 0 where
 pub record SlotKept (file t : List ℕ) (l : Layer) (a x e : ℕ) : Type 0 where
   pub known : (isZero (slotOf file (x + 1) e) || namesLine (l .lines) (slotOf file (x + 1) e)) ≡ true
   pub once : (isZero (slotOf file (x + 1) e) || not (repeatsArea file x e)) ≡ true
-  pub own : (isZero (slotOf file (x + 1) e) || is a (rightArea file t l (slotOf file (x + 1) e))) ≡ true
+  pub own : (isZero (slotOf file (x + 1) e) || is a (areaOnHand file t l (slotOf file (x + 1) e))) ≡ true
 
 pub record LayerKept (file t : List ℕ) (l : Layer) : Type 0 where
   pub lines : (n : ℕ) → 0 < n → n ≤ l .lines → LineKept file t l n

@@ -24,7 +24,7 @@ use Rattle.walk.specs.Stages.{recordsOf, endChecks, lengthChecks, stageOne, las
 use Rattle.walk.specs.Table.{gather, tableOf}
 use Rattle.totals.specs.Totals.{sumsFrom, sumsBehind, meshTotals, layerTotals, areaTotals, stageThree}
 use Rattle.layers.specs.Naming.{wordsBefore, layerIn, names, namesLine, nodeOf, lineOf, areaOf}
-use Rattle.links.specs.Links.{equal, entryIs, some, nodeEntry, endNode, meets, repeatsNode, nodeSlot, nodeChecks, listed, linkFits, lineEndChecks}
+use Rattle.links.specs.Links.{equal, entryIs, some, nodeEntry, firstNode, meets, repeatsNode, nodeSlot, nodeChecks, listed, linkFits, lineEndChecks}
 use Rattle.links.specs.Links.{sideChecks, lineChecks, atNode, firstPointChecks, lastPointChecks, pointChecks, loopEntry, entryChecks, stageFour}
 use Rattle.layers.specs.Passing.{basesOf, layerAt}
 use Rattle.measures.specs.Sum.{sum, upTo}
@@ -32,7 +32,8 @@ use Rattle.measures.specs.Measures.{steps, lineMeasure, loopMeasure, areaMeasur
 use Rattle.measures.specs.Points.{coordinateIn, pairBy, pointBy, pointCount, firstOf, pointsBy, measureBy}
 use Rattle.entries.specs.Entries.{slotOf, entriesTo, recordsFor, countAt, loopsAt, recordsTo, slotsOf, loopAt, loopsTo}
 use Rattle.entries.specs.Loops.{measureOf, loopMeasureIn, areaMeasureIn}
-use Rattle.loops.specs.Loops.{repeatsArea, lastNode, entryBefore, joins, rightArea, loopSlot, winds, windChecks, firstRecord, areaRecord, loopChecks, stageFive}
+use Rattle.loops.specs.Loops.{repeatsArea, lastNode, entryBefore, joins, areaOnHand, loopSlot}
+use Rattle.loops.specs.Loops.{winds, windChecks, firstRecord, areaRecord, loopChecks, stageFive}
 use Rattle.sides.specs.Sides.{lists, sideListed, listChecks, stageSix}
 use Rattle.ground.specs.Layers.{areaOfLayer, areasSum, leftAreaOf, rightAreaOf, outsideSum, measuresTo}
 use Rattle.judge.specs.Rulebook.{late, rulesOf, measureRule, layerRule, verdictOf, sumsVerdict}
@@ -59,10 +60,10 @@ unfolding walking isName isBlanks textAt layoutOf faultOf within isMeshCode foll
     isLineKind isLink isCode isSide isAreaCode isSlot isPoint isNext isLoopSerial from meshAsks layerAsks nodeAsks lineAsks coordinateAsks
     areaAsks loopAsks asksOf askedOf formChecks valueChecks along checksOf firstBroken block rows endChecks lengthChecks stageOne lastChecks
     stageTwo wordsOf roomRule early sumsFrom sumsBehind meshTotals layerTotals areaTotals stageThree gather tableOf numberIn slotStart spread wordsBefore
-    layerIn names namesLine nodeOf lineOf areaOf equal entryIs some nodeEntry endNode meets repeatsNode nodeSlot nodeChecks listed linkFits
+    layerIn names namesLine nodeOf lineOf areaOf equal entryIs some nodeEntry firstNode meets repeatsNode nodeSlot nodeChecks listed linkFits
     lineEndChecks sideChecks lineChecks atNode firstPointChecks lastPointChecks pointChecks loopEntry entryChecks layerAt stageFour
     coordinateIn pairBy pointBy pointCount firstOf pointsBy measureBy sum steps lineMeasure loopMeasure slotOf entriesTo recordsFor countAt
-    loopsAt recordsTo slotsOf loopAt measureOf loopMeasureIn repeatsArea lastNode entryBefore joins rightArea loopSlot winds windChecks
+    loopsAt recordsTo slotsOf loopAt measureOf loopMeasureIn repeatsArea lastNode entryBefore joins areaOnHand loopSlot winds windChecks
     firstRecord areaRecord loopChecks stageFive lists sideListed listChecks stageSix basesOf late rulesOf measureRule verdictOf
 judging = tt
 

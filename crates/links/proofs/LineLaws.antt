@@ -28,16 +28,16 @@ use Rattle.links.proofs.Scans.{some-none, some-more, some-hit, slotRule
 -- ---- answers
 
 -- the i32 z fits, as a call's answer does
-abbrev pub Small : ℤ → Type 0
-Small z = mag z < 2 ^ hbits w32
+abbrev pub InWord : ℤ → Type 0
+InWord z = mag z < 2 ^ hbits w32
 
 -- z as the next call gets it
-abbrev pub passed : ℤ → ℤ
-passed z = toZ w32 (ofZ w32 z)
+abbrev pub handedOn : ℤ → ℤ
+handedOn z = toZ w32 (ofZ w32 z)
 
 -- the answer b of a call of g on z, which is x
-pub told : {A : Type 0} (g : ℤ → A) {z x : ℤ} {b : A} → Small z → z ≡ x → b ≡ g (passed z) → g x ≡ b
-told g h e q = asked g h e q refl
+answer-is : {A : Type 0} (g : ℤ → A) {z x : ℤ} {b : A} → InWord z → z ≡ x → b ≡ g (handedOn z) → g x ≡ b
+answer-is g h e q = asked g h e q refl
 
 -- ---- one check in front of others, and parts in a row
 
@@ -85,13 +85,13 @@ module _ (file : List ℕ) (r : ℕ) (back : Bool) (n : ℕ) where
   unfolding listed
   listed-done i l m h = let e : 9 ≡ i = omega arith in rw e (sym h)
 
-  module _ (i : ℕ) {z : ℤ} {b : Bool} (ok : Small z) (e : z ≡ nodeEntry file r i) (q : b ≡ entryIs back n (passed z)) where
+  module _ (i : ℕ) {z : ℤ} {b : Bool} (ok : InWord z) (e : z ≡ nodeEntry file r i) (q : b ≡ entryIs back n (handedOn z)) where
     pub listed-hit : i < 9 → b ≡ true → true ≡ listed file r back n
     unfolding listed
-    listed-hit l t = sym (some-hit 9 i (slotIs file r back n) l (told (entryIs back n) ok e q ∙ t))
+    listed-hit l t = sym (some-hit 9 i (slotIs file r back n) l (answer-is (entryIs back n) ok e q ∙ t))
 
     pub listed-pass : some i (slotIs file r back n) ≡ false → b ≡ false → some (i + 1) (slotIs file r back n) ≡ false
-    listed-pass h t = some-more i (slotIs file r back n) h (told (entryIs back n) ok e q ∙ t)
+    listed-pass h t = some-more i (slotIs file r back n) h (answer-is (entryIs back n) ok e q ∙ t)
 
 -- ---- a refusal of a slot
 
@@ -103,32 +103,32 @@ slot-told r {number} {row} {i} h e = e ∙ ap (Broken number row) (start-there (
 -- ---- one end of a line
 
 -- z is its node number, and a says whether it names a node
-module _ (file : List ℕ) (l : Layer) (r : ℕ) (c k : Span) (back : Bool) (row : ℕ) {z : ℤ} (ok : Small z) (e : z ≡ numberOn file r c) where
-  module _ {a : Bool} (n : a ≡ names (l .nodes) (passed z)) where
+module _ (file : List ℕ) (l : Layer) (r : ℕ) (c k : Span) (back : Bool) (row : ℕ) {z : ℤ} (ok : InWord z) (e : z ≡ numberOn file r c) where
+  module _ {a : Bool} (n : a ≡ names (l .nodes) (handedOn z)) where
     named : not a ≡ false → names (l .nodes) (numberOn file r c) ≡ true
-    named t = told (names (l .nodes)) ok e n ∙ not-false a t
+    named t = answer-is (names (l .nodes)) ok e n ∙ not-false a t
 
     pub end-unnamed : {x : Verdict} → not a ≡ true → x ≡ Broken 11 row (c .start) → x ≡ firstBroken (block fifth row (lineEndChecks file l r c k back))
     unfolding lineEndChecks
-    end-unnamed t v = broke _ _ _ _ _ (told (names (l .nodes)) ok e n ∙ not-true a t) v
+    end-unnamed t v = broke _ _ _ _ _ (answer-is (names (l .nodes)) ok e n ∙ not-true a t) v
 
   -- m is the node's record, s the line's serial, and b says whether the node lists it
-  module _ {m s : ℕ} {b : Bool} (f : m ≡ nodeOf l (passed z)) (g : s ≡ serialIn file r column.lineSerial) (q : b ≡ listed file m back s) where
+  module _ {m s : ℕ} {b : Bool} (f : m ≡ nodeOf l (handedOn z)) (g : s ≡ serialIn file r column.lineSerial) (q : b ≡ listed file m back s) where
     lists : listed file (nodeOf l (numberOn file r c)) back (serialIn file r column.lineSerial) ≡ b
-    lists = rw (told (nodeOf l) ok e f, ← g) (sym q)
+    lists = rw (answer-is (nodeOf l) ok e f, ← g) (sym q)
 
-    pub end-unlisted : {x : Verdict} {a : Bool} → a ≡ names (l .nodes) (passed z) → not a ≡ false → not b ≡ true → x ≡ Broken 14 row (c .start)
+    pub end-unlisted : {x : Verdict} {a : Bool} → a ≡ names (l .nodes) (handedOn z) → not a ≡ false → not b ≡ true → x ≡ Broken 14 row (c .start)
         → x ≡ firstBroken (block fifth row (lineEndChecks file l r c k back))
     unfolding lineEndChecks
     end-unlisted n t u v = kept _ _ _ _ _ (named n t) (broke _ _ _ _ _ (waits _ _ (named n t) (lists ∙ not-true b u)) v)
 
   -- y is its link, w the node's frame, and d says whether they fit
-  module _ {m : ℕ} {y w : ℤ} {d : Bool} (f : m ≡ nodeOf l (passed z)) (oky : Small y) (ey : y ≡ numberOn file r k)
-      (okw : Small w) (ew : w ≡ valueAt file m column.nodeFrame) (p : d ≡ linkFits (passed y) (passed w)) where
+  module _ {m : ℕ} {y w : ℤ} {d : Bool} (f : m ≡ nodeOf l (handedOn z)) (oky : InWord y) (ey : y ≡ numberOn file r k)
+      (okw : InWord w) (ew : w ≡ valueAt file m column.nodeFrame) (p : d ≡ linkFits (handedOn y) (handedOn w)) where
     fits : linkFits (numberOn file r k) (valueAt file (nodeOf l (numberOn file r c)) column.nodeFrame) ≡ d
-    fits = told-both linkFits oky ey okw (ew ∙ ap (λ m. valueAt file m column.nodeFrame) (sym (told (nodeOf l) ok e f))) p
+    fits = told-both linkFits oky ey okw (ew ∙ ap (λ m. valueAt file m column.nodeFrame) (sym (answer-is (nodeOf l) ok e f))) p
 
-    module _ {a b : Bool} {s : ℕ} (n : a ≡ names (l .nodes) (passed z)) (t : not a ≡ false)
+    module _ {a b : Bool} {s : ℕ} (n : a ≡ names (l .nodes) (handedOn z)) (t : not a ≡ false)
         (g : s ≡ serialIn file r column.lineSerial) (q : b ≡ listed file m back s) (u : not b ≡ false) where
       pub end-unfit : {x : Verdict} → not d ≡ true → x ≡ Broken 12 row (k .start) → x ≡ firstBroken (block fifth row (lineEndChecks file l r c k back))
       unfolding lineEndChecks
@@ -147,29 +147,30 @@ module _ (file : List ℕ) (l : Layer) (r : ℕ) (c k : Span) (back : Bool) (row
 
 -- z is its area number, and b says whether it names an area
 module _ (file t : List ℕ) (l : Layer) (r : ℕ) (c a : Span) (row : ℕ) {z : ℤ} {b : Bool}
-    (ok : Small z) (e : z ≡ numberOn file r a) (n : b ≡ names (l .areas) (passed z)) where
+    (ok : InWord z) (e : z ≡ numberOn file r a) (n : b ≡ names (l .areas) (handedOn z)) where
   unnamed : not b ≡ true
       → (not (names (l .areas) (numberOn file r a)) || equal (numberOn file r c) (valueAt file (areaOf t l (numberOn file r a)) column.areaCode)) ≡ true
-  unnamed h = rw (told (names (l .areas)) ok e n ∙ not-true b h)
+  unnamed h = rw (answer-is (names (l .areas)) ok e n ∙ not-true b h)
 
   area : not b ≡ false → names (l .areas) (numberOn file r a) ≡ true
-  area h = told (names (l .areas)) ok e n ∙ not-false b h
+  area h = answer-is (names (l .areas)) ok e n ∙ not-false b h
 
   -- it names none: d says whether it is 0
-  module _ {d : Bool} (h : not b ≡ true) (q : d ≡ isZero (passed z)) where
+  module _ {d : Bool} (h : not b ≡ true) (q : d ≡ isZero (handedOn z)) where
     pub side-none : d ≡ true → Fine ≡ firstBroken (block fifth row (sideChecks file t l r c a))
     unfolding sideChecks
-    side-none u = kept _ _ _ _ _ (unnamed h) (kept _ _ _ _ _ (or-left _ _ (told isZero ok e q ∙ u)) (check-none fifth row))
+    side-none u = kept _ _ _ _ _ (unnamed h) (kept _ _ _ _ _ (or-left _ _ (answer-is isZero ok e q ∙ u)) (check-none fifth row))
 
     pub side-unnamed : {x : Verdict} → d ≡ false → x ≡ Broken 11 row (a .start) → x ≡ firstBroken (block fifth row (sideChecks file t l r c a))
     unfolding sideChecks
-    side-unnamed u v = kept _ _ _ _ _ (unnamed h) (broke _ _ _ _ _ (or-none _ _ (told isZero ok e q ∙ u) (told (names (l .areas)) ok e n ∙ not-true b h)) v)
+    side-unnamed u v =
+        kept _ _ _ _ _ (unnamed h) (broke _ _ _ _ _ (or-none _ _ (answer-is isZero ok e q ∙ u) (answer-is (names (l .areas)) ok e n ∙ not-true b h)) v)
 
   -- m is the area's record, y the line's code, w the area's, and d says whether they are equal
-  module _ {m : ℕ} {y w : ℤ} {d : Bool} (f : m ≡ areaOf t l (passed z)) (oky : Small y) (ey : y ≡ numberOn file r c)
-      (okw : Small w) (ew : w ≡ valueAt file m column.areaCode) (q : d ≡ equal (passed y) (passed w)) where
+  module _ {m : ℕ} {y w : ℤ} {d : Bool} (f : m ≡ areaOf t l (handedOn z)) (oky : InWord y) (ey : y ≡ numberOn file r c)
+      (okw : InWord w) (ew : w ≡ valueAt file m column.areaCode) (q : d ≡ equal (handedOn y) (handedOn w)) where
     alike : equal (numberOn file r c) (valueAt file (areaOf t l (numberOn file r a)) column.areaCode) ≡ d
-    alike = told-both equal oky ey okw (ew ∙ ap (λ m. valueAt file m column.areaCode) (sym (told (areaOf t l) ok e f))) q
+    alike = told-both equal oky ey okw (ew ∙ ap (λ m. valueAt file m column.areaCode) (sym (answer-is (areaOf t l) ok e f))) q
 
     pub side-unlike : {x : Verdict} → not b ≡ false → not d ≡ true → x ≡ Broken 12 row (c .start)
         → x ≡ firstBroken (block fifth row (sideChecks file t l r c a))
@@ -184,19 +185,19 @@ module _ (file t : List ℕ) (l : Layer) (r : ℕ) (c a : Span) (row : ℕ) {z :
 -- ---- points
 
 -- a says whether v names a node
-module _ (file : List ℕ) (l : Layer) (v : ℤ) (r i : ℕ) {a : Bool} (ok : Small v) (n : a ≡ names (l .nodes) (passed v)) where
+module _ (file : List ℕ) (l : Layer) (v : ℤ) (r i : ℕ) {a : Bool} (ok : InWord v) (n : a ≡ names (l .nodes) (handedOn v)) where
   at-names : names (l .nodes) v ≡ a
-  at-names = told (names (l .nodes)) ok refl n
+  at-names = answer-is (names (l .nodes)) ok refl n
 
   pub at-unnamed : not a ≡ true → true ≡ atNode file l v r i
   unfolding atNode
   at-unnamed t = rw (at-names ∙ not-true a t)
 
   -- m is its record, x and y are the point, u and w the node's place
-  module _ {m : ℕ} {x y u w : ℤ} {b d : Bool} (f : m ≡ nodeOf l (passed v))
-      (okx : Small x) (ex : x ≡ slotAt file r column.pointsX i) (oky : Small y) (ey : y ≡ slotAt file r column.pointsY i)
-      (oku : Small u) (eu : u ≡ valueAt file m column.nodeX) (okw : Small w) (ew : w ≡ valueAt file m column.nodeY)
-      (p : b ≡ equal (passed x) (passed u)) (q : d ≡ equal (passed y) (passed w)) where
+  module _ {m : ℕ} {x y u w : ℤ} {b d : Bool} (f : m ≡ nodeOf l (handedOn v))
+      (okx : InWord x) (ex : x ≡ slotAt file r column.pointsX i) (oky : InWord y) (ey : y ≡ slotAt file r column.pointsY i)
+      (oku : InWord u) (eu : u ≡ valueAt file m column.nodeX) (okw : InWord w) (ew : w ≡ valueAt file m column.nodeY)
+      (p : b ≡ equal (handedOn x) (handedOn u)) (q : d ≡ equal (handedOn y) (handedOn w)) where
     at-node : m ≡ nodeOf l v
     at-node = f ∙ ap (nodeOf l) (passed-on ok refl)
 
@@ -219,22 +220,23 @@ module _ (file : List ℕ) (l : Layer) (q r left row : ℕ) where
   first-few h = rw (le-ltb 1 left h) (check-none fifth row)
 
   -- n is the line's number of points
-  module _ {z : ℤ} {n : ℕ} (h : 1 < left) (ok : Small z) (e : z ≡ valueAt file q column.linePoints) (s : n ≡ size (passed z)) where
+  module _ {z : ℤ} {n : ℕ} (h : 1 < left) (ok : InWord z) (e : z ≡ valueAt file q column.linePoints) (s : n ≡ size (handedOn z)) where
     pub first-later : (left ≡ n → ⊥) → Fine ≡ firstBroken (block fifth row (firstPointChecks file l q r left))
     unfolding firstPointChecks
-    first-later u = rw (lt-ltb 1 left h, told size ok e s, ne-eqb left n u) (check-none fifth row)
+    first-later u = rw (lt-ltb 1 left h, answer-is size ok e s, ne-eqb left n u) (check-none fifth row)
 
     -- b says whether the first point is at its node
-    module _ {w : ℤ} {b : Bool} (u : left ≡ n) (okw : Small w) (ew : w ≡ valueAt file q column.startNode) (a : b ≡ atNode file l (passed w) r 0) where
+    module _ {w : ℤ} {b : Bool} (u : left ≡ n) (okw : InWord w) (ew : w ≡ valueAt file q column.startNode) (a : b ≡ atNode file l (handedOn w) r 0) where
       pub first-broken : {x : Verdict} → not b ≡ true → x ≡ Broken 12 row 1 → x ≡ firstBroken (block fifth row (firstPointChecks file l q r left))
       unfolding firstPointChecks
-      first-broken t v = rw (lt-ltb 1 left h, told size ok e s, eq-eqb left n u) (broke _ _ _ _ _ (told (λ v. atNode file l v r 0) okw ew a ∙ not-true b t) v)
+      first-broken t v =
+          rw (lt-ltb 1 left h, answer-is size ok e s, eq-eqb left n u) (broke _ _ _ _ _ (answer-is (λ v. atNode file l v r 0) okw ew a ∙ not-true b t) v)
 
       pub first-kept : not b ≡ false → Fine ≡ firstBroken (block fifth row (firstPointChecks file l q r left))
       unfolding firstPointChecks
       first-kept t =
-          rw (lt-ltb 1 left h, told size ok e s, eq-eqb left n u)
-          (kept _ _ _ _ _ (told (λ v. atNode file l v r 0) okw ew a ∙ not-false b t) (check-none fifth row))
+          rw (lt-ltb 1 left h, answer-is size ok e s, eq-eqb left n u)
+          (kept _ _ _ _ _ (answer-is (λ v. atNode file l v r 0) okw ew a ∙ not-false b t) (check-none fifth row))
 
   -- the last point is not in this record
   pub last-none : left ≡ 0 → Fine ≡ firstBroken (block fifth row (lastPointChecks file l q r left))
@@ -246,23 +248,23 @@ module _ (file : List ℕ) (l : Layer) (q r left row : ℕ) where
   last-later h u = rw (lt-ltb 0 left (omega (arith, u)), lt-leb left 7 u) (check-none fifth row)
 
   -- it is: b says whether it is at its node
-  module _ {w : ℤ} {b : Bool} (h : left ≡ 0 → ⊥) (u : left ≤ 7) (okw : Small w)
-      (ew : w ≡ valueAt file q column.endNode) (a : b ≡ atNode file l (passed w) r (left - 1)) where
+  module _ {w : ℤ} {b : Bool} (h : left ≡ 0 → ⊥) (u : left ≤ 7) (okw : InWord w)
+      (ew : w ≡ valueAt file q column.endNode) (a : b ≡ atNode file l (handedOn w) r (left - 1)) where
     pub last-broken : {x : Verdict} → not b ≡ true → x ≡ Broken 12 row (slotColumn column.pointsX (left - 1))
         → x ≡ firstBroken (block fifth row (lastPointChecks file l q r left))
     unfolding lastPointChecks
     last-broken t v =
-        rw (lt-ltb 0 left (omega (arith, h)), le-leb left 7 u) (broke _ _ _ _ _ (told (λ v. atNode file l v r (left - 1)) okw ew a ∙ not-true b t) v)
+        rw (lt-ltb 0 left (omega (arith, h)), le-leb left 7 u) (broke _ _ _ _ _ (answer-is (λ v. atNode file l v r (left - 1)) okw ew a ∙ not-true b t) v)
 
     pub last-kept : not b ≡ false → Fine ≡ firstBroken (block fifth row (lastPointChecks file l q r left))
     unfolding lastPointChecks
     last-kept t =
         rw (lt-ltb 0 left (omega (arith, h)), le-leb left 7 u)
-        (kept _ _ _ _ _ (told (λ v. atNode file l v r (left - 1)) okw ew a ∙ not-false b t) (check-none fifth row))
+        (kept _ _ _ _ _ (answer-is (λ v. atNode file l v r (left - 1)) okw ew a ∙ not-false b t) (check-none fifth row))
 
   -- neither of them is: more than seven points are left, and fewer than the line's n
-  pub points-later : {z : ℤ} {n : ℕ} → 7 < left → left < n → Small z → z ≡ valueAt file q column.linePoints
-      → n ≡ size (passed z) → Fine ≡ firstBroken (block fifth row (pointChecks file l q r left))
+  pub points-later : {z : ℤ} {n : ℕ} → 7 < left → left < n → InWord z → z ≡ valueAt file q column.linePoints
+      → n ≡ size (handedOn z) → Fine ≡ firstBroken (block fifth row (pointChecks file l q r left))
   unfolding pointChecks
   points-later h u ok e s = part-passes row _ _ refl (first-later (omega arith) ok e s (λ i. omega arith)) (last-later (λ i. omega arith) h)
 
@@ -281,9 +283,10 @@ entrySlot file l r i = check (slotColumn column.loopEntries i) 11 (isZero (loopE
 
 module _ (file : List ℕ) (l : Layer) (r row : ℕ) where
   -- a says whether the entry z is 0, and b whether it names a line
-  module _ (i : ℕ) {z : ℤ} {a b : Bool} (ok : Small z) (e : z ≡ loopEntry file r i) (p : a ≡ isZero (passed z)) (n : b ≡ namesLine (l .lines) (passed z)) where
+  module _ (i : ℕ) {z : ℤ} {a b : Bool} (ok : InWord z) (e : z ≡ loopEntry file r i)
+      (p : a ≡ isZero (handedOn z)) (n : b ≡ namesLine (l .lines) (handedOn z)) where
     entry-is : (isZero (loopEntry file r i) || namesLine (l .lines) (loopEntry file r i)) ≡ (a || b)
-    entry-is = rw (told isZero ok e p, told (namesLine (l .lines)) ok e n)
+    entry-is = rw (answer-is isZero ok e p, answer-is (namesLine (l .lines)) ok e n)
 
     pub entries-stop : {x : Verdict} → x ≡ Broken 11 row (slotColumn column.loopEntries i) → (not a && not b) ≡ true → i < 12
         → firstBroken (rows i (slotRules fifth row (entrySlot file l r))) ≡ Fine → x ≡ firstBroken (block fifth row (entryChecks file l r))

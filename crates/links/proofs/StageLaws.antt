@@ -22,7 +22,7 @@ use Rattle.layers.specs.Standing.{pastBy}
 use Rattle.layers.proofs.Stages.{verdictAt}
 use Rattle.links.specs.Links.{pointChecks, linkChecks, linksAt, fifth}
 use Rattle.links.specs.Scanning.{Between}
-use Rattle.links.proofs.LineLaws.{Small, passed, points-later}
+use Rattle.links.proofs.LineLaws.{InWord, handedOn, points-later}
 
 -- ---- one back from a count
 
@@ -42,7 +42,7 @@ module _ (file t : List ℕ) (l : Layer) (s : State) where
 
   -- n is the line's number of points: fewer are left, and more than seven before each of the records
   pub between-some : {q n : ℕ} {z : ℤ} → 7 < s .line .points → s .line .points < n → q ≡ getD t (l .line + (s .layer .line - 1)) 0
-      → Small z → z ≡ valueAt file q column.linePoints → n ≡ size (passed z) → Between file t l s ((s .line .points - 1) / 7)
+      → InWord z → z ≡ valueAt file q column.linePoints → n ≡ size (handedOn z) → Between file t l s ((s .line .points - 1) / 7)
   between-some p u f ok e g = record {
     fine = λ j r i.
         let d : quietDue s j ≡ due.Coordinates (s .line .points - 7 * j) = rw (lt-ltb 0 (s .line .points) (omega arith)) in

@@ -65,16 +65,16 @@ abbrev pub onHand : List ℕ → List ℕ → layers.Layer → Column → Column
 onHand file t l c d v = handIn file t l (spanOf c .start) (spanOf c .width) (spanOf d .start) (spanOf d .width) v
 
 -- RULES 4.4: the node where line v starts or, backwards, ends
-unfoldable pub endNode : List ℕ → List ℕ → layers.Layer → ℤ → ℤ
-endNode file t l v = onHand file t l column.startNode column.endNode v
+unfoldable pub firstNode : List ℕ → List ℕ → layers.Layer → ℤ → ℤ
+firstNode file t l v = onHand file t l column.startNode column.endNode v
 
 -- RULES 6.7, 12: the line of an entry +n starts at this node, that of -n ends here; it waits where the entry names no line, or that end of
 -- the line no node
 unfoldable pub meets : List ℕ → List ℕ → layers.Layer → ℕ → ℤ → Bool
 meets file t l r v =
     not (namesLine (l .lines) v)
-    || (not (names (l .nodes) (endNode file t l v))
-    || eqb (size (endNode file t l v)) (serialIn file r column.nodeSerial))
+    || (not (names (l .nodes) (firstNode file t l v))
+    || eqb (size (firstNode file t l v)) (serialIn file r column.nodeSerial))
 
 -- RULES 6.7, 13: an entry of a node is the same, sign and all, as an earlier one of that node
 unfoldable pub repeatsNode : List ℕ → ℕ → ℕ → Bool

@@ -8,7 +8,7 @@ use Rattle.permitted.specs.Permitted.{is, isZero}
 use Rattle.layers.specs.declared.Layer.{Layer}
 use Rattle.links.specs.Links.{loopEntry, slotOf}
 use Rattle.entries.specs.Loops.{loopMeasureIn}
-use Rattle.loops.specs.Loops.{repeatsArea, rightArea, slotFrom, loopSlot, windChecks, firstRecord, areaRecord, loopChecks}
+use Rattle.loops.specs.Loops.{repeatsArea, areaOnHand, slotFrom, loopSlot, windChecks, firstRecord, areaRecord, loopChecks}
 
 module _ (file t : List ℕ) (l : Layer) (area count left r : ℕ) (h : Holding (loopChecks file t l area count left r)) (i : ℕ) (m : i < 12) where
   slot-kept : Holding (loopSlot file t l (areaRecord t l area) area (firstRecord r count left) r i)
@@ -24,6 +24,6 @@ module _ (file t : List ℕ) (l : Layer) (area count left r : ℕ) (h : Holding 
   entry-once = slot-kept .0
 
   -- 17
-  pub entry-own : (isZero (loopEntry file r i) || is area (rightArea file t l (loopEntry file r i))) ≡ true
+  pub entry-own : (isZero (loopEntry file r i) || is area (areaOnHand file t l (loopEntry file r i))) ≡ true
   unfolding loopSlot
   entry-own = slot-kept .1 .1 .0

@@ -20,11 +20,11 @@ use Rattle.layers.specs.declared.Layer.{Layer}
 use Rattle.links.specs.Links.{loopEntry, slotOf}
 use Rattle.links.specs.Scanning.{clean}
 use Rattle.links.proofs.Numbers.{told, asked}
-use Rattle.links.proofs.LineLaws.{Small, passed}
+use Rattle.links.proofs.LineLaws.{InWord, handedOn}
 use Rattle.entries.specs.Loops.{loopMeasureIn}
 use Rattle.entries.specs.Keeping.{keptLoop, Kept}
 use Rattle.entries.proofs.Keeping.{loop-kept}
-use Rattle.loops.specs.Loops.{repeatsArea, joins, rightArea, slotFrom, loopSlot, winds, windChecks, firstRecord, areaRecord, loopChecks, sixth}
+use Rattle.loops.specs.Loops.{repeatsArea, joins, areaOnHand, slotFrom, loopSlot, winds, windChecks, firstRecord, areaRecord, loopChecks, sixth}
 
 -- ---- a slot's checks
 
@@ -50,14 +50,14 @@ module _ (file t : List ℕ) (l : Layer) (a area f r i : ℕ) where
       first true cs h = refl
       first false cs h = fine-broken h (check-broken sixth r _ 13 false cs refl)
 
-  module _ (d : isClean ≡ true) {z : ℤ} (ok : Small z) (e : z ≡ loopEntry file r i) {y : Bool} (p : y ≡ isZero (passed z)) where
+  module _ (d : isClean ≡ true) {z : ℤ} (ok : InWord z) (e : z ≡ loopEntry file r i) {y : Bool} (p : y ≡ isZero (handedOn z)) where
     -- the slot is 0
     pub slot-none : y ≡ true → Fine ≡ judged
     unfolding loopSlot firstBroken block clean repeatsArea
     slot-none h = rw (d, asked isZero ok e p h)
 
     -- it is an entry, z
-    module _ (h : y ≡ false) {s : ℕ} {b : Bool} (g : s ≡ r - f) (q : b ≡ joins file t l f (12 * s + i) (passed z)) where
+    module _ (h : y ≡ false) {s : ℕ} {b : Bool} (g : s ≡ r - f) (q : b ≡ joins file t l f (12 * s + i) (handedOn z)) where
       joined : joins file t l f (slotFrom f r i) (loopEntry file r i) ≡ b
       joined = asked (joins file t l f (slotFrom f r i)) ok e (rw g at q) refl
 
@@ -66,9 +66,9 @@ module _ (file t : List ℕ) (l : Layer) (a area f r i : ℕ) where
       slot-fifteen v u = v ∙ rw (d, asked isZero ok e p h, joined, not-true b u)
 
       -- w is the area on its right hand, and k says whether that is `area`
-      module _ (u : not b ≡ false) {w : ℤ} {k : Bool} (okw : Small w) (ew : w ≡ rightArea file t l (passed z)) (n : k ≡ is area (passed w)) where
-        right : is area (rightArea file t l (loopEntry file r i)) ≡ k
-        right = asked (is area) okw (told (rightArea file t l) ok e ew) n refl
+      module _ (u : not b ≡ false) {w : ℤ} {k : Bool} (okw : InWord w) (ew : w ≡ areaOnHand file t l (handedOn z)) (n : k ≡ is area (handedOn w)) where
+        right : is area (areaOnHand file t l (loopEntry file r i)) ≡ k
+        right = asked (is area) okw (told (areaOnHand file t l) ok e ew) n refl
 
         pub slot-seventeen : {x : Verdict} → x ≡ Broken 17 r (slotColumn loopEntries i) → not k ≡ true → x ≡ judged
         unfolding loopSlot firstBroken block clean repeatsArea
@@ -87,8 +87,8 @@ module _ (file : List ℕ) (x : ℤ) (r left : ℕ) where
   wind-none h = rw (lt-ltb 0 left h) (check-none sixth r)
 
   -- it begins there: z is its serial, m its measure x, and b says whether they fit
-  module _ (h : left ≤ 0) {z m : ℤ} {b : Bool} (ok : Small z) (e : z ≡ valueAt file r loopSerial) (okm : mag m < 2 ^ hbits w64) (em : m ≡ x)
-      (q : b ≡ winds (passed z) (toZ w64 (ofZ w64 m))) where
+  module _ (h : left ≤ 0) {z m : ℤ} {b : Bool} (ok : InWord z) (e : z ≡ valueAt file r loopSerial) (okm : mag m < 2 ^ hbits w64) (em : m ≡ x)
+      (q : b ≡ winds (handedOn z) (toZ w64 (ofZ w64 m))) where
     wound : winds (valueAt file r loopSerial) x ≡ b
     wound = asked (λ v. winds v x) ok e (q ∙ rw (toZ-ofZ {w = w64} {z = m} (record { sfits = okm }), em)) refl
 

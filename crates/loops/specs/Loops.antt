@@ -3,7 +3,7 @@
 --   repeatsArea file a e   slot e of the area whose A is record a repeats an earlier one
 --   joins ..               an entry begins where the one before it ends
 --   winds serial m         a loop's measure m has the sign that its serial asks for
---   rightArea ..           the area on an entry's right hand
+--   areaOnHand ..           the area on an entry's right hand
 --   loopChecks ..          all of them, of a loop record
 --   stageFive file t b     of all loop records, in the order of RULES 6.1
 use mathlib.Core.Bool.{Bool, cond, _||_, not}
@@ -24,7 +24,7 @@ use Rattle.layers.specs.declared.Bases.{Bases}
 use Rattle.layers.specs.declared.Layer as layers
 use Rattle.layers.specs.declared.Standing.{Standing}
 use Rattle.layers.specs.Standing.{stageOf}
-use Rattle.links.specs.Links.{equal, repeats, onHand, endNode, loopEntry, slotOf}
+use Rattle.links.specs.Links.{equal, repeats, onHand, firstNode, loopEntry, slotOf}
 use Rattle.entries.specs.Entries.{countAt}
 use Rattle.entries.specs.Loops.{loopMeasureIn}
 
@@ -44,11 +44,11 @@ entryBefore file f e = slotOf file f (cond (eqb e 0) (countAt file f - 1) (e - 1
 
 -- RULES 6.8, 15: the node where an entry begins is the node where the entry before it ends
 unfoldable pub joins : List ℕ → List ℕ → layers.Layer → ℕ → ℕ → ℤ → Bool
-joins file t l f e v = equal (endNode file t l v) (lastNode file t l (entryBefore file f e))
+joins file t l f e v = equal (firstNode file t l v) (lastNode file t l (entryBefore file f e))
 
 -- RULES 6.8, 17: the area that has to have the entry: of +n line n's right one, of -n its left one (RULES 4.4)
-unfoldable pub rightArea : List ℕ → List ℕ → layers.Layer → ℤ → ℤ
-rightArea file t l v = onHand file t l column.rightArea column.leftArea v
+unfoldable pub areaOnHand : List ℕ → List ℕ → layers.Layer → ℤ → ℤ
+areaOnHand file t l v = onHand file t l column.rightArea column.leftArea v
 
 -- RULES 4.7: slot i of the loop record r, counted from the first slot of record f on, twelve a record
 abbrev pub slotFrom : ℕ → ℕ → ℕ → ℕ
@@ -60,7 +60,7 @@ unfoldable pub loopSlot : List ℕ → List ℕ → layers.Layer → ℕ → ℕ
 loopSlot file t l a area f r i =
     check (slotColumn loopEntries i) 13 (isZero (slotOf file (a + 1) (slotFrom (a + 1) r i)) || not (repeatsArea file a (slotFrom (a + 1) r i)))
     ∷ check (slotColumn loopEntries i) 15 (isZero (loopEntry file r i) || joins file t l f (slotFrom f r i) (loopEntry file r i))
-    ∷ check (slotColumn loopEntries i) 17 (isZero (loopEntry file r i) || is area (rightArea file t l (loopEntry file r i)))
+    ∷ check (slotColumn loopEntries i) 17 (isZero (loopEntry file r i) || is area (areaOnHand file t l (loopEntry file r i)))
     ∷ []
 
 -- ---- the loop

@@ -3,7 +3,7 @@ use borrow.Author.Tests.{not-true, not-false}
 use borrow.Author.Needs.{needs}
 use Rattle.permitted.specs.Permitted.{size}
 use Rattle.layers.specs.Naming.{names, namesLine}
-use Rattle.links.specs.Links.{endNode, meets}
+use Rattle.links.specs.Links.{firstNode, meets}
 use Rattle.permitted.proofs.Signs.{own-told, own-asked}
 use Rattle.links.proofs.Numbers.{told, asked}
 use Rattle.links.proofs.meets.Statement.{statement}
@@ -25,12 +25,12 @@ names-requires : tie.Need-names-requires
 names-requires c κs = search needs
 
 returns-2 : tie.Need-returns-2
-unfolding meets endNode
+unfolding meets firstNode
 returns-2 c =
     let e = c .before .before in
     let p = e .before .before in
     let f = p .before .before .before .fits .v in
-    let n = own-told (endNode _ _ _) f (e .on-hand .ensures) in
+    let n = own-told (firstNode _ _ _) f (e .on-hand .ensures) in
     let a = own-asked (namesLine _) f (p .names-line .ensures) (not-false _ (e .before .if1 .left)) in
     rw (a, asked (names _) (e .on-hand .ok) n (c .before .names .ensures) (not-true _ (c .if2 .taken)))
 
@@ -41,13 +41,13 @@ serial-in-requires : tie.Need-serial-in-requires
 serial-in-requires c κs = search needs
 
 returns-3 : tie.Need-returns-3
-unfolding meets endNode
+unfolding meets firstNode
 returns-3 c =
     let q = c .before .before in
     let e = q .before .before in
     let p = e .before .before in
     let f = p .before .before .before .fits .v in
-    let n = own-told (endNode _ _ _) f (e .on-hand .ensures) in
+    let n = own-told (firstNode _ _ _) f (e .on-hand .ensures) in
     let a = own-asked (namesLine _) f (p .names-line .ensures) (not-false _ (e .before .if1 .left)) in
     let b = asked (names _) (e .on-hand .ok) n (q .before .names .ensures) (not-false _ (q .if2 .left)) in
     rw (a, b, ← told size (e .on-hand .ok) n (c .before .size .ensures), c .serial-in .ensures)

@@ -1,7 +1,7 @@
 -- `loops::joins` meets its contract: it compares the two nodes of the definition. Assumes nothing.
 use mathlib.Core.Path.{sym}
 use Rattle.permitted.proofs.Signs.{own-told}
-use Rattle.links.specs.Links.{equal, endNode}
+use Rattle.links.specs.Links.{equal, firstNode}
 use Rattle.links.proofs.Numbers.{told, told-both}
 use Rattle.loops.specs.Loops.{lastNode, joins}
 use borrow.Author.Needs.{needs}
@@ -21,13 +21,13 @@ equal-requires : tie.Need-equal-requires
 equal-requires c κs = search needs
 
 returns : tie.Need-returns
-unfolding joins endNode lastNode
+unfolding joins firstNode lastNode
 returns c =
     let p = c .before in
     let q = p .before in
     let w = q .before in
     let a = w .before .before .before in
-    let first = own-told (endNode _ _ _) (a .fits .v) (p .on-hand2 .ensures) in
+    let first = own-told (firstNode _ _ _) (a .fits .v) (p .on-hand2 .ensures) in
     let last = told (lastNode _ _ _) (w .entry-before .ok) (w .entry-before .ensures) (q .on-hand .ensures) in
     sym (told-both equal (p .on-hand2 .ok) first (q .on-hand .ok) last (c .equal .ensures))
 

@@ -2,7 +2,7 @@
 use mathlib.Core.Path.{sym, _∙_}
 use borrow.Author.Tests.{not-true, not-false}
 use Rattle.links.proofs.Scans.{slot-first}
-use Rattle.loops.specs.Loops.{rightArea}
+use Rattle.loops.specs.Loops.{areaOnHand}
 use Rattle.loops.proofs.SlotLaws.{slot-thirteen, slot-none, slot-fifteen, slot-seventeen, slot-fine}
 use borrow.Author.Needs.{needs}
 use Rattle.loops.proofs.judge_slot.Statement.{statement}
@@ -72,7 +72,7 @@ broken-requires-3 : tie.Need-broken-requires-3
 broken-requires-3 c κs = search needs
 
 returns-4 : tie.Need-returns-4
-unfolding rightArea
+unfolding areaOnHand
 returns-4 c =
     let k = c .before .before in
     let w = k .before in
@@ -90,7 +90,7 @@ returns-4 c =
     (w .on-hand .ok) (w .on-hand .ensures) (k .is .ensures) (c .broken3 .ensures) (c .before .if4 .taken)
 
 returns-5 : tie.Need-returns-5
-unfolding rightArea
+unfolding areaOnHand
 returns-5 c =
     let k = c .before in
     let w = k .before in
