@@ -13,9 +13,10 @@ MACHINE := $(shell uname -m)
 
 LIBRARY = target/staticlib/libcapi.a
 TOOL = target/host/stragumella
-SOURCES = host/main.c host/input.c host/sheet.c host/record.c
-HEADERS = host/input.h host/sheet.h host/record.h host/system.h include/stragumella.h
-COMPILE = $(CC) $(CFLAGS) -D_POSIX_C_SOURCE=200809L -Iinclude
+PARTS = main options many explain look texts whereabouts figures find record names layout writer text sheet input
+SOURCES = $(PARTS:%=host/%.c)
+HEADERS = $(wildcard host/*.h) include/stragumella.h
+COMPILE = $(CC) $(CFLAGS) -D_POSIX_C_SOURCE=200809L -pthread -Iinclude
 
 .PHONY: run test compare bench tool clean
 

@@ -6,16 +6,8 @@
  */
 #include "input.h"
 
-#include "system.h"
-
 #define MOST (RECORD * (6399936 + 1))
 #define FIRST_ROOM ((size_t)1 << 20)
-
-static int complain(const char *name)
-{
-    fprintf(stderr, "stragumella: %s: %s\n", name, strerror(errno));
-    return -1;
-}
 
 /* Maps the whole of an open file. Answers 0, or -1 with the file at its start. */
 static int map_all(Input *input, int file)
@@ -70,28 +62,28 @@ static int read_all(Input *input, int file)
     return 0;
 }
 
-static int open_stream(Input *input, int file, const char *name)
+static const char *open_stream(Input *input, int file)
 {
     if (read_all(input, file) != 0) {
-        complain(name);
+        const char *why = strerror(errno);
         free(input->bytes);
-        return -1;
+        return why;
     }
-    return 0;
+    return NULL;
 }
 
-int input_open(Input *input, const char *name)
+const char *input_open(Input *input, const char *name)
 {
     if (strcmp(name, "-") == 0) {
-        return open_stream(input, STDIN_FILENO, "standard input");
+        return open_stream(input, STDIN_FILENO);
     }
     int file = open(name, O_RDONLY);
     if (file < 0) {
-        return complain(name);
+        return strerror(errno);
     }
-    int answer = map_all(input, file) == 0 ? 0 : open_stream(input, file, name);
+    const char *why = map_all(input, file) == 0 ? NULL : open_stream(input, file);
     close(file);
-    return answer;
+    return why;
 }
 
 void input_close(Input *input)

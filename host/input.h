@@ -2,8 +2,7 @@
 #ifndef INPUT_H
 #define INPUT_H
 
-#include <stddef.h>
-#include <stdint.h>
+#include "system.h"
 
 /* The bytes of a record. */
 #define RECORD ((size_t)74)
@@ -14,8 +13,8 @@ typedef struct {
     int mapped;
 } Input;
 
-/* Opens the named file, or standard input for "-". Answers 0, or -1 after a message on standard error. */
-int input_open(Input *input, const char *name);
+/* Opens the named file, or standard input for "-". Answers NULL, or why it could not be read. */
+const char *input_open(Input *input, const char *name);
 
 void input_close(Input *input);
 

@@ -1,31 +1,46 @@
-/* stragumella: what the proved library says of map sheets, in key=value lines.
+/* stragumella: what the proved library says of map sheets.
  *
  * The tool maps files, lends buffers and prints. Nothing is judged here.
  */
-#include "input.h"
+#include "explain.h"
+#include "figures.h"
+#include "find.h"
+#include "layout.h"
+#include "many.h"
+#include "options.h"
 #include "record.h"
-#include "sheet.h"
-#include "system.h"
+#include "texts.h"
 
-#define VERSION "stragumella 0.1\n"
+#define VERSION "stragumella 0.2\n"
 
 static const char help[] =
     "usage: stragumella check FILE..            is the file accepted, and what is in it\n"
+    "       stragumella explain FILE..          a page for people: what is wrong, and what to mend\n"
+    "       stragumella explain NUMBER..        what a refusal's number means\n"
     "       stragumella measure FILE..          a line an area: its doubled measure\n"
     "       stragumella sums FILE..             a line a layer: the areas' sum and the outside sum\n"
     "       stragumella record N FILE [KIND]    record N, a line a field\n"
+    "       stragumella find FILE MESH LAYER node|line|area N\n"
+    "                                           that node, line or area: its record, a line a field\n"
     "       stragumella where MESH X Y          latitude and longitude in degrees\n"
     "       stragumella --help | --version\n"
     "\n"
     "FILE - is standard input. With several files a line file=NAME stands before each.\n"
     "A refused file gives status=refused, number=, record= and column=.\n"
     "\n"
-    "record: KIND is M, H, N, L, coordinates, A or loop. Without it the kind is told by\n"
-    "the record's position, and told_by= says how: 'table' where the file keeps stages 1\n"
-    "and 2 (the library's table has the H, L and A records, and so tells what stands\n"
-    "between), else 'letters': the record's type letter, and for a record without one\n"
-    "the last letter before it (behind L coordinates, behind A loop). Names are in\n"
-    "hexadecimal.\n"
+    "Options, before or behind the command:\n"
+    "  --json          one JSON object a file, on a line of its own\n"
+    "  --format=line   a refusal as FILE:RECORD:COLUMN: NUMBER message, for editors and CI;\n"
+    "                  figures with FILE:RECORD:1: before each line; nothing else\n"
+    "  -q, --quiet     nothing on standard output: the exit status tells\n"
+    "  -j N            check, explain, measure, sums: N files at a time, the output in order\n"
+    "  -h, --help; -V, --version\n"
+    "  --              what follows is no option\n"
+    "\n"
+    "record: due= is the kind of record that is due there by the walk through the file,\n"
+    "for refused files too, and the record is read as one. KIND, if it is given, is M, H,\n"
+    "N, L, coordinates, A or loop, and the record is read as one of that kind. Names are in\n"
+    "hexadecimal; name_text= is the same as UTF-8.\n"
     "\n"
     "Exit status: 0 accepted, 1 refused (any file), 2 misuse or a file that cannot be read.\n"
     "Don't change a file while it is looked at; if somebody may, hand it over as '- <FILE'.\n";
@@ -36,184 +51,215 @@ static int misuse(const char *what)
     return UNREADABLE;
 }
 
-static int print_refusal(uint32_t number, uint32_t record, uint32_t column)
+/* ---- commands on many files */
+
+typedef struct {
+    const char *name;
+    Figures figures;
+    void (*accepted)(Writer *w, const Sheet *sheet);
+    void (*refused)(Writer *w, const Sheet *sheet);
+} Judging;
+
+static void put_outcome(Writer *w, const Sheet *sheet)
 {
-    printf("status=refused\nnumber=%u\nrecord=%u\ncolumn=%u\n", (unsigned)number, (unsigned)record,
-           (unsigned)column);
-    return REFUSED;
+    put_refusal(w, sheet->outcome.number, sheet->outcome.record, sheet->outcome.column);
 }
 
-/* ---- what is printed of a judged file */
+static const Judging judgings[] = {
+    {"check", MEASURES, put_counts, put_outcome},
+    {"explain", MEASURES, put_acceptance, put_explanation},
+    {"measure", MEASURES, put_measures, put_outcome},
+    {"sums", SUMS, put_sums, put_outcome},
+};
 
-static int print_counts(const Sheet *sheet)
-{
-    const stragumella_outcome *o = &sheet->outcome;
-    printf("status=ok\nmeshes=%u\nlayers=%u\nnodes=%u\nlines=%u\nareas=%u\nrecords=%u\n", (unsigned)o->meshes,
-           (unsigned)o->layers, (unsigned)o->nodes, (unsigned)o->lines, (unsigned)o->areas, (unsigned)o->records);
-    return ACCEPTED;
-}
+/* What all jobs of a command share. */
+typedef struct {
+    const Judging *judging;
+    const Options *options;
+    char **names;
+    size_t count;
+} Command;
 
-/* One area: its A record's numbers are layer, code and serial. */
-static void print_area(const Sheet *sheet, const Mesh *mesh, uint32_t record, int64_t measure)
-{
-    stragumella_reading a = sheet_read(sheet->file, AREA, record);
-    printf("mesh=%d layer=%d area=%d code=%d measure=%lld\n", (int)mesh->code, (int)a.value.numbers[0],
-           (int)a.value.numbers[2], (int)a.value.numbers[1], (long long)measure);
-}
-
-static int print_measures(const Sheet *sheet)
-{
-    const uint32_t *areas = sheet_lines(sheet) + sheet->outcome.lines;
-    const int64_t *measure = sheet->measures;
-    Mesh mesh = {0};
-    for (size_t layer = 0; layer < sheet->outcome.layers; layer++) {
-        mesh_next(&mesh, sheet, layer);
-        for (uint32_t left = sheet_row(sheet, layer).areas; left > 0; left--) {
-            print_area(sheet, &mesh, *areas++, *measure++);
-        }
-    }
-    return ACCEPTED;
-}
-
-/* One layer: its H record's first number is the layer code. The call counts layers from 1. */
-static int print_layer(const Sheet *sheet, const Mesh *mesh, size_t layer)
-{
-    stragumella_reading h = sheet_read(sheet->file, LAYER, sheet_row(sheet, layer).header);
-    stragumella_sums sums = stragumella_layer_sums(sheet->file->bytes, sheet->file->length, sheet->table,
-                                                   sheet->words, (uint32_t)layer + 1);
-    if (sums.number != 0) {
-        return print_refusal(sums.number, sums.record, sums.column);
-    }
-    printf("mesh=%d layer=%d areas=%lld outside=%lld\n", (int)mesh->code, (int)h.value.numbers[0],
-           (long long)sums.areas, (long long)sums.outside);
-    return ACCEPTED;
-}
-
-static int print_sums(const Sheet *sheet)
-{
-    int status = ACCEPTED;
-    Mesh mesh = {0};
-    for (size_t layer = 0; layer < sheet->outcome.layers && status == ACCEPTED; layer++) {
-        mesh_next(&mesh, sheet, layer);
-        status = print_layer(sheet, &mesh, layer);
-    }
-    return status;
-}
-
-/* ---- the commands */
-
-typedef int (*Printer)(const Sheet *sheet);
-
-static int judge_and_print(const Input *file, Printer printer)
+static int judge(Writer *w, const Input *file, const Judging *judging)
 {
     Sheet sheet;
-    if (sheet_judge(&sheet, file) != 0) {
-        return UNREADABLE;
+    const char *why = sheet_judge(&sheet, file, judging->figures);
+    if (why != NULL) {
+        return put_complaint(w, why);
     }
-    const stragumella_outcome *o = &sheet.outcome;
-    int status = o->number == 0 ? printer(&sheet) : print_refusal(o->number, o->record, o->column);
+    int accepted = sheet.outcome.number == 0;
+    (accepted ? judging->accepted : judging->refused)(w, &sheet);
     sheet_free(&sheet);
-    return status;
+    return accepted ? ACCEPTED : REFUSED;
 }
 
-static int one_file(const char *name, int several, Printer printer)
+/* A file that cannot be read gets a message and, but in JSON, no lines. */
+static int judge_file(const Command *c, const char *name, Writer *w)
 {
     Input file;
-    if (input_open(&file, name) != 0) {
-        return UNREADABLE;
+    int page = c->options->format == AS_TEXT && c->judging->accepted == put_acceptance;
+    const char *why = input_open(&file, name);
+    writer_begin(w, c->options->format, name, c->count > 1 && why == NULL && !page);
+    int status = why != NULL ? put_complaint(w, why) : judge(w, &file, c->judging);
+    writer_end(w);
+    if (why == NULL) {
+        input_close(&file);
     }
-    if (several) {
-        printf("file=%s\n", name);
-    }
-    int status = judge_and_print(&file, printer);
-    input_close(&file);
     return status;
 }
 
-static int is_option(const char *word)
+/* A number of `explain` stands before -- and is digits alone. */
+static int is_number(const Command *c, size_t i, int32_t *number)
 {
-    return word[0] == '-' && word[1] != '\0';
+    int plain = (size_t)(c->names + i - c->options->words) >= c->options->plain;
+    return c->judging->accepted == put_acceptance && !plain && c->names[i][0] != '-' && whole(c->names[i], number) == 0;
 }
 
-static int each_file(int count, char **names, Printer printer)
+static int explain_number(const Command *c, int32_t number, Writer *w)
 {
-    int status = ACCEPTED;
-    if (count == 0) {
+    writer_begin(w, c->options->format, NULL, 0);
+    put_meaning(w, (uint32_t)number);
+    writer_end(w);
+    return ACCEPTED;
+}
+
+static int do_file(const void *given, size_t i, FILE *out, FILE *err)
+{
+    const Command *c = given;
+    Writer w = {.out = out, .err = err};
+    int32_t number;
+    if (c->judging->accepted == put_acceptance && c->options->format == AS_TEXT && i > 0) {
+        fputc('\n', out);
+    }
+    return is_number(c, i, &number) ? explain_number(c, number, &w) : judge_file(c, c->names[i], &w);
+}
+
+static int each_file(const Judging *judging, const Options *o)
+{
+    Command c = {.judging = judging, .options = o, .names = o->words + 1, .count = o->count - 1};
+    size_t inputs = 0;
+    int32_t number;
+    for (size_t i = 0; i < c.count; i++) {
+        inputs += strcmp(c.names[i], "-") == 0;
+        if (is_number(&c, i, &number) && refusal_text((uint32_t)number) == NULL) {
+            return misuse("no refusal has that number (a file of that name is written ./NUMBER)");
+        }
+    }
+    if (c.count == 0) {
         return misuse("no file");
     }
-    for (int i = 0; i < count; i++) {
-        if (is_option(names[i])) {
-            return misuse("no such option (a file's name that begins with - is written ./-)");
-        }
+    if (inputs > 1) {
+        return misuse("standard input can be read once, so one - at most");
     }
-    for (int i = 0; i < count; i++) {
-        int one = one_file(names[i], count > 1, printer);
-        status = one > status ? one : status;
+    return do_many(c.count, o->at_once == 0 ? 1 : o->at_once, do_file, &c);
+}
+
+/* ---- commands on one record */
+
+typedef struct {
+    const Options *options;
+    const char *name;
+    uint32_t number; /* record: its number and the kind that is named, or 0; else `sought` */
+    uint32_t kind;
+    Sought sought;
+} Asked;
+
+static int do_record(const void *given, size_t i, FILE *out, FILE *err)
+{
+    const Asked *asked = given;
+    Writer w = {.out = out, .err = err};
+    Input file;
+    const char *why = input_open(&file, asked->name);
+    (void)i;
+    writer_begin(&w, asked->options->format, asked->name, 0);
+    int status = why != NULL          ? put_complaint(&w, why)
+                 : asked->number != 0 ? put_record(&w, &file, asked->number, asked->kind)
+                                      : put_found(&w, &file, asked->sought);
+    writer_end(&w);
+    if (why == NULL) {
+        input_close(&file);
     }
     return status;
 }
 
-/* A whole number of 32 bits: digits, "-" before them or not. Answers 0, or -1. */
-static int whole(const char *word, int32_t *value)
-{
-    int64_t sign = word[0] == '-' ? -1 : 1;
-    int64_t size = 0;
-    const char *digit = word[0] == '-' ? word + 1 : word;
-    if (*digit == '\0') {
-        return -1;
-    }
-    for (; *digit != '\0'; digit++) {
-        if (*digit < '0' || *digit > '9') {
-            return -1;
-        }
-        size = size * 10 + (*digit - '0');
-        if (sign * size < INT32_MIN || sign * size > INT32_MAX) {
-            return -1;
-        }
-    }
-    *value = (int32_t)(sign * size);
-    return 0;
-}
-
-static int record(int count, char **words)
+static int record(const Options *o)
 {
     int32_t number;
-    uint32_t kind = 0;
-    Input file;
-    if (count < 2 || count > 3 || is_option(words[1])) {
+    Asked asked = {.options = o};
+    if (o->count < 3 || o->count > 4) {
         return misuse("record takes N, FILE and perhaps KIND");
     }
-    if (whole(words[0], &number) != 0 || number < 1) {
+    if (whole(o->words[1], &number) != 0 || number < 1) {
         return misuse("N is a whole number from 1");
     }
-    if (count == 3 && (kind = kind_named(words[2])) == 0) {
+    asked.name = o->words[2];
+    asked.number = (uint32_t)number;
+    if (o->count == 4 && (asked.kind = kind_named(o->words[3])) == 0) {
         return misuse("KIND is M, H, N, L, coordinates, A or loop");
     }
-    if (input_open(&file, words[1]) != 0) {
-        return UNREADABLE;
-    }
-    int status = record_print(&file, words[1], (size_t)number, kind);
-    input_close(&file);
-    return status;
+    return do_many(1, 1, do_record, &asked);
 }
 
-/* 17 digits tell any two doubles apart. */
-static int where(int count, char **words)
+static uint32_t item_named(const char *word)
+{
+    return strcmp(word, "node") == 0 ? NODE : strcmp(word, "line") == 0 ? LINE : strcmp(word, "area") == 0 ? AREA : 0;
+}
+
+static int find(const Options *o)
+{
+    Asked asked = {.options = o};
+    Sought *sought = &asked.sought;
+    if (o->count != 6) {
+        return misuse("find takes FILE, MESH, LAYER, node, line or area, and its number");
+    }
+    asked.name = o->words[1];
+    sought->kind = item_named(o->words[4]);
+    if (whole(o->words[2], &sought->mesh) != 0 || whole(o->words[3], &sought->layer) != 0 || sought->kind == 0 ||
+        whole(o->words[5], &sought->number) != 0) {
+        return misuse("find takes FILE, MESH, LAYER, node, line or area, and its number");
+    }
+    return do_many(1, 1, do_record, &asked);
+}
+
+/* ---- a point */
+
+/* The fewest digits that give the number back; 17 always do. */
+static void shortest(double value, char digits[32])
+{
+    int count = 1;
+    do {
+        snprintf(digits, 32, "%.*g", count, value);
+    } while (strtod(digits, NULL) != value && ++count <= 17);
+}
+
+static int where(const Options *o)
 {
     int32_t mesh;
     int32_t x;
     int32_t y;
-    if (count != 3 || whole(words[0], &mesh) != 0 || whole(words[1], &x) != 0 || whole(words[2], &y) != 0) {
+    char digits[32];
+    Writer w = {.out = stdout, .err = stderr};
+    if (o->format == AS_LINES) {
+        return misuse("where is about no file, so --format=line has nothing to say");
+    }
+    if (o->count != 4 || whole(o->words[1], &mesh) != 0 || whole(o->words[2], &x) != 0 || whole(o->words[3], &y) != 0) {
         return misuse("where takes MESH, X and Y, whole numbers of 32 bits");
     }
     stragumella_place place = stragumella_position(mesh, x, y);
+    writer_begin(&w, o->format, NULL, 0);
     if (place.number != 0) {
-        printf("number=%u\n", (unsigned)place.number);
-        return REFUSED;
+        put_number(&w, "number", place.number);
+    } else {
+        shortest(place.latitude, digits);
+        put_digits(&w, "latitude", digits);
+        shortest(place.longitude, digits);
+        put_digits(&w, "longitude", digits);
     }
-    printf("latitude=%.17g\nlongitude=%.17g\n", place.latitude, place.longitude);
-    return ACCEPTED;
+    writer_end(&w);
+    return place.number != 0 ? REFUSED : ACCEPTED;
 }
+
+/* ---- the command line */
 
 static int print_text(const char *text)
 {
@@ -221,35 +267,38 @@ static int print_text(const char *text)
     return ACCEPTED;
 }
 
-static int command(const char *name, int count, char **words)
+static int command(const Options *o)
 {
-    if (strcmp(name, "check") == 0) {
-        return each_file(count, words, print_counts);
+    for (size_t i = 0; i < sizeof judgings / sizeof *judgings; i++) {
+        if (strcmp(o->words[0], judgings[i].name) == 0) {
+            return each_file(&judgings[i], o);
+        }
     }
-    if (strcmp(name, "measure") == 0) {
-        return each_file(count, words, print_measures);
+    int (*single)(const Options *) = strcmp(o->words[0], "record") == 0  ? record
+                                     : strcmp(o->words[0], "find") == 0  ? find
+                                     : strcmp(o->words[0], "where") == 0 ? where
+                                                                         : NULL;
+    if (single == NULL) {
+        return misuse("no such command");
     }
-    if (strcmp(name, "sums") == 0) {
-        return each_file(count, words, print_sums);
+    return o->at_once != 0 ? misuse("-j is for check, explain, measure and sums") : single(o);
+}
+
+static int run(const Options *o)
+{
+    if (o->misuse != NULL) {
+        return misuse(o->misuse);
     }
-    if (strcmp(name, "record") == 0) {
-        return record(count, words);
+    if (o->help || o->version) {
+        return print_text(o->help ? help : VERSION);
     }
-    if (strcmp(name, "where") == 0) {
-        return where(count, words);
-    }
-    if (strcmp(name, "--help") == 0) {
-        return print_text(help);
-    }
-    if (strcmp(name, "--version") == 0) {
-        return print_text(VERSION);
-    }
-    return misuse("no such command");
+    return o->count == 0 ? misuse("no command") : command(o);
 }
 
 int main(int argc, char **argv)
 {
-    int status = argc < 2 ? misuse("no command") : command(argv[1], argc - 2, argv + 2);
+    Options options = options_of(argc, argv);
+    int status = run(&options);
     if (fflush(stdout) != 0 || ferror(stdout) != 0) {
         fprintf(stderr, "stragumella: standard output: %s\n", strerror(errno));
         return UNREADABLE;

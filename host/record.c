@@ -1,218 +1,157 @@
 /* One record, field by field (docs/RULES.md 4).
  *
- * A record's kind is known from its position. Where the file keeps stages 1 and 2 the library's table tells it:
- * the table has every H, L and A record, nodes stand behind their H, coordinates behind their L, loops behind
- * their A, and an M before its first H. Elsewhere there is no table, and the type letters tell it as far as they
- * can. The caller may name the kind instead.
+ * Which kind it is the library tells, by the walk (RULES 9.10), for refused files too. The caller may name another one.
  */
 #include "record.h"
 
-#include "sheet.h"
-#include "system.h"
+#include "names.h"
+#include "text.h"
 
-/* A kind: its name, its name's bytes and how many numbers stand before them, its numbers' names. */
-typedef struct {
-    const char *kind;
-    int name_bytes;
-    int name_at;
-    const char *numbers[17];
-} Layout;
+/* ---- the bytes */
 
-static const Layout layouts[] = {
-    [MESH] = {"M", 20, 1, {"mesh_code", "layers", "nodes", "lines", "areas", "points", "records"}},
-    [LAYER] = {"H",
-               0,
-               0,
-               {"layer", "nodes", "lines", "areas", "points", "records", "first_made", "last_changed"}},
-    [NODE] = {"N",
-              0,
-              0,
-              {"layer", "item", "serial", "x", "y", "frame", "count", "line1", "line2", "line3", "line4", "line5",
-               "line6", "line7", "line8", "line9"}},
-    [LINE] = {"L",
-              0,
-              0,
-              {"layer", "item", "serial", "kind", "start_node", "start_link", "end_node", "end_link", "left_code",
-               "left_area", "right_code", "right_area", "points", "columns_56_57", "columns_58_60"}},
-    [COORDINATES] = {"coordinates",
-                     0,
-                     0,
-                     {"x1", "y1", "x2", "y2", "x3", "y3", "x4", "y4", "x5", "y5", "x6", "y6", "x7", "y7"}},
-    [AREA] = {"A", 40, 7, {"layer", "code", "serial", "x", "y", "loops", "lines"}},
-    [LOOP] = {"loop",
-              0,
-              0,
-              {"serial", "line_count", "line1", "line2", "line3", "line4", "line5", "line6", "line7", "line8",
-               "line9", "line10", "line11", "line12"}},
-};
-
-uint32_t kind_named(const char *name)
+void field_columns(const Field *field, char columns[8])
 {
-    for (uint32_t kind = MESH; kind <= LOOP; kind++) {
-        if (strcmp(name, layouts[kind].kind) == 0) {
-            return kind;
+    unsigned first = field->start;
+    unsigned last = first + field->width - 1;
+    snprintf(columns, 8, first == last ? "%u" : "%u-%u", first, last);
+}
+
+/* The caret at the column, and ~ under what else the file has of the field, as wide as its bytes are printed. */
+static void print_mark(FILE *out, const uint8_t *bytes, size_t length, const Field *field, uint32_t column)
+{
+    size_t at = column - 1 < length ? column - 1 : length;
+    size_t end = (size_t)field->start + field->width - 1;
+    size_t before = print_bytes(NULL, bytes, at);
+    size_t under = end < length ? end : length;
+    size_t wide = under > at ? print_bytes(NULL, bytes + at, under - at) : 1;
+    for (size_t i = 0; i < before; i++) {
+        fputc(' ', out);
+    }
+    fputc('^', out);
+    for (size_t i = 1; i < wide; i++) {
+        fputc('~', out);
+    }
+}
+
+void print_caret(FILE *out, const Input *file, uint32_t number, const Field *field, uint32_t column)
+{
+    size_t length;
+    const uint8_t *bytes = record_bytes(file, number, &length);
+    fputs("    ", out);
+    print_bytes(out, bytes, length);
+    fputs("\n    ", out);
+    print_mark(out, bytes, length, field, column);
+    fputc('\n', out);
+}
+
+/* JSON has no caret: the column tells. */
+void put_caret(Writer *w, const Input *file, uint32_t number, const Field *field, uint32_t column)
+{
+    size_t length;
+    const uint8_t *bytes = record_bytes(file, number, &length);
+    char columns[8];
+    field_columns(field, columns);
+    put_word(w, "field", field->key);
+    put_word(w, "columns", columns);
+    if (length < RECORD) {
+        put_number(w, "length", (long long)length);
+    }
+    put_bytes(w, "bytes", bytes, length);
+    if (w->format == AS_TEXT) {
+        fputs("caret=", w->out);
+        print_mark(w->out, bytes, length, field, column);
+        fputc('\n', w->out);
+    }
+}
+
+/* ---- the fields */
+
+static void put_name(Writer *w, const uint8_t *name, size_t length)
+{
+    char text[NAME_ROOM];
+    const char *why = name_text(name, length, text);
+    put_hex(w, "name", name, length);
+    if (why == NULL) {
+        put_text(w, "name_text", text);
+    } else {
+        put_unknown(w, "name_text");
+        put_text(w, "name_text_missing", why);
+    }
+}
+
+static void put_fields(Writer *w, uint32_t kind, const stragumella_record *value)
+{
+    const int32_t *number = value->numbers;
+    const Field *field;
+    object_begin(w, "fields");
+    for (size_t i = 0; (field = field_of(kind, i)) != NULL; i++) {
+        if (field->what == NUMBER) {
+            put_number(w, field->key, *number++);
+        } else if (field->what == NAME) {
+            put_name(w, value->name, field->width);
         }
     }
-    return 0;
+    object_end(w);
 }
 
-/* ---- the kind, by the table */
+/* ---- a record */
 
-static uint32_t kind_in_layer(Row row, const Mesh *mesh, size_t number)
+static void put_kind(Writer *w, uint32_t number, uint32_t kind, uint32_t due, int named)
 {
-    if (number == mesh->record) {
-        return MESH;
-    }
-    if (number == row.header) {
-        return LAYER;
-    }
-    if (number > row.header && number - row.header <= row.nodes) {
-        return NODE;
-    }
-    return 0;
-}
-
-/* Looks among `count` L or A records for the last one up to `number` that is nearer than `last`: it is the record
- * itself, or the record stands behind it. */
-static uint32_t kind_among(const uint32_t *records, size_t count, size_t number, uint32_t own, uint32_t behind,
-                           uint32_t *last)
-{
-    uint32_t kind = 0;
-    for (size_t i = 0; i < count; i++) {
-        if (records[i] <= number && records[i] > *last) {
-            *last = records[i];
-            kind = records[i] == number ? own : behind;
-        }
-    }
-    return kind;
-}
-
-/* The table of a sheet that keeps stages 1 and 2. */
-static uint32_t kind_by_table(const Sheet *sheet, size_t number)
-{
-    size_t rows = sheet_rows(sheet);
-    size_t lines = 0;
-    size_t areas = 0;
-    Mesh mesh = {0};
-    for (size_t i = 0; i < rows; i++) {
-        Row row = sheet_row(sheet, i);
-        mesh_next(&mesh, sheet, i);
-        uint32_t kind = kind_in_layer(row, &mesh, number);
-        if (kind != 0) {
-            return kind;
-        }
-        lines += row.lines;
-        areas += row.areas;
-    }
-    uint32_t last = 0;
-    const uint32_t *records = sheet_lines(sheet);
-    uint32_t by_line = kind_among(records, lines, number, LINE, COORDINATES, &last);
-    uint32_t by_area = kind_among(records + lines, areas, number, AREA, LOOP, &last);
-    return by_area != 0 ? by_area : by_line;
-}
-
-/* ---- the kind, by the letters */
-
-static uint32_t kind_of_letter(uint8_t letter)
-{
-    switch (letter) {
-    case 'M':
-        return MESH;
-    case 'H':
-        return LAYER;
-    case 'N':
-        return NODE;
-    case 'L':
-        return LINE;
-    case 'A':
-        return AREA;
-    default:
-        return 0;
+    put_number(w, "record", number);
+    put_word(w, "record_kind", kind_name(kind));
+    put_word(w, "told_by", named ? "caller" : "walk");
+    if (due != 0) {
+        put_word(w, "due", kind_name(due));
+    } else {
+        put_unknown(w, "due");
     }
 }
 
-/* A record without a letter is what the last lettered one before it is followed by. */
-static uint32_t kind_by_letters(const Input *file, size_t number)
+static int put_refused(Writer *w, const Input *file, uint32_t number, uint32_t kind, uint32_t refusal, uint32_t column)
 {
-    uint32_t kind = kind_of_letter(file->bytes[(number - 1) * RECORD]);
-    if (kind != 0) {
-        return kind;
-    }
-    for (size_t k = number - 1; kind == 0 && k > 0; k--) {
-        kind = kind_of_letter(file->bytes[(k - 1) * RECORD]);
-    }
-    return kind == LINE ? COORDINATES : kind == AREA ? LOOP : 0;
+    put_number(w, "number", refusal);
+    put_number(w, "column", column);
+    put_caret(w, file, number, field_at(kind, column), column);
+    put_refusal_line(w, refusal, number, column);
+    return REFUSED;
 }
 
-/* ---- printing */
-
-static void print_name(const uint8_t *name, int count)
+/* Where the file ends and a record is due, nothing is there to be read: 4, as the judge says, or 1 of an empty file. */
+static int put_read(Writer *w, const Input *file, uint32_t number, uint32_t kind, int behind)
 {
-    fputs("name=", stdout);
-    for (int i = 0; i < count; i++) {
-        printf("%02X", (unsigned)name[i]);
+    if (behind) {
+        return put_refused(w, file, number, kind, file->length == 0 ? 1 : 4, 1);
     }
-    fputs("\n", stdout);
-}
-
-static void print_fields(const Layout *layout, const stragumella_record *value)
-{
-    for (int i = 0; i <= 16; i++) {
-        if (layout->name_bytes > 0 && i == layout->name_at) {
-            print_name(value->name, layout->name_bytes);
-        }
-        if (layout->numbers[i] == NULL) {
-            return;
-        }
-        printf("%s=%d\n", layout->numbers[i], (int)value->numbers[i]);
-    }
-}
-
-static int print_reading(const Input *file, size_t number, uint32_t kind, const char *told_by)
-{
     stragumella_reading reading = sheet_read(file, kind, number);
-    printf("record=%zu\nrecord_kind=%s\ntold_by=%s\n", number, layouts[kind].kind, told_by);
     if (reading.number != 0) {
-        printf("number=%u\ncolumn=%u\n", (unsigned)reading.number, (unsigned)reading.column);
-        return REFUSED;
+        return put_refused(w, file, number, kind, reading.number, reading.column);
     }
-    print_fields(&layouts[kind], &reading.value);
+    put_fields(w, kind, &reading.value);
     return ACCEPTED;
 }
 
-/* Looks for the kind and says how it was told; the kind is 0 where nothing tells it. Answers 0, or -1 after a
- * message. */
-static int find_kind(const Input *file, size_t number, uint32_t *kind, const char **told_by)
+static int no_record(Writer *w, uint32_t number, size_t records)
 {
-    Sheet sheet;
-    if (sheet_judge(&sheet, file) != 0) {
-        return -1;
-    }
-    if (sheet.words > 0) {
-        *told_by = "table";
-        *kind = kind_by_table(&sheet, number);
-    } else {
-        *told_by = "letters";
-        *kind = kind_by_letters(file, number);
-    }
-    sheet_free(&sheet);
-    return 0;
+    char message[80];
+    snprintf(message, sizeof message, "no record %u, the last one is %zu", (unsigned)number, records);
+    return put_complaint(w, message);
 }
 
-int record_print(const Input *file, const char *name, size_t number, uint32_t kind)
+int put_record(Writer *w, const Input *file, uint32_t number, uint32_t kind)
 {
-    const char *told_by = "caller";
     size_t records = file->length / RECORD + (file->length % RECORD != 0);
-    if (number < 1 || number > records) {
-        fprintf(stderr, "stragumella: %s: no record %zu, the last one is %zu\n", name, number, records);
-        return UNREADABLE;
+    int behind = number > records;
+    uint32_t due = stragumella_due(file->bytes, file->length, number);
+    int ends = records > 0 && due == MESH;
+    if (behind && (due == 0 || ends)) {
+        return no_record(w, number, records);
     }
-    if (kind == 0 && find_kind(file, number, &kind, &told_by) != 0) {
-        return UNREADABLE;
+    if (due == 0 && kind == 0) {
+        return put_complaint(w, "more records than a sheet has: nothing is due so far on, name the KIND");
     }
-    if (kind == 0) {
-        fprintf(stderr, "stragumella: %s: no letters tell the kind of record %zu: name it\n", name, number);
-        return UNREADABLE;
-    }
-    return print_reading(file, number, kind, told_by);
+    int named = kind != 0;
+    kind = named ? kind : due;
+    put_kind(w, number, kind, due, named);
+    return put_read(w, file, number, kind, behind);
 }

@@ -3,7 +3,7 @@
  */
 #include "sheet.h"
 
-#include "system.h"
+#include "layout.h"
 
 /* Room for one entry more than is lent, so that NULL always means that there is no memory. */
 static void *room(size_t count, size_t size)
@@ -11,27 +11,27 @@ static void *room(size_t count, size_t size)
     return calloc(count + 1, size);
 }
 
-/* Measures: a word of the table stands for each area (its A record), so as many as the words are enough. */
-int sheet_judge(Sheet *sheet, const Input *file)
+/* Figures: a word of the table stands for each area (its A record), and each layer has a row of more than two words, so as many
+ * places as the words are enough. */
+const char *sheet_judge(Sheet *sheet, const Input *file, Figures figures)
 {
     sheet->file = file;
     sheet->words = (size_t)stragumella_need(file->bytes, file->length);
     sheet->table = room(sheet->words, sizeof *sheet->table);
-    sheet->measures = room(sheet->words, sizeof *sheet->measures);
-    if (sheet->table == NULL || sheet->measures == NULL) {
-        fprintf(stderr, "stragumella: no memory for a table of %zu words\n", sheet->words);
+    sheet->figures = room(sheet->words, sizeof *sheet->figures);
+    if (sheet->table == NULL || sheet->figures == NULL) {
         sheet_free(sheet);
-        return -1;
+        return "no memory for the table";
     }
-    sheet->outcome = stragumella_judge(file->bytes, file->length, sheet->table, sheet->words, sheet->measures,
-                                       sheet->words);
-    return 0;
+    sheet->outcome = (figures == SUMS ? stragumella_all_sums : stragumella_judge)(
+        file->bytes, file->length, sheet->table, sheet->words, sheet->figures, sheet->words);
+    return NULL;
 }
 
 void sheet_free(Sheet *sheet)
 {
     free(sheet->table);
-    free(sheet->measures);
+    free(sheet->figures);
 }
 
 /* A row of the table (stragumella.h): how many words it has, and which word is what. */
@@ -61,15 +61,20 @@ const uint32_t *sheet_lines(const Sheet *sheet)
     return sheet->table + ROW_WORDS * sheet_rows(sheet);
 }
 
-/* A record that the file's end cuts is handed over as it is; the library refuses it. */
-stragumella_reading sheet_read(const Input *file, uint32_t kind, size_t number)
+const uint8_t *record_bytes(const Input *file, size_t number, size_t *length)
 {
     size_t start = (number - 1) * RECORD;
     size_t left = start < file->length ? file->length - start : 0;
-    if (left == 0) {
-        start = 0;
-    }
-    return stragumella_read_record(kind, file->bytes + start, left < RECORD ? left : RECORD);
+    *length = left < RECORD ? left : RECORD;
+    return left == 0 ? file->bytes : file->bytes + start;
+}
+
+/* A record that the file's end cuts is handed over as it is; the library refuses it. */
+stragumella_reading sheet_read(const Input *file, uint32_t kind, size_t number)
+{
+    size_t length;
+    const uint8_t *bytes = record_bytes(file, number, &length);
+    return stragumella_read_record(kind, bytes, length);
 }
 
 /* An M stands right before its first layer's H, and says how many layers follow. */

@@ -9,12 +9,6 @@
 #include "input.h"
 #include "stragumella.h"
 
-/* Exit statuses. With several files the greatest one counts. */
-enum { ACCEPTED = 0, REFUSED = 1, UNREADABLE = 2 };
-
-/* The kinds of record, by the library's numbers. */
-enum { MESH = 1, LAYER, NODE, LINE, COORDINATES, AREA, LOOP };
-
 /* One layer's row of the table. */
 typedef struct {
     uint32_t header;
@@ -25,14 +19,17 @@ typedef struct {
 
 typedef struct {
     const Input *file;
-    uint32_t *table;   /* lent to the library */
-    size_t words;      /* what the file needs; 0 if it is refused in stage 1 or 2, and then the table is empty */
-    int64_t *measures; /* lent to the library, one an area in file order */
+    uint32_t *table;  /* lent to the library */
+    size_t words;     /* what the file needs; 0 if it is refused in stage 1 or 2, and then the table is empty */
+    int64_t *figures; /* lent to the library: an area's measure each, or two sums a layer, in file order */
     stragumella_outcome outcome;
 } Sheet;
 
-/* Lends the buffers and has the file judged. Answers 0, or -1 after a message where there is no memory. */
-int sheet_judge(Sheet *sheet, const Input *file);
+/* What the library is asked for beside its answer. */
+typedef enum { MEASURES, SUMS } Figures;
+
+/* Lends the buffers and has the file judged. Answers NULL, or that there is no memory. */
+const char *sheet_judge(Sheet *sheet, const Input *file, Figures figures);
 
 void sheet_free(Sheet *sheet);
 
@@ -44,7 +41,10 @@ size_t sheet_rows(const Sheet *sheet);
 /* The L records, and behind them the A records. */
 const uint32_t *sheet_lines(const Sheet *sheet);
 
-/* Record `number`, counted from 1, read as one of the kind. */
+/* Record `number`, counted from 1: where it begins, and how many of its 74 bytes the file has. */
+const uint8_t *record_bytes(const Input *file, size_t number, size_t *length);
+
+/* Record `number` read as one of the kind. */
 stragumella_reading sheet_read(const Input *file, uint32_t kind, size_t number);
 
 /* A mesh of the table: its M record, its code, and its layers not yet passed. */

@@ -18,9 +18,15 @@ passed=0
 failed=0
 skipped=0
 
-# What is run: the tool, perhaps with something before it, and a word for the tests' names.
-run=("target/host/stragumella")
+# What is run: the tool, perhaps with something before it, and a word for the tests' names. Names as text need the C library's tables of
+# CP932; the kit's C library, which machines that are not x86-64 run, has none, so there the lines are left out (host/test_names.c
+# tries the conversion on every machine).
+run=("$PWD/target/host/stragumella")
 way=
+names=left-out
+if [ "$machine" = x86_64 ]; then
+    names=held
+fi
 
 pass() {
     passed=$((passed + 1))
@@ -45,13 +51,27 @@ tool() {
     status=$?
 }
 
+# Names as text, where they are left out.
+without_names() {
+    sed -E -e '/^name_text(_missing)?=/d' -e 's/,"name_text":("[^"]*"|null,"name_text_missing":"[^"]*")//' "$1"
+}
+
+# Whether standard output is that file's.
+same() {
+    if [ $names = held ]; then
+        cmp -s "$1" "$work/out"
+    else
+        [ "$(without_names "$1")" = "$(without_names "$work/out")" ]
+    fi
+}
+
 # Holds the status to $2 and standard output to the file $3. Standard error has $4 lines; without $4, one with
 # status 2, else none.
 hold() {
     local lines=${4:-$(($2 / 2))}
     if [ "$status" -ne "$2" ]; then
         fail "$1" "status $status, not $2" "$(head -n 3 "$work/err")"
-    elif ! cmp -s "$3" "$work/out"; then
+    elif ! same "$3"; then
         fail "$1" "output unlike $3:" "$(diff "$3" "$work/out" | head -n 6)"
     elif [ "$(wc -l <"$work/err")" -ne "$lines" ]; then
         fail "$1" "standard error has not $lines lines" "$(head -n 3 "$work/err")"
@@ -109,7 +129,14 @@ by_few() {
     expect measure-two 1 measure $smallest $samples/refused-16-loop-walked-backwards.dat
     expect sums-smallest 0 sums $smallest
     expect record-1 0 record 1 $smallest
-    expect record-by-letters 0 record 5 $samples/refused-07-unstructured-layer.dat
+    expect record-taken-out 1 record 26 "$work/taken-out"
+    expect record-behind-the-end 1 record 7 $samples/refused-04-ends-too-early.dat
+    expect explain-taken-out 1 explain "$work/taken-out"
+    expect explain-many 1 explain $smallest $samples/refused-*.dat 16
+    expect explain-json 1 explain --json "$work/taken-out" $samples/refused-10-wrong-total.dat "$work/stripped"
+    expect find-line 0 find $samples/kasumigaura-5440.dat 544001 5 line 2
+    expect sums-json 1 sums --json $smallest $samples/refused-10-wrong-total.dat
+    expect check-many 1 check -j 4 $samples/kasumigaura-5440.dat $samples/kyushu-4830.dat $samples/refused-*.dat $smallest
     expect record-cut 1 record 2 "$work/cut"
     expect where 0 where 533945 10000 10000
     says_refused "empty file" 1 1 1 check "$work/empty"
@@ -131,6 +158,15 @@ by_samples() {
     expect record-h1 1 record 2 $samples/refused-07-unstructured-layer.dat
     expect record-late-refusal 0 record 7 $samples/refused-16-loop-walked-backwards.dat
     expect record-by-caller 1 record 1 $smallest N
+    expect record-other-letters 1 record 6 "$work/letters"
+    expect record-line-end 1 record 1 "$work/line-feeds"
+    says_refused "a coordinate record taken out" 5 26 1 check "$work/taken-out"
+    expect find-node 0 find $samples/kasumigaura-5440.dat 544001 5 node 1
+    expect find-area 0 find $samples/kasumigaura-5440.dat 544001 5 area 2
+    says_refused "find in a file without a table" 4 7 1 find $samples/refused-04-ends-too-early.dat 533945 1 line 1
+    expect find-late-refusal 0 find $samples/refused-16-loop-walked-backwards.dat 533945 1 area 1
+    by_bytes
+    by_forms
     expect where-digits 0 where 533945 1 1
     says where-refused 1 $'number=6\n' where 533985 0 0
     says where-negative 1 $'number=6\n' where 533945 -1 0
@@ -188,33 +224,32 @@ by_misuse() {
     complains "record x" "whole number from 1" record 1x $smallest
     complains "record past the last" "no record 8, the last one is 7" record 8 $smallest
     complains "record of no kind" "KIND is" record 1 $smallest B
-    complains "record that nothing tells" "name it" record 1 "$work/letterless"
+    complains "record past a cut one" "no record 3, the last one is 2" record 3 "$work/cut"
+    complains "find without a number" "find takes" find $smallest 533945 1 line
+    complains "find of a thing that there isn't" "find takes" find $smallest 533945 1 point 1
+    complains "find with a word too many" "find takes" find $smallest 533945 1 line 1 1
+    complains "find in no such layer" "no layer 5 of a mesh 533945" find $smallest 533945 5 line 1
+    complains "find of no such line" "no line 2 in layer 1 of mesh 533945, the last one is 1" find $smallest 533945 1 line 2
+    complains "find of line 0" "no line 0" find $smallest 533945 1 line 0
+    complains "standard input twice" "one - at most" check - - <$smallest
+    complains "explain of no refusal's number" "no refusal has that number" explain 23
+    complains "two forms" "not two" check --json --quiet $smallest
+    complains "no such form" "no such option" check --format=xml $smallest
+    complains "-j without a number" "-j takes" check $smallest -j
+    complains "-j 0" "-j takes" check -j 0 $smallest
+    complains "-j with record" "-j is for" record -j 2 1 $smallest
+    complains "where with a word too many" "where takes" where 533945 1 1 1
+    complains "where by line" "has nothing to say" where --format=line 533945 1 1
     complains "where without Y" "where takes" where 533945 1
     complains "where with a word" "where takes" where 533945 1 y
     complains "where beyond 32 bits" "where takes" where 533945 1 2147483648
-    says "version" 0 $'stragumella 0.1\n' --version
+    says "version" 0 $'stragumella 0.2\n' --version
+    says "version behind a command" 0 $'stragumella 0.2\n' check -V
+    says "version, short" 0 $'stragumella 0.2\n' -V
     expect help 0 --help
-}
-
-# ---- kinds: the table and the letters tell the same of an accepted sheet
-
-# The letters tell where a byte more than the last record has made the file a refused one.
-by_kinds() {
-    local file=$samples/kasumigaura-5440.dat step=11 wrong=0 n table letters
-    if [ "$machine" != x86_64 ]; then
-        step=50
-    fi
-    { cat $file; printf ' '; } >"$work/longer"
-    for ((n = 1; n <= 660; n += step)); do
-        table=$("${run[@]}" record $n $file | grep -v told_by)
-        letters=$("${run[@]}" record $n "$work/longer" | grep -v told_by)
-        [ "$table" = "$letters" ] || wrong=$((wrong + 1))
-    done
-    if [ $wrong -eq 0 ]; then
-        pass "kinds by table and by letters agree"
-    else
-        fail "kinds by table and by letters agree" "$wrong differ"
-    fi
+    expect help 0 -h
+    expect help 0 record --help
+    expect help 0 check $smallest -h
 }
 
 # ---- files of several hundred megabytes
@@ -267,6 +302,7 @@ by_size() {
         records $((meshes * 99999)) >>"$work/counts"
     tool check "$work/big"
     hold "a sheet of $meshes meshes, $(wc -c <"$work/big") bytes, mapped" 0 "$work/counts"
+    by_time "$work/big"
     if [ $meshes -eq 64 ]; then
         record 7 >>"$work/big"
         says_refused "a record too many" 1 6399937 1 check "$work/big"
@@ -292,7 +328,7 @@ by_warnings() {
         if ! command -v $compiler >/dev/null; then
             skip "$compiler" "not here"
         elif $compiler -std=c11 -D_POSIX_C_SOURCE=200809L -Wall -Wextra -Wpedantic -Wshadow -Wconversion -Werror \
-            -Iinclude -fsyntax-only host/main.c host/input.c host/sheet.c host/record.c second/answer.c 2>"$work/err"; then
+            -Iinclude -fsyntax-only host/*.c second/answer.c 2>"$work/err"; then
             pass "$compiler has nothing to say"
         else
             fail "$compiler has nothing to say" "$(head -n 5 "$work/err")"
@@ -318,7 +354,7 @@ by_other_builds() {
     by_calls target/host/test_api
     if echo 'int main(void) { return 0; }' | cc -fsanitize=address,undefined -x c -o "$work/probe" - 2>/dev/null; then
         make -s target/host/sanitized target/host/test_api-sanitized || exit 1
-        run=(target/host/sanitized)
+        run=("$PWD/target/host/sanitized")
         way="sanitized: "
         by_calls target/host/test_api-sanitized
         by_samples
@@ -329,15 +365,17 @@ by_other_builds() {
     way=
     if command -v clang >/dev/null; then
         make -s target/host/bare 2>"$work/err" || cat "$work/err"
-        run=(target/host/bare)
+        run=("$PWD/target/host/bare")
+        names=left-out
         way="bare: "
         by_samples
+        names=held
     else
         skip "bare" "no clang"
     fi
     way=
     if command -v valgrind >/dev/null; then
-        run=(valgrind -q --error-exitcode=99 --leak-check=full target/host/stragumella)
+        run=(valgrind -q --error-exitcode=99 --leak-check=full "$PWD/target/host/stragumella")
         way="valgrind: "
         by_calls valgrind -q --error-exitcode=99 --leak-check=full target/host/test_api
         by_few
@@ -346,14 +384,16 @@ by_other_builds() {
     fi
 }
 
-: >"$work/empty"
-head -c 100 $smallest >"$work/cut"
-printf '%74s' '' >"$work/letterless"
+. host/test_forms.sh
+make_files
 by_samples
 by_inputs
 by_misuse
-by_kinds
+by_names
+by_many
 by_size
+by_own_programs
+by_readme
 by_warnings
 by_other_builds
 echo "host: $passed passed, $failed failed, $skipped skipped"

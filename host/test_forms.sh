@@ -1,0 +1,225 @@
+# Further tests of the tool, for host/test.sh: files with faults of their bytes, the forms of output, names, many files at a time, the
+# programs that try a part of the C side alone, and the README's program.
+
+# ---- files that are made here
+
+make_files() {
+    : >"$work/empty"
+    head -c 100 $smallest >"$work/cut"
+    # the Kyushu sample without its 25th record, a coordinate record
+    { head -c $((24 * 74)) $samples/kyushu-4830.dat; tail -c +$((25 * 74 + 1)) $samples/kyushu-4830.dat; } >"$work/taken-out"
+    # S with small letters, and with an L where the A is due
+    LC_ALL=C sed 's/^A /L /' $smallest >"$work/letters"
+    LC_ALL=C sed 's/^A /a /' $smallest >"$work/small-letters"
+    # S as it comes out of a transfer that means well
+    tr -d '\r' <$smallest >"$work/line-feeds"
+    LC_ALL=C sed 's/ *\r$/\r/' $smallest >"$work/stripped"
+    { printf '\357\273\277'; cat $smallest; } >"$work/marked"
+    { cat $smallest; printf '\032'; } >"$work/ended"
+    gzip -nc $smallest >"$work/packed"
+    iconv -f CP932 -t UTF-8 $smallest >"$work/unicode"
+}
+
+# ---- a first look at the bytes
+
+# guesses NAME CAUSE FILE: the first guess is that cause; the page tells it as a guess.
+guesses() {
+    tool explain --json "$3"
+    if [ $status -ne 1 ] || ! grep -q "\"guesses\":\[{\"cause\":\"$2\"" "$work/out"; then
+        fail "$1" "status $status, not the cause $2:" "$(cut -c 1-300 "$work/out")"
+        return
+    fi
+    tool explain "$3"
+    if [ $status -eq 1 ] && grep -q 'a guess' "$work/out"; then
+        pass "$1"
+    else
+        fail "$1" "the page has no guess"
+    fi
+}
+
+by_bytes() {
+    guesses "a byte order mark" byte-order-mark "$work/marked"
+    guesses "LF alone" lf-alone "$work/line-feeds"
+    guesses "UTF-8" utf-8 "$work/unicode"
+    guesses "a packed file" packed "$work/packed"
+    guesses "stripped blanks" stripped-blanks "$work/stripped"
+    guesses "an end mark 1A" end-mark-1a "$work/ended"
+    guesses "an empty file" empty "$work/empty"
+    guesses "a cut transfer" cut "$work/cut"
+}
+
+# ---- forms of output
+
+# Each line is one JSON object, and all of them have the key $2.
+is_json() {
+    if ! command -v python3 >/dev/null; then
+        skip "$1" "no python3"
+    elif python3 -c 'import json, sys
+for line in open(sys.argv[1], "rb"):
+    assert sys.argv[2] in json.loads(line.decode("utf-8")), line' "$work/out" "$2" 2>"$work/err"; then
+        pass "$1"
+    else
+        fail "$1" "$(tail -n 1 "$work/err")" "$(cut -c 1-300 "$work/out")"
+    fi
+}
+
+by_forms() {
+    local command
+    expect check-json 2 check --json $smallest no-such-file $samples/refused-16-loop-walked-backwards.dat
+    expect measure-json 0 --json measure $smallest
+    expect record-json 0 record 6 $smallest --json
+    expect record-json-refused 1 record 26 "$work/taken-out" --format=json
+    expect find-json 0 find --json $samples/kasumigaura-5440.dat 544001 5 line 2
+    expect where-json 0 where --json 533945 10000 10000
+    says "where refused, as JSON" 1 $'{"number":6}\n' where --json 533985 0 0
+    expect explain-16-json 0 explain --json 16
+    for command in check explain measure sums; do
+        tool $command --json $samples/*.dat "$work"/*
+        is_json "$command as JSON, of every file here" file
+    done
+    expect check-line 1 check --format=line $samples/*.dat
+    expect measure-line 1 measure --format=line $smallest $samples/refused-16-loop-walked-backwards.dat
+    expect sums-line 0 sums --format=line $samples/kasumigaura-5440.dat
+    expect record-line 1 record 26 "$work/taken-out" --format=line
+    says "explain as lines" 1 "$samples/refused-10-wrong-total.dat:1:52: 10 the total is not what was counted"$'\n' \
+        explain --format=line $smallest $samples/refused-10-wrong-total.dat
+    says "quiet, accepted" 0 "" check --quiet $smallest
+    says "quiet, refused" 1 "" check -q $samples/refused-*.dat
+    says "quiet, a record" 0 "" record -q 1 $smallest
+    says "quiet, figures" 0 "" sums -q $samples/kasumigaura-5440.dat
+    complains "quiet, missing" "No such file" check -q no-such-file
+}
+
+# ---- names that would be taken for something else
+
+by_names() {
+    local odd=$'odd\nstatus=ok\033[2J\\' bad=$'bad\377\233name'
+    cp $smallest "$work/$odd" && cp $smallest "$work/$bad" && cp $smallest "$work/-7"
+    (cd "$work" && "${run[@]}" check "$odd" empty) >"$work/out" 2>"$work/err"
+    status=$?
+    hold "a name with a line feed" 1 host/expected/name-odd
+    (cd "$work" && "${run[@]}" check --json "$odd" "$bad") >"$work/out" 2>"$work/err"
+    status=$?
+    hold "names in JSON" 0 host/expected/name-json
+    is_json "names in JSON, read back" file
+    (cd "$work" && "${run[@]}" check --format=line "$odd"x empty) >"$work/out" 2>"$work/err"
+    status=$?
+    if [ "$(wc -l <"$work/err")" -eq 1 ] && grep -qF 'odd\nstatus=ok\x1B[2J\\x: No such file' "$work/err"; then
+        pass "a name with a line feed in a message"
+    else
+        fail "a name with a line feed in a message" "$(cat "$work/err")"
+    fi
+    (cd "$work" && "${run[@]}" check -q -- -7) >"$work/out" 2>"$work/err"
+    status=$?
+    hold "a name behind --" 0 /dev/null
+    complains "the same name before it" "no such option" check -7
+    rm "$work/$odd" "$work/$bad" "$work/-7"
+}
+
+# ---- many files at a time
+
+by_many() {
+    local files=($samples/*.dat no-such-file $samples/*.dat "$work/empty" "$work/taken-out" $samples/*.dat) way_of
+    for way_of in check measure sums explain; do
+        "${run[@]}" $way_of "${files[@]}" >"$work/one" 2>"$work/one-err"
+        tool $way_of -j 3 "${files[@]}"
+        cp "$work/err" "$work/many-err"
+        hold "$way_of, three at a time as one by one" 2 "$work/one"
+        cmp -s "$work/one-err" "$work/many-err" || fail "messages of $way_of -j 3" "$(cat "$work/many-err")"
+    done
+    by_progress
+}
+
+# On a terminal, which `script` makes: work of over a second tells how far it is, shorter work and work without a terminal don't.
+by_progress() {
+    local name="progress on a terminal"
+    if ! command -v script >/dev/null; then
+        skip "$name" "no program to make a terminal"
+        return
+    fi
+    script -qec "(sleep 2; cat $smallest) | ${run[*]} check - $smallest" /dev/null </dev/null >"$work/out" 2>&1
+    if grep -qa 'stragumella: 0 of 2 files, [12] s' "$work/out" && grep -qa 'records=7' "$work/out"; then
+        pass "$name"
+    else
+        fail "$name" "$(head -c 300 "$work/out")"
+    fi
+    script -qec "${run[*]} check $smallest" /dev/null </dev/null >"$work/out" 2>&1
+    if grep -qa ' s' "$work/out"; then
+        fail "no progress of short work" "$(head -c 300 "$work/out")"
+    else
+        pass "no progress of short work"
+    fi
+    (sleep 2; cat $smallest) | "${run[@]}" check - >"$work/out" 2>"$work/err"
+    status=$?
+    hold "no progress without a terminal" 0 host/expected/check-smallest
+}
+
+# Seconds that a command takes, the least of three.
+least_seconds() {
+    local least=999999 start end
+    for _ in 1 2 3; do
+        start=$(date +%s%N)
+        "${run[@]}" "$@" >/dev/null 2>&1
+        end=$(date +%s%N)
+        [ $(((end - start) / 1000000)) -lt $least ] && least=$(((end - start) / 1000000))
+    done
+    echo $least
+}
+
+# The sums of a file of many layers take no longer than twice its check.
+by_time() {
+    local check sums
+    check=$(least_seconds check "$1")
+    sums=$(least_seconds sums "$1")
+    if [ "$sums" -le $((2 * check)) ]; then
+        pass "sums take $sums ms, check $check ms"
+    else
+        fail "sums take longer than twice check" "sums $sums ms, check $check ms"
+    fi
+}
+
+# ---- parts of the C side, each with a program of its own that needs no library: on every machine, with the compiler's checks
+
+by_own_programs() {
+    local name sanitize=
+    if echo 'int main(void) { return 0; }' | cc -fsanitize=address,undefined -x c -o "$work/probe" - 2>/dev/null; then
+        sanitize="-g -fsanitize=address,undefined -fno-sanitize-recover=all"
+    fi
+    for name in "look: host/look.c host/text.c" "names: host/names.c" "layout: host/layout.c"; do
+        # shellcheck disable=SC2086
+        if cc -std=c11 -D_POSIX_C_SOURCE=200809L -Wall -Wextra -Werror $sanitize -o "$work/program" "host/test_${name%%:*}.c" ${name#*:} 2>"$work/err" &&
+            "$work/program" >"$work/out" 2>"$work/err"; then
+            pass "${name%%:*}: $(cat "$work/out")"
+        else
+            fail "${name%%:*}" "$(cat "$work/out")" "$(head -n 5 "$work/err")"
+        fi
+    done
+}
+
+# ---- the README's program: it compiles as C and as C++ by the lines that stand beside it, and runs where the library does
+
+by_readme() {
+    local compiler line
+    sed -n '/^```c$/,/^```$/p' README.md | sed '/^```/d' >"$work/judge.c"
+    for compiler in "cc -std=c11" "c++ -std=c++11 -x c++"; do
+        if $compiler -Wall -Wextra -Wpedantic -Werror -Iinclude -fsyntax-only "$work/judge.c" 2>"$work/err"; then
+            pass "README's program, ${compiler%% *}"
+        else
+            fail "README's program, ${compiler%% *}" "$(head -n 5 "$work/err")"
+        fi
+    done
+    if [ "$machine" != x86_64 ]; then
+        skip "README's compile lines" "only where the machine is x86-64"
+        return
+    fi
+    for line in cc c++; do
+        line=$(sed -n "s/^    \($line .*judge\.c.*\)/\1/p" README.md | head -n 1)
+        line=${line//judge.c/$work/judge.c}
+        if $line -o "$work/judge" 2>"$work/err" && "$work/judge" <$smallest >"$work/out" 2>"$work/err" &&
+            [ "$(cat "$work/out")" = "number 0 at 0,0; 1 areas" ]; then
+            pass "README: ${line%% *}"
+        else
+            fail "README: ${line%% *}" "$(cat "$work/out")" "$(head -n 5 "$work/err")"
+        fi
+    done
+}
