@@ -49,14 +49,20 @@ $(TOOL): $(SOURCES) $(HEADERS) $(LIBRARY) host/bare.sh
 	host/bare.sh $@ $(LIBRARY) $(SOURCES)
 endif
 
-# The library's calls one by one, and both programs with the compiler's checks of the C side; x86-64 only.
-SANITIZE = -g -fsanitize=address,undefined -fno-sanitize-recover=all
-
-target/host/test_api: host/test_api.c include/stragumella.h $(LIBRARY)
+# The library's calls one by one.
+ifeq ($(MACHINE),x86_64)
+target/host/test_api: host/test_api.c host/system.h include/stragumella.h $(LIBRARY)
 	@mkdir -p $(@D)
 	$(COMPILE) -o $@ host/test_api.c $(LIBRARY)
+else
+target/host/test_api: host/test_api.c host/system.h include/stragumella.h $(LIBRARY) host/bare.sh
+	host/bare.sh $@ $(LIBRARY) host/test_api.c
+endif
 
-target/host/test_api-sanitized: host/test_api.c include/stragumella.h $(LIBRARY)
+# Both programs with the compiler's checks of the C side; x86-64 only.
+SANITIZE = -g -fsanitize=address,undefined -fno-sanitize-recover=all
+
+target/host/test_api-sanitized: host/test_api.c host/system.h include/stragumella.h $(LIBRARY)
 	@mkdir -p $(@D)
 	$(COMPILE) $(SANITIZE) -o $@ host/test_api.c $(LIBRARY)
 

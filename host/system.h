@@ -1,4 +1,4 @@
-/* What the tool and second/answer.c use of the C library and the system: memory, files, printing, threads.
+/* What the tool, its tests and second/answer.c use of the C library and the system: memory, files, printing, threads.
  *
  * Where the C library has no headers for the target (-DBARE), the declarations stand here by hand. They are
  * those of x86-64 Linux with glibc, the one target that the proved library is built for.
@@ -38,6 +38,7 @@ int ferror(FILE *stream);
 int fclose(FILE *stream);
 FILE *open_memstream(char **bytes, size_t *length);
 
+void *malloc(size_t size);
 void *calloc(size_t count, size_t size);
 void *realloc(void *block, size_t size);
 void free(void *block);
@@ -48,6 +49,8 @@ int strcmp(const char *a, const char *b);
 int strncmp(const char *a, const char *b, size_t length);
 size_t strlen(const char *text);
 void *memcpy(void *to, const void *from, size_t length);
+void *memset(void *to, int byte, size_t length);
+int memcmp(const void *a, const void *b, size_t length);
 char *strerror(int number);
 int *__errno_location(void);
 #define errno (*__errno_location())

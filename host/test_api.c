@@ -4,15 +4,11 @@
  * buffer is a block of its own of just its length, so that a memory checker sees a step past it. Prints one line; the
  * exit status is 0 or 1.
  *
- *     rt staticlib capi
- *     gcc -std=c11 -Iinclude -o test_api host/test_api.c target/staticlib/libcapi.a
+ *     make target/host/test_api && target/host/test_api
  */
 #include "stragumella.h"
 
-#include <limits.h>
-#include <stdio.h>
-#include <stdlib.h>
-#include <string.h>
+#include "system.h"
 
 /* the structs are laid out as the archive has them; `place` nests its degrees there, at the same offsets */
 _Static_assert(sizeof(stragumella_outcome) == 48 && offsetof(stragumella_outcome, need) == 40, "outcome");
@@ -227,6 +223,35 @@ static void sums(const uint8_t *bytes, size_t length, size_t words, uint32_t lay
     free(file), free(table);
 }
 
+/* all sums of a file that has `n` layers, with `room` places */
+static void all_sums(const uint8_t *bytes, size_t length, size_t words, size_t room, expected e, uint32_t n)
+{
+    uint8_t *file = lent(bytes, length);
+    uint32_t *table = lent_words(words);
+    int64_t *pairs = lent_places(room);
+    uint64_t need = 0;
+    if (e.number == 0 || e.number > 9) {
+        if (words < e.need) {
+            e.number = 9, e.record = 0, e.column = 0;
+            need = e.need;
+        } else if (e.number == 0 && room < 2 * (size_t)n)
+            e.number = 48;
+    }
+    uint32_t count = e.number == 0 ? n : 0;
+    stragumella_outcome o = stragumella_all_sums(file, length, table, words, pairs, room);
+    HOLD(o.number == e.number && o.record == e.record && o.column == e.column);
+    HOLD(o.meshes == count && o.layers == count && o.nodes == count && o.lines == count && o.areas == count);
+    HOLD(o.records == 7 * count);
+    HOLD(o.need == need);
+    HOLD(table_is(table, words, e.number, &e));
+    int ok = 1;
+    for (size_t i = 0; i < room; i++)
+        ok &= pairs[i] == (i < 2 * (size_t)count ? 200000000 : place(i));
+    HOLD(ok);
+    HOLD(same_bytes(file, bytes, length));
+    free(file), free(table), free(pairs);
+}
+
 static void need(const uint8_t *bytes, size_t length, uint64_t words)
 {
     uint8_t *file = lent(bytes, length);
@@ -243,6 +268,8 @@ static void all(const uint8_t *bytes, size_t length, expected e, uint32_t n)
     for (size_t words = 0; words <= e.need + 2; words++) {
         for (size_t places = 0; places <= n + 2u; places++)
             judge(bytes, length, words, places, e, n);
+        for (size_t room = 0; room <= 2 * n + 2u; room++)
+            all_sums(bytes, length, words, room, e, n);
         for (uint32_t layer = 0; layer <= n + 1; layer++)
             sums(bytes, length, words, layer, e, n);
         sums(bytes, length, words, UINT32_MAX, e, n);
@@ -307,6 +334,54 @@ static void files(void)
     NEIGHBOUR(put(a, 10, 5, 2), 8, 6, 10);
     NEIGHBOUR(o[72] = ' ', 2, 7, 73);
     NEIGHBOUR(a[73] = ' ', 2, 6, 74);
+}
+
+/* ---- what is due */
+
+/* the kinds that are due at the records from 1 on, as digits; nothing at record 0 and behind them */
+static void due(const uint8_t *bytes, size_t length, const char *kinds)
+{
+    uint8_t *file = lent(bytes, length);
+    uint32_t n = (uint32_t)strlen(kinds);
+    int ok = 1;
+    for (uint32_t k = 1; k <= n; k++)
+        ok &= stragumella_due(file, length, k) == (uint32_t)(kinds[k - 1] - '0');
+    HOLD(ok);
+    HOLD(stragumella_due(file, length, 0) == 0 && stragumella_due(file, length, n + 1) == 0);
+    HOLD(stragumella_due(file, length, n + 2) == 0 && stragumella_due(file, length, UINT32_MAX) == 0);
+    HOLD(same_bytes(file, bytes, length));
+    free(file);
+}
+
+static void dues(void)
+{
+    uint8_t s[TWO];
+    memset(s, ' ', sizeof s);
+    due(s, 0, "1");
+    due(s, RECORD - 1, "1");
+    due(s, 3 * RECORD, "1111");
+    sheet(s, 533945);
+    sheet(s + SHEET, 533946);
+    due(s, SHEET, "12345671");
+    due(s, SHEET + 1, "12345671");
+    due(s, SHEET - 1, "1234567");
+    due(s, SHEET - RECORD, "1234567");
+    due(s, TWO, "123456712345671");
+
+    /* counts steer, whatever the record is good for otherwise; an ill-formed one counts as 0, one below 0 by its size */
+    put(s + 3 * RECORD, 50, 6, -8);
+    due(s, SHEET, "12345567");
+    memcpy(s + 3 * RECORD + 49, "000008", 6);
+    due(s, SHEET, "12346711");
+    sheet(s, 533945);
+    memcpy(s, "XX", 2);
+    due(s, SHEET, "12345671");
+
+    /* S without its coordinates: they are due all the same */
+    sheet(s, 533945);
+    for (size_t i = 0; i < 2 * RECORD; i++)
+        s[4 * RECORD + i] = s[5 * RECORD + i];
+    due(s, SHEET - RECORD, "1234561");
 }
 
 /* ---- positions */
@@ -452,6 +527,7 @@ static void records(void)
 int main(void)
 {
     files();
+    dues();
     positions();
     records();
     if (failed)
