@@ -127,6 +127,20 @@ typedef struct {
 uint64_t stragumella_need(const uint8_t *file, size_t length);
 
 /*
+ * The kind of record that is due at a record of a file, by its number: 1 to 7, as stragumella_record lists them. The file
+ * need not be accepted: each record before it is taken for what was due at its place, and a number that says which
+ * records follow counts by its size, 0 where it is ill formed. It is the kind that stage 2 judges the record by.
+ * Told of each record of the file, of no more than 6,399,936, and of the first one behind them, where a further record
+ * would stand: 1 there says that the file may end. 0, nothing, for record 0 and for records further on.
+ * The records before it are walked in each call, runs of N and of coordinates in one step.
+ *
+ * file     length bytes, read.
+ * Promises: Total. Exact: in a file that keeps stages 1 and 2 stragumella_read_record reads each record by the kind that
+ * is told of it, and refuses none.
+ */
+uint32_t stragumella_due(const uint8_t *file, size_t length, uint32_t record);
+
+/*
  * Judges a file by all rules, 1 to 19: number 0 exactly if it keeps every one, with its counts; otherwise the first
  * broken rule and its place.
  *

@@ -1,6 +1,7 @@
 -- The records of C: a kind is a number there (RULES 9.7; 4.8, 9.4, 9.5). Assumes nothing.
 --   meantBy n         the kind that the number n stands for, if it stands for one: 1 M, 2 H, 3 N, 4 L, 5 coordinates, 6 A, 7 loop
 --   kindNumber k      the number that stands for the kind k
+--   owedNumber o      what is told of a record, by number
 --   meantRecord k v   the value v as a record of kind k, and givenValue r the record r with its kind as a number
 --   foundOf n s      the answer to the bytes s, read as a record of the kind that n stands for
 --   WrittenValue     the writer's answer and its buffer afterwards
@@ -16,6 +17,8 @@ use Rattle.records.specs.declared.Record.{Record}
 use Rattle.records.specs.declared.Reading.{Reading}
 use Rattle.records.specs.Reading.{zeros, noName, readingOf}
 use Rattle.records.specs.Writing.{Written}
+use Rattle.dues.specs.declared.Owed.{Owed}
+use Rattle.dues.specs.declared.Owed.the-variants as owed
 use Rattle.capi.specs.declared.Meant.{Meant}
 use Rattle.capi.specs.declared.Meant.the-variants.{A, Nothing}
 use Rattle.capi.specs.declared.Value.{Value}
@@ -38,6 +41,11 @@ kindNumber Line = 4
 kindNumber Coordinates = 5
 kindNumber Area = 6
 kindNumber Loop = 7
+
+-- RULES 9.10: the kind that is due by its number, and 0 for nothing
+abbrev pub owedNumber : Owed → ℕ
+owedNumber (owed.A k) = kindNumber k
+owedNumber owed.Nothing = 0
 
 -- RULES 4.8: a record's value is its kind, its numbers in column order and its name bytes
 abbrev pub meantRecord : Kind → Value → Record

@@ -3,6 +3,7 @@
 // what a record's kind is by number.
 //
 // The contracts cite the definitions of the calls below, and `specs/Values.antt` for the kinds.
+use dues::Owed;
 use judge::Outcome;
 use judge::Sums;
 use positions::Placed;
@@ -11,9 +12,10 @@ use records::Record;
 ghost use mathlib.Core.Path.{_≡_};
 ghost use lib.ListN.{length};
 ghost use Rattle.walk.specs.Stages.{needOf};
+ghost use Rattle.dues.specs.Dues.{dueAt};
 ghost use Rattle.judge.specs.Outcomes.{outcomeOf, tableAfter, measuresAfter, sumsOf, tableAfterSums};
 ghost use Rattle.positions.specs.Degrees.{positionOf};
-ghost use Rattle.capi.specs.Values.{meantBy, kindNumber, noKind, foundOf, WrittenValue};
+ghost use Rattle.capi.specs.Values.{meantBy, kindNumber, owedNumber, noKind, foundOf, WrittenValue};
 
 // What a kind's number stands for: a kind, or nothing.
 pub enum Meant {
@@ -47,6 +49,18 @@ pub extern "C" fn stragumella_need(file: &[u8]) -> u64
     ensures { λ r. ⌜ r ≡ needOf (now (file .entry)) ⌝ }
 {
     walk::need(file) as u64
+}
+
+// The number of the kind that is due at record `row`, and 0 where nothing is told.
+#[no_mangle]
+pub extern "C" fn stragumella_due(file: &[u8], row: u32) -> u32
+    ensures { λ r. ⌜ r ≡ owedNumber (dueAt (now (file .entry)) row) ⌝ }
+{
+    let owed = dues::due_at(file, row);
+    let Owed::A(kind) = owed else {
+        return 0;
+    };
+    number_of(kind)
 }
 
 // Judges a file, with its table and its areas' measures left in the lent buffers.

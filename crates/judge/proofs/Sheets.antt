@@ -45,12 +45,12 @@ use Rattle.judge.specs.Sheets.{field, cases, twoMeshes, node, line, coor
 -- what has to compute, under four names: a line that names one of them opens all that its own line names
 
 -- how a sheet is written
-writing : Unit {0}
+unfoldable pub writing : Unit {0}
 unfolding columns spell layoutOf fieldText textOf recordBytes written mRecord hRecord nRecord lRecord points aRecord loopRecord put sheetS changed
 writing = tt
 
 -- how a file is walked
-walking : Unit {0}
+unfoldable pub walking : Unit {0}
 unfolding isInside bytesAt afterBlanks digitsOf plainOf signedOf numberOf numberAt recordOf sizeIn dueOf nextOf stateAt layerWords countsAt recordsOf
 walking = tt
 

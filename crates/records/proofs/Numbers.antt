@@ -69,7 +69,8 @@ module _ (file : List ℕ) (k : ℕ) (p : 1 ≤ k) (h : k ≤ length file / 74) 
       let e : k * 74 - (k * 74 - 74) ≡ 74 = omega arith in
       rw e record-is
 
-  record-length : length (recordOf file k) ≡ 74
+  -- a record that is there has 74 bytes
+  pub record-length : length (recordOf file k) ≡ 74
   record-length = rw record-is (length-take-le 74 (drop (k * 74 - 74) file) (rw length-drop (omega arith)))
 
   module _ (c w : ℕ) (q : 1 ≤ c) where

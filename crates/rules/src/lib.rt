@@ -44,7 +44,7 @@ fn value_fault(due: Due, i: usize, ns: &[i32]) -> u32
 }
 
 // The kind of record that is due.
-fn kind_of(due: Due) -> Kind
+pub fn kind_of(due: Due) -> Kind
     ensures { λ r. ⌜ r ≡ kindOf due ⌝ }
 {
     match due {
