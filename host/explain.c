@@ -186,10 +186,12 @@ static void print_guesses(FILE *out, const Explanation *e)
     Guess guesses[GUESSES];
     size_t count = look(e->file->bytes, e->file->length, e->number, e->record, guesses, GUESSES);
     if (count > 0) {
-        fputs("\nA first look at the bytes, a guess:\n", out);
+        fputs("\nA first look at the bytes, as a guess:\n", out);
     }
     for (size_t i = 0; i < count; i++) {
-        print_wrapped(out, "  -", guesses[i].seen);
+        char text[256];
+        snprintf(text, sizeof text, "%s (%s)", cause_title(guesses[i].cause), guesses[i].seen);
+        print_wrapped(out, "  -", text);
     }
 }
 
@@ -283,6 +285,7 @@ static void put_guesses(Writer *w, const Explanation *e)
     for (size_t i = 0; i < count; i++) {
         row_begin(w, e->record);
         put_word(w, "cause", guesses[i].cause);
+        put_text(w, "likely", cause_title(guesses[i].cause));
         put_text(w, "seen", guesses[i].seen);
         row_end(w);
     }

@@ -641,3 +641,44 @@ size_t look(const uint8_t *bytes, size_t length, uint32_t number, uint32_t recor
     }
     return count;
 }
+
+/* ---- words for people */
+
+const char *cause_title(const char *cause)
+{
+    static const struct {
+        const char *cause;
+        const char *title;
+    } titles[] = {
+        {"empty", "the file is empty"},
+        {"packed", "a packed file: unpack it first"},
+        {"utf-16", "the text was saved as UTF-16"},
+        {"ebcdic", "the text is EBCDIC"},
+        {"byte-order-mark", "a byte order mark stands before the first record"},
+        {"no-sheet", "no map sheet"},
+        {"lf-alone", "LF alone in place of CR LF"},
+        {"cr-alone", "CR alone in place of CR LF"},
+        {"cr-doubled", "CR CR LF in place of CR LF: converted twice"},
+        {"lf-cr", "LF CR in place of CR LF"},
+        {"no-line-ends", "no line ends"},
+        {"line-end-changed", "one line end was overwritten"},
+        {"names-lost", "a conversion lost the names"},
+        {"utf-8", "the names were converted to UTF-8"},
+        {"tabs", "spaces became tabs"},
+        {"stripped-blanks", "blanks at the ends of lines were stripped"},
+        {"empty-line", "an empty line"},
+        {"line-too-short", "bytes of a record were lost"},
+        {"line-too-long", "bytes were added to a record"},
+        {"last-line-end", "the last line end is missing"},
+        {"cut", "the file was cut: a transfer that broke off"},
+        {"end-mark", "an end mark 1A stands behind the last record"},
+        {"zeros-at-end", "zeros fill up the file's end"},
+        {"too-many-records", "more records than a sheet can have"},
+    };
+    for (size_t i = 0; i < sizeof titles / sizeof *titles; i++) {
+        if (strcmp(cause, titles[i].cause) == 0) {
+            return titles[i].title;
+        }
+    }
+    return cause;
+}

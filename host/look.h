@@ -45,4 +45,7 @@ typedef struct {
  * the first bytes, those from the refused record on and the last ones are looked at, a few thousand each. */
 size_t look(const uint8_t *bytes, size_t length, uint32_t number, uint32_t record, Guess *guesses, size_t most);
 
+/* A cause in a few words for people. */
+const char *cause_title(const char *cause);
+
 #endif

@@ -30,7 +30,7 @@ guesses() {
         return
     fi
     tool explain "$3"
-    if [ $status -eq 1 ] && grep -q 'a guess' "$work/out"; then
+    if [ $status -eq 1 ] && grep -q 'as a guess' "$work/out"; then
         pass "$1"
     else
         fail "$1" "the page has no guess"
@@ -43,7 +43,7 @@ by_bytes() {
     guesses "UTF-8" utf-8 "$work/unicode"
     guesses "a packed file" packed "$work/packed"
     guesses "stripped blanks" stripped-blanks "$work/stripped"
-    guesses "an end mark 1A" end-mark-1a "$work/ended"
+    guesses "an end mark 1A" end-mark "$work/ended"
     guesses "an empty file" empty "$work/empty"
     guesses "a cut transfer" cut "$work/cut"
 }
@@ -185,7 +185,7 @@ by_own_programs() {
     if echo 'int main(void) { return 0; }' | cc -fsanitize=address,undefined -x c -o "$work/probe" - 2>/dev/null; then
         sanitize="-g -fsanitize=address,undefined -fno-sanitize-recover=all"
     fi
-    for name in "look: host/look.c host/text.c" "names: host/names.c" "layout: host/layout.c"; do
+    for name in "look: host/look.c" "names: host/names.c" "layout: host/layout.c"; do
         # shellcheck disable=SC2086
         if cc -std=c11 -D_POSIX_C_SOURCE=200809L -Wall -Wextra -Werror $sanitize -o "$work/program" "host/test_${name%%:*}.c" ${name#*:} 2>"$work/err" &&
             "$work/program" >"$work/out" 2>"$work/err"; then

@@ -2,7 +2,7 @@
  * there. */
 #include "texts.h"
 
-#include "sheet.h"
+#include "layout.h"
 
 /* ---- the numbers (RULES 6.2) */
 
