@@ -541,7 +541,7 @@ static void random_files(void)
 {
     uint32_t seed = 74;
     uint8_t made[ROOM];
-    for (int i = 0; i < 10000; i++) {
+    for (int i = 0; i < 20000; i++) {
         uint32_t record;
         size_t length = any_file(made, &seed);
         uint8_t *bytes = block(made, length);
