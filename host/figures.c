@@ -14,14 +14,6 @@ void put_counts(Writer *w, const Sheet *sheet)
     put_number(w, "records", o->records);
 }
 
-/* Text has no line for an accepted file but its figures. */
-static void put_status(Writer *w)
-{
-    if (w->format == AS_JSON) {
-        put_word(w, "status", "ok");
-    }
-}
-
 /* One area: its A record's numbers are layer, code and serial. */
 static void put_area(Writer *w, const Sheet *sheet, const Mesh *mesh, uint32_t record, int64_t measure)
 {
@@ -40,7 +32,7 @@ void put_measures(Writer *w, const Sheet *sheet)
     const uint32_t *areas = sheet_lines(sheet) + sheet->outcome.lines;
     const int64_t *measure = sheet->figures;
     Mesh mesh = {0};
-    put_status(w);
+    put_status(w, "ok");
     list_begin(w, "areas");
     for (size_t layer = 0; layer < sheet->outcome.layers; layer++) {
         mesh_next(&mesh, sheet, layer);
@@ -67,7 +59,7 @@ static void put_layer(Writer *w, const Sheet *sheet, const Mesh *mesh, size_t la
 void put_sums(Writer *w, const Sheet *sheet)
 {
     Mesh mesh = {0};
-    put_status(w);
+    put_status(w, "ok");
     list_begin(w, "layers");
     for (size_t layer = 0; layer < sheet->outcome.layers; layer++) {
         mesh_next(&mesh, sheet, layer);

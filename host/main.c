@@ -247,6 +247,7 @@ static int where(const Options *o)
     }
     stragumella_place place = stragumella_position(mesh, x, y);
     writer_begin(&w, o->format, NULL, 0);
+    put_status(&w, place.number != 0 ? "refused" : "ok");
     if (place.number != 0) {
         put_number(&w, "number", place.number);
     } else {

@@ -6,6 +6,7 @@
 
 #include "names.h"
 #include "text.h"
+#include "texts.h"
 
 /* ---- the bytes */
 
@@ -110,8 +111,10 @@ static void put_kind(Writer *w, uint32_t number, uint32_t kind, uint32_t due, in
 
 static int put_refused(Writer *w, const Input *file, uint32_t number, uint32_t kind, uint32_t refusal, uint32_t column)
 {
+    put_status(w, "refused");
     put_number(w, "number", refusal);
     put_number(w, "column", column);
+    put_message(w, refusal_text(refusal)->message);
     put_caret(w, file, number, field_at(kind, column), column);
     put_refusal_line(w, refusal, number, column);
     return REFUSED;
@@ -127,6 +130,7 @@ static int put_read(Writer *w, const Input *file, uint32_t number, uint32_t kind
     if (reading.number != 0) {
         return put_refused(w, file, number, kind, reading.number, reading.column);
     }
+    put_status(w, "ok");
     put_fields(w, kind, &reading.value);
     return ACCEPTED;
 }

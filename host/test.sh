@@ -13,6 +13,7 @@ trap 'rm -rf "$work"' EXIT
 machine=$(uname -m)
 samples=samples
 smallest=$samples/smallest.dat
+made=target/host/made
 most=473595264
 passed=0
 failed=0
@@ -129,17 +130,17 @@ by_few() {
     expect measure-two 1 measure $smallest $samples/refused-16-loop-walked-backwards.dat
     expect sums-smallest 0 sums $smallest
     expect record-1 0 record 1 $smallest
-    expect record-taken-out 1 record 26 "$work/taken-out"
+    expect record-taken-out 1 record 26 $made/taken-out
     expect record-behind-the-end 1 record 7 $samples/refused-04-ends-too-early.dat
-    expect explain-taken-out 1 explain "$work/taken-out"
+    expect explain-taken-out 1 explain $made/taken-out
     expect explain-many 1 explain $smallest $samples/refused-*.dat 16
-    expect explain-json 1 explain --json "$work/taken-out" $samples/refused-10-wrong-total.dat "$work/stripped"
+    expect explain-json 1 explain --json $made/taken-out $samples/refused-10-wrong-total.dat $made/stripped
     expect find-line 0 find $samples/kasumigaura-5440.dat 544001 5 line 2
     expect sums-json 1 sums --json $smallest $samples/refused-10-wrong-total.dat
     expect check-many 1 check -j 4 $samples/kasumigaura-5440.dat $samples/kyushu-4830.dat $samples/refused-*.dat $smallest
-    expect record-cut 1 record 2 "$work/cut"
+    expect record-cut 1 record 2 $made/cut
     expect where 0 where 533945 10000 10000
-    says_refused "empty file" 1 1 1 check "$work/empty"
+    says_refused "empty file" 1 1 1 check $made/empty
     expect check-smallest 0 check - <$smallest
     complains "directory" "samples: Is a directory" check samples
 }
@@ -158,9 +159,12 @@ by_samples() {
     expect record-h1 1 record 2 $samples/refused-07-unstructured-layer.dat
     expect record-late-refusal 0 record 7 $samples/refused-16-loop-walked-backwards.dat
     expect record-by-caller 1 record 1 $smallest N
-    expect record-other-letters 1 record 6 "$work/letters"
-    expect record-line-end 1 record 1 "$work/line-feeds"
-    says_refused "a coordinate record taken out" 5 26 1 check "$work/taken-out"
+    expect record-other-letters 1 record 6 $made/letters
+    expect record-line-end 1 record 1 $made/line-feeds
+    says_refused "a coordinate record taken out" 5 26 1 check $made/taken-out
+    says_refused "a small m" 3 1 1 check $made/small-m
+    says_refused "a small h" 3 2 1 check $made/small-h
+    says_refused "eight points of five" 5 6 1 check $made/eight-points
     expect find-node 0 find $samples/kasumigaura-5440.dat 544001 5 node 1
     expect find-area 0 find $samples/kasumigaura-5440.dat 544001 5 area 2
     says_refused "find in a file without a table" 4 7 1 find $samples/refused-04-ends-too-early.dat 533945 1 line 1
@@ -224,7 +228,7 @@ by_misuse() {
     complains "record x" "whole number from 1" record 1x $smallest
     complains "record past the last" "no record 8, the last one is 7" record 8 $smallest
     complains "record of no kind" "KIND is" record 1 $smallest B
-    complains "record past a cut one" "no record 3, the last one is 2" record 3 "$work/cut"
+    complains "record past a cut one" "no record 3, the last one is 2" record 3 $made/cut
     complains "find without a number" "find takes" find $smallest 533945 1 line
     complains "find of a thing that there isn't" "find takes" find $smallest 533945 1 point 1
     complains "find with a word too many" "find takes" find $smallest 533945 1 line 1 1

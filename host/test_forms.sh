@@ -4,20 +4,23 @@
 # ---- files that are made here
 
 make_files() {
-    : >"$work/empty"
-    head -c 100 $smallest >"$work/cut"
+    rm -rf $made && mkdir -p $made
+    : >$made/empty
+    head -c 100 $smallest >$made/cut
     # the Kyushu sample without its 25th record, a coordinate record
-    { head -c $((24 * 74)) $samples/kyushu-4830.dat; tail -c +$((25 * 74 + 1)) $samples/kyushu-4830.dat; } >"$work/taken-out"
-    # S with small letters, and with an L where the A is due
-    LC_ALL=C sed 's/^A /L /' $smallest >"$work/letters"
-    LC_ALL=C sed 's/^A /a /' $smallest >"$work/small-letters"
+    { head -c $((24 * 74)) $samples/kyushu-4830.dat; tail -c +$((25 * 74 + 1)) $samples/kyushu-4830.dat; } >$made/taken-out
+    # S with an L where the A is due, with small letters, with eight points
+    LC_ALL=C sed 's/^A /L /' $smallest >$made/letters
+    LC_ALL=C sed 's/^M /m /' $smallest >$made/small-m
+    LC_ALL=C sed 's/^H2/h2/' $smallest >$made/small-h
+    LC_ALL=C sed 's/     5 0  0/     8 0  0/' $smallest >$made/eight-points
     # S as it comes out of a transfer that means well
-    tr -d '\r' <$smallest >"$work/line-feeds"
-    LC_ALL=C sed 's/ *\r$/\r/' $smallest >"$work/stripped"
-    { printf '\357\273\277'; cat $smallest; } >"$work/marked"
-    { cat $smallest; printf '\032'; } >"$work/ended"
-    gzip -nc $smallest >"$work/packed"
-    iconv -f CP932 -t UTF-8 $smallest >"$work/unicode"
+    tr -d '\r' <$smallest >$made/line-feeds
+    LC_ALL=C sed 's/ *\r$/\r/' $smallest >$made/stripped
+    { printf '\357\273\277'; cat $smallest; } >$made/marked
+    { cat $smallest; printf '\032'; } >$made/ended
+    gzip -nc $smallest >$made/packed
+    iconv -f CP932 -t UTF-8 $smallest >$made/unicode
 }
 
 # ---- a first look at the bytes
@@ -38,14 +41,14 @@ guesses() {
 }
 
 by_bytes() {
-    guesses "a byte order mark" byte-order-mark "$work/marked"
-    guesses "LF alone" lf-alone "$work/line-feeds"
-    guesses "UTF-8" utf-8 "$work/unicode"
-    guesses "a packed file" packed "$work/packed"
-    guesses "stripped blanks" stripped-blanks "$work/stripped"
-    guesses "an end mark 1A" end-mark "$work/ended"
-    guesses "an empty file" empty "$work/empty"
-    guesses "a cut transfer" cut "$work/cut"
+    guesses "a byte order mark" byte-order-mark $made/marked
+    guesses "LF alone" lf-alone $made/line-feeds
+    guesses "UTF-8" utf-8 $made/unicode
+    guesses "a packed file" packed $made/packed
+    guesses "stripped blanks" stripped-blanks $made/stripped
+    guesses "an end mark 1A" end-mark $made/ended
+    guesses "an empty file" empty $made/empty
+    guesses "a cut transfer" cut $made/cut
 }
 
 # ---- forms of output
@@ -68,19 +71,19 @@ by_forms() {
     expect check-json 2 check --json $smallest no-such-file $samples/refused-16-loop-walked-backwards.dat
     expect measure-json 0 --json measure $smallest
     expect record-json 0 record 6 $smallest --json
-    expect record-json-refused 1 record 26 "$work/taken-out" --format=json
+    expect record-json-refused 1 record 26 $made/taken-out --format=json
     expect find-json 0 find --json $samples/kasumigaura-5440.dat 544001 5 line 2
     expect where-json 0 where --json 533945 10000 10000
-    says "where refused, as JSON" 1 $'{"number":6}\n' where --json 533985 0 0
+    says "where refused, as JSON" 1 $'{"status":"refused","number":6}\n' where --json 533985 0 0
     expect explain-16-json 0 explain --json 16
     for command in check explain measure sums; do
-        tool $command --json $samples/*.dat "$work"/*
+        tool $command --json $samples/*.dat $made/*
         is_json "$command as JSON, of every file here" file
     done
     expect check-line 1 check --format=line $samples/*.dat
     expect measure-line 1 measure --format=line $smallest $samples/refused-16-loop-walked-backwards.dat
     expect sums-line 0 sums --format=line $samples/kasumigaura-5440.dat
-    expect record-line 1 record 26 "$work/taken-out" --format=line
+    expect record-line 1 record 26 $made/taken-out --format=line
     says "explain as lines" 1 "$samples/refused-10-wrong-total.dat:1:52: 10 the total is not what was counted"$'\n' \
         explain --format=line $smallest $samples/refused-10-wrong-total.dat
     says "quiet, accepted" 0 "" check --quiet $smallest
@@ -94,15 +97,15 @@ by_forms() {
 
 by_names() {
     local odd=$'odd\nstatus=ok\033[2J\\' bad=$'bad\377\233name'
-    cp $smallest "$work/$odd" && cp $smallest "$work/$bad" && cp $smallest "$work/-7"
-    (cd "$work" && "${run[@]}" check "$odd" empty) >"$work/out" 2>"$work/err"
+    cp $smallest "$work/$odd" && cp $smallest "$work/$bad" && cp $smallest "$work/-7" && : >"$work/empty-here"
+    (cd "$work" && "${run[@]}" check "$odd" empty-here) >"$work/out" 2>"$work/err"
     status=$?
     hold "a name with a line feed" 1 host/expected/name-odd
     (cd "$work" && "${run[@]}" check --json "$odd" "$bad") >"$work/out" 2>"$work/err"
     status=$?
     hold "names in JSON" 0 host/expected/name-json
     is_json "names in JSON, read back" file
-    (cd "$work" && "${run[@]}" check --format=line "$odd"x empty) >"$work/out" 2>"$work/err"
+    (cd "$work" && "${run[@]}" check --format=line "$odd"x) >"$work/out" 2>"$work/err"
     status=$?
     if [ "$(wc -l <"$work/err")" -eq 1 ] && grep -qF 'odd\nstatus=ok\x1B[2J\\x: No such file' "$work/err"; then
         pass "a name with a line feed in a message"
@@ -119,7 +122,7 @@ by_names() {
 # ---- many files at a time
 
 by_many() {
-    local files=($samples/*.dat no-such-file $samples/*.dat "$work/empty" "$work/taken-out" $samples/*.dat) way_of
+    local files=($samples/*.dat no-such-file $samples/*.dat $made/empty $made/taken-out $samples/*.dat) way_of
     for way_of in check measure sums explain; do
         "${run[@]}" $way_of "${files[@]}" >"$work/one" 2>"$work/one-err"
         tool $way_of -j 3 "${files[@]}"

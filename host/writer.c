@@ -90,6 +90,20 @@ void put_bytes(Writer *w, const char *key, const uint8_t *bytes, size_t length)
     end_item(w);
 }
 
+void put_status(Writer *w, const char *status)
+{
+    if (w->format == AS_JSON) {
+        put_word(w, "status", status);
+    }
+}
+
+void put_message(Writer *w, const char *message)
+{
+    if (w->format == AS_JSON) {
+        put_text(w, "message", message);
+    }
+}
+
 void put_unknown(Writer *w, const char *key)
 {
     if (w->format == AS_JSON) {
@@ -212,10 +226,8 @@ int put_complaint(Writer *w, const char *message)
     fputs("stragumella: ", w->err);
     print_escaped(w->err, strcmp(w->file, "-") == 0 ? "standard input" : w->file);
     fprintf(w->err, ": %s\n", message);
-    if (w->format == AS_JSON) {
-        put_word(w, "status", "unreadable");
-        put_text(w, "message", message);
-    }
+    put_status(w, "unreadable");
+    put_message(w, message);
     return UNREADABLE;
 }
 
@@ -225,8 +237,6 @@ void put_refusal(Writer *w, uint32_t number, uint32_t record, uint32_t column)
     put_number(w, "number", number);
     put_number(w, "record", record);
     put_number(w, "column", column);
-    if (w->format == AS_JSON) {
-        put_text(w, "message", refusal_text(number)->message);
-    }
+    put_message(w, refusal_text(number)->message);
     put_refusal_line(w, number, record, column);
 }

@@ -39,6 +39,9 @@ void put_text(Writer *w, const char *key, const char *value);
 void put_hex(Writer *w, const char *key, const uint8_t *bytes, size_t length);
 /* Bytes of a record, escaped. */
 void put_bytes(Writer *w, const char *key, const uint8_t *bytes, size_t length);
+/* JSON alone: whether all is well, where text says it by what it prints. */
+void put_status(Writer *w, const char *status);
+void put_message(Writer *w, const char *message);
 /* JSON alone: there is such a thing, and it is not known. */
 void put_unknown(Writer *w, const char *key);
 
