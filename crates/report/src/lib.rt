@@ -4,8 +4,8 @@
 //
 // The contracts cite `specs/`: `Texts` has the text of every input.
 use judge::Outcome;
-use libc::STDOUT_FILENO;
 use rules::Due;
+use streams::Input;
 use walk::State;
 ghost use mathlib.Core.Path.{_≡_};
 ghost use mathlib.Core.List.{_++_};
@@ -240,20 +240,41 @@ pub fn measure_text(input: &[u8], out: &mut [u8; 120000]) -> usize
 
 // ---- the programs
 
-// The program `check` over what `fd` reads: up to one byte more than is taken.
+// The program `check` over what `fd` reads: up to one byte more than is taken. Where a read fails nothing is
+// judged.
 pub fn check(fd: i32) {
     let mut input = [0u8; 65491];
-    let n = io::read_full(fd, &mut input);
+    let read = streams::read_input(
+        fd,
+        &mut input,
+        b"check: standard input: not everything could be read",
+    );
+    let Input::Bytes(n) = read else {
+        return;
+    };
     let mut out = [0u8; 120000];
     let r = check_text(&input[..n], &mut out);
-    io::write_all(STDOUT_FILENO, &out[..r]);
+    streams::write_text(
+        &out[..r],
+        b"check: standard output: not everything could be written",
+    );
 }
 
 // The program `measure`, likewise.
 pub fn measure(fd: i32) {
     let mut input = [0u8; 65491];
-    let n = io::read_full(fd, &mut input);
+    let read = streams::read_input(
+        fd,
+        &mut input,
+        b"measure: standard input: not everything could be read",
+    );
+    let Input::Bytes(n) = read else {
+        return;
+    };
     let mut out = [0u8; 120000];
     let r = measure_text(&input[..n], &mut out);
-    io::write_all(STDOUT_FILENO, &out[..r]);
+    streams::write_text(
+        &out[..r],
+        b"measure: standard output: not everything could be written",
+    );
 }

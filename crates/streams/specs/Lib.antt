@@ -1,0 +1,2 @@
+-- What the contract of `streams` cites.
+pub mod Reading
