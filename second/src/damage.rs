@@ -1,7 +1,8 @@
 //! Damages of every sort, by seed: to the sheet in memory, to its records, to its bytes.
 
+use crate::due::dues;
 use crate::fields::{number, spelled};
-use crate::layout::{layout, Field, Kind, Sort, RECORD};
+use crate::layout::{a, h, l, layout, lp, m, Field, Kind, Sort, RECORD};
 use crate::random::Random;
 use crate::sheet::{joined, Area, Layer, Line, Node, Records, Sheet, Side, OUTSIDE};
 
@@ -448,6 +449,52 @@ fn spoilt(now: &[u8], others: &[u8]) -> Vec<Vec<u8>> {
         }
     }
     texts
+}
+
+// Rows of records that lead the walk astray.
+
+/// Up to 50 records. Most are of the kind that is due at their place. Every second number that steers the walk is odd.
+pub fn astray(random: &mut Random, records: &Records) -> Vec<u8> {
+    let mut bytes = Vec::new();
+    for _ in 0..random.below(51) {
+        let due = *dues(&bytes).last().expect("something is due behind the last record");
+        let of_kind: Vec<usize> = (0..records.len()).filter(|index| records[*index].0 == due).collect();
+        let any = random.below(records.len());
+        let chosen = if of_kind.is_empty() || random.percent(10) { any } else { *random.pick(&of_kind) };
+        let mut record = records[chosen].1;
+        for index in steering(due) {
+            if random.percent(50) {
+                odd_number(random, &mut record, &layout(due).numbers[*index]);
+            }
+        }
+        bytes.extend(record);
+    }
+    if random.percent(20) {
+        damage_bytes(random, &mut bytes);
+    }
+    bytes
+}
+
+/// The numbers of a kind that say what is due next.
+pub fn steering(kind: Kind) -> &'static [usize] {
+    match kind {
+        Kind::M => &[m::LAYERS],
+        Kind::H => &[h::NODES, h::LINES, h::AREAS],
+        Kind::L => &[l::POINTS],
+        Kind::A => &[a::LOOPS],
+        Kind::Loop => &[lp::COUNT],
+        Kind::N | Kind::Coordinates => &[],
+    }
+}
+
+/// A number small, below 0 or ill formed.
+fn odd_number(random: &mut Random, record: &mut [u8], field: &Field) {
+    let texts: [&[u8]; 24] = [
+        b"0", b"1", b"2", b"3", b"7", b"8", b"12", b"13", b"14", b"15", b"24", b"25", b"-1", b"-2", b"-7", b"-8", b"-13",
+        b"", b"-0", b"02", b"2 ", b"+2", b"-", b"2x",
+    ];
+    let text: &[u8] = random.pick::<&[u8]>(&texts);
+    set(record, field, &aligned(text, field.width()));
 }
 
 // Damages to bytes.

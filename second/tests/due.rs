@@ -68,8 +68,8 @@ fn numbers_count_by_their_size() {
     tells(&s_with(&[(7, 6, b" -13")]), "12345677");
 }
 
-/// A record that is taken for another has other numbers. So L's end link and left code are 288 layers where an M is due, and A's
-/// code is 13101 nodes where an H is due.
+/// A record that is taken for another has other numbers. So L's end link and left code are 288 layers where an M is due,
+/// and A's code is 13101 nodes where an H is due.
 #[test]
 fn ill_formed_numbers_count_as_0() {
     for none in [b"  x", b"   ", b" -0", b"001", b"1  ", b"  0"] {
@@ -121,8 +121,8 @@ fn an_accepted_file_has_what_is_due() {
     }
 }
 
-/// Stage 2 judges by what is due, as far as it comes. Where it comes to the end, an M is due there, or else it refuses with 4. What
-/// is due depends on earlier records alone.
+/// Stage 2 judges by what is due, as far as it comes. Where it comes to the end, an M is due there, or else it refuses
+/// with 4. What is due depends on earlier records alone.
 #[test]
 fn laws_of_damaged_files() {
     let (mut late, mut cut) = (0, 0);
