@@ -1,6 +1,6 @@
 //! The comparison: every answer of the other program against our own.
 
-use crate::damage::{astray, damaged, interesting, set};
+use crate::damage::{astray, counted, damaged, interesting, set, steering};
 use crate::due::{dues, told};
 use crate::generate::{assert_accepted, from_seed, long_loops, sheet, sheet_of};
 use crate::judge::{verdict, Verdict};
@@ -275,11 +275,15 @@ impl<'a> Compare<'a> {
         asked.dedup();
         for record in asked {
             if self.further() {
-                let told = Told::Due(told(&dues, record));
-                self.ask(file, Call::Due { record }, Answer { told, buffers: Buffers::default() })?;
+                self.due_at(file, &dues, record)?;
             }
         }
         Ok(())
+    }
+
+    fn due_at(&mut self, file: &[u8], dues: &[Kind], record: u32) -> Agreed {
+        let told = Told::Due(told(dues, record));
+        self.ask(file, Call::Due { record }, Answer { told, buffers: Buffers::default() })
     }
 
     /// Every record, read by its kind and by another, and written back.
@@ -528,9 +532,10 @@ pub fn positions(compare: &mut Compare) -> Agreed {
     Ok(())
 }
 
-/// Part 6: rows of records whose numbers lead the walk astray, `count` files. Due is asked of every record.
+/// Part 6: rows of records whose numbers lead the walk astray, `count` files. Every call is made, and due is asked of every record.
 pub fn walks_astray(compare: &mut Compare, seed: u64, count: usize) -> Agreed {
     let every_record = std::mem::replace(&mut compare.every_record, true);
+    let sparing = compare.sparing.take();
     let random = &mut Random::new(seed);
     let mut records = Records::new();
     for index in 0..count {
@@ -543,6 +548,26 @@ pub fn walks_astray(compare: &mut Compare, seed: u64, count: usize) -> Agreed {
         }
     }
     compare.every_record = every_record;
+    compare.sparing = sparing;
+    Ok(())
+}
+
+/// Part 6 also: each number that steers the walk as large as its field allows, but no larger than `most`, with all that it counts.
+/// Due is asked of the records where the count ends, too.
+pub fn full_counts(compare: &mut Compare, most: i32) -> Agreed {
+    let sparing = compare.sparing.take();
+    for kind in KINDS {
+        for (index, field) in steering(kind).iter().map(|number| layout(kind).numbers[*number]).enumerate() {
+            if compare.turn() {
+                let file = counted(kind, index, most.min(10i32.pow(field.width() as u32) - 1));
+                compare.whole_file(&file, &verdict(&file))?;
+                let dues = dues(&file);
+                let end = dues.len() as u32;
+                (end - 10..end).try_for_each(|record| compare.due_at(&file, &dues, record))?;
+            }
+        }
+    }
+    compare.sparing = sparing;
     Ok(())
 }
 

@@ -4,7 +4,7 @@ use crate::due::dues;
 use crate::fields::{number, spelled};
 use crate::layout::{a, h, l, layout, lp, m, Field, Kind, Sort, RECORD};
 use crate::random::Random;
-use crate::sheet::{joined, Area, Layer, Line, Node, Records, Sheet, Side, OUTSIDE};
+use crate::sheet::{joined, sheet_s, Area, Layer, Line, Node, Records, Sheet, Side, OUTSIDE};
 
 /// A sheet with one to four damages.
 pub fn damaged(random: &mut Random, sheet: &Sheet) -> Vec<u8> {
@@ -485,6 +485,41 @@ pub fn steering(kind: Kind) -> &'static [usize] {
         Kind::Loop => &[lp::COUNT],
         Kind::N | Kind::Coordinates => &[],
     }
+}
+
+/// A file in which one number that steers the walk is a count, then as many records as it counts, and sheet S behind them.
+/// The number is given by its kind and by its index among those of the kind.
+pub fn counted(kind: Kind, index: usize, count: i32) -> Vec<u8> {
+    let s = sheet_s().records();
+    let record = |kind: Kind, numbers: [i32; 3]| {
+        let mut bytes = s[kind as usize - 1].1;
+        for (index, number) in steering(kind).iter().zip(numbers) {
+            let field = layout(kind).numbers[*index];
+            let text = spelled(number, field.width()).expect("the count fits its field");
+            set(&mut bytes, &field, &text[..field.width()]);
+        }
+        (kind, bytes)
+    };
+    let numbers = |count| std::array::from_fn(|other| if other == index { count } else { 0 });
+    let (over, counted): (&[(Kind, [i32; 3])], Kind) = match (kind, index) {
+        (Kind::M, _) => (&[], Kind::H),
+        (Kind::H, 0) => (&[(Kind::M, [1, 0, 0])], Kind::N),
+        (Kind::H, 1) => (&[(Kind::M, [1, 0, 0])], Kind::L),
+        (Kind::H, _) => (&[(Kind::M, [1, 0, 0])], Kind::A),
+        (Kind::L, _) => (&[(Kind::M, [1, 0, 0]), (Kind::H, [0, 1, 0])], Kind::Coordinates),
+        (Kind::A, _) => (&[(Kind::M, [1, 0, 0]), (Kind::H, [0, 0, 1])], Kind::Loop),
+        _ => (&[(Kind::M, [1, 0, 0]), (Kind::H, [0, 0, 1]), (Kind::A, [1, 0, 0])], Kind::Loop),
+    };
+    let times = match kind {
+        Kind::L => (count as usize).div_ceil(7),
+        Kind::Loop => (count as usize).div_ceil(12) - 1,
+        _ => count as usize,
+    };
+    let mut records: Records = over.iter().map(|(kind, numbers)| record(*kind, *numbers)).collect();
+    records.push(record(kind, numbers(count)));
+    records.extend(vec![record(counted, [0; 3]); times]);
+    records.extend(&s);
+    joined(&records)
 }
 
 /// A number small, below 0 or ill formed.

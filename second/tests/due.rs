@@ -148,3 +148,22 @@ fn laws_of_damaged_files() {
     }
     assert!(late > 500 && cut > 50, "{late} {cut}");
 }
+
+/// Each number that steers the walk counts as far as its field goes.
+#[test]
+fn large_counts() {
+    let cases = [
+        (Kind::M, 0, 999, vec![], vec![Kind::H; 999]),
+        (Kind::H, 0, 99_999, vec![Kind::M], vec![Kind::N; 99_999]),
+        (Kind::H, 1, 99_999, vec![Kind::M], vec![Kind::L; 99_999]),
+        (Kind::H, 2, 99_999, vec![Kind::M], vec![Kind::A; 99_999]),
+        (Kind::L, 0, 999_999, vec![Kind::M, Kind::H], vec![Kind::Coordinates; 142_857]),
+        (Kind::A, 0, 9999, vec![Kind::M, Kind::H], vec![Kind::Loop; 9999]),
+        (Kind::Loop, 0, 9999, vec![Kind::M, Kind::H, Kind::A], vec![Kind::Loop; 833]),
+    ];
+    for (kind, index, count, over, counted) in cases {
+        let file = second::damage::counted(kind, index, count);
+        let kinds = [over, vec![kind], counted, second::layout::KINDS.to_vec(), vec![Kind::M]].concat();
+        assert_eq!(due_list(&file), kinds, "{kind:?} {index}");
+    }
+}

@@ -1,7 +1,7 @@
 //! compare: the proved program against this one. Exit status 1 at the first disagreement.
 
-use second::compare::{damages, every_field, large, odd_values, one_byte_changes, outside_sheet, positions, walks_astray};
-use second::compare::{numbers, Agreed, Compare, Disagreement, Reached, CALLS};
+use second::compare::{damages, every_field, full_counts, large, odd_values, one_byte_changes, outside_sheet, positions};
+use second::compare::{numbers, walks_astray, Agreed, Compare, Disagreement, Reached, CALLS};
 use second::piped::Pipe;
 use second::product::{Product, Second};
 use second::random::Random;
@@ -177,6 +177,7 @@ fn parts(compares: &mut [Compare], options: &Options) -> Agreed {
     }
     if runs('6') {
         each(compares, |compare| walks_astray(compare, options.seed, few(3000, 60_000) as usize))?;
+        each(compares, |compare| full_counts(compare, few(10_001, 999_999) as i32))?;
         told(compares, "walks that go astray");
     }
     if options.large {
