@@ -5,15 +5,17 @@
  * what the call tells, field by field. Numbers have the width of the header's fields, lengths 64 bits, least byte first.
  *
  *   letter  behind it                    answer
- *   F       length, bytes                none; the file that N, J and S are about from now on
+ *   F       length, bytes                none; the file that N, J, S, A and D are about from now on
  *   N       -                            the need
  *   J       table, measures              the outcome, the table, the measures
  *   S       layer, table                 the sums, the table
+ *   A       table, sums                  the outcome, the table, the sums of all layers
+ *   D       record                       the kind that is due there
  *   P       mesh, x, y                   the place
  *   R       kind, length, bytes          the reading
  *   W       record, buffer               the number, the buffer
  *
- * A lent buffer (table, measures, buffer) is sent as: how many elements are lent, how many there are, the elements. There
+ * A lent buffer (table, measures, sums, buffer) is sent as: how many elements are lent, how many there are, the elements. There
  * are more than are lent. All of them come back, so a write past what was lent is seen.
  *
  * Requests may be sent without waiting for answers. Answers are held back until there is nothing to read, or until the
@@ -156,7 +158,7 @@ static void put_lent(const Lent *buffer, size_t size)
     put(buffer->place, buffer->all * size);
 }
 
-/* A refusal, as three answers begin. */
+/* A refusal, as most answers begin. */
 static void put_refusal(uint32_t number, uint32_t record, uint32_t column)
 {
     put_word(number);
@@ -164,7 +166,19 @@ static void put_refusal(uint32_t number, uint32_t record, uint32_t column)
     put_word(column);
 }
 
-static Lent file, table, measures, bytes;
+static void put_outcome(const stragumella_outcome *told)
+{
+    put_refusal(told->number, told->record, told->column);
+    put_word(told->meshes);
+    put_word(told->layers);
+    put_word(told->nodes);
+    put_word(told->lines);
+    put_word(told->areas);
+    put_word(told->records);
+    put(&told->need, sizeof told->need);
+}
+
+static Lent file, table, measures, sums, bytes;
 
 static void need(void)
 {
@@ -178,14 +192,7 @@ static void judge(void)
     take_lent(&measures, sizeof(int64_t));
     stragumella_outcome told =
         stragumella_judge(file.place, file.lent, table.place, table.lent, measures.place, measures.lent);
-    put_refusal(told.number, told.record, told.column);
-    put_word(told.meshes);
-    put_word(told.layers);
-    put_word(told.nodes);
-    put_word(told.lines);
-    put_word(told.areas);
-    put_word(told.records);
-    put(&told.need, sizeof told.need);
+    put_outcome(&told);
     put_lent(&table, sizeof(uint32_t));
     put_lent(&measures, sizeof(int64_t));
 }
@@ -199,6 +206,22 @@ static void layer_sums(void)
     put(&told.areas, sizeof told.areas);
     put(&told.outside, sizeof told.outside);
     put_lent(&table, sizeof(uint32_t));
+}
+
+static void all_sums(void)
+{
+    take_lent(&table, sizeof(uint32_t));
+    take_lent(&sums, sizeof(int64_t));
+    stragumella_outcome told =
+        stragumella_all_sums(file.place, file.lent, table.place, table.lent, sums.place, sums.lent);
+    put_outcome(&told);
+    put_lent(&table, sizeof(uint32_t));
+    put_lent(&sums, sizeof(int64_t));
+}
+
+static void due(void)
+{
+    put_word(stragumella_due(file.place, file.lent, take_word()));
 }
 
 static void position(void)
@@ -254,6 +277,12 @@ static void answer(uint8_t letter)
         break;
     case 'S':
         layer_sums();
+        break;
+    case 'A':
+        all_sums();
+        break;
+    case 'D':
+        due();
         break;
     case 'P':
         position();

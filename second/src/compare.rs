@@ -1,6 +1,7 @@
 //! The comparison: every answer of the other program against our own.
 
-use crate::damage::{damaged, interesting, set};
+use crate::damage::{astray, counted, damaged, interesting, set, steering};
+use crate::due::{dues, told};
 use crate::generate::{assert_accepted, from_seed, long_loops, sheet, sheet_of};
 use crate::judge::{verdict, Verdict};
 use crate::layout::{layout, Kind, KINDS, RECORD};
@@ -9,7 +10,7 @@ use crate::product::{Answer, Buffers, Call, Product, RawValue, Second, Told};
 use crate::random::Random;
 use crate::records::{read, Refusal};
 use crate::sheet::{joined, sheet_s, Records, Sheet};
-use crate::sums::answer;
+use crate::sums::{answer, answer_for_all};
 use crate::walk::record;
 use std::fmt::Debug;
 use std::path::PathBuf;
@@ -24,20 +25,39 @@ pub struct Disagreement {
     pub bytes: Vec<u8>,
 }
 
+/// The calls whose answers have a number.
+pub const CALLS: [&str; 6] = ["judge", "sums", "all sums", "reader", "writer", "position"];
+
+/// How often each number was the answer of each of these calls.
+pub type Reached = [[u64; 49]; 6];
+
+/// The numbers that an answer can have.
+pub fn numbers() -> impl Iterator<Item = usize> {
+    (0..=22).chain([48])
+}
+
+/// Due is asked of every record of a file of so many records or less, where it is not asked of some alone.
+const SHORT: u32 = 50;
+
 /// Everything compared so far.
 pub struct Compare<'a> {
     other: Other<'a>,
     /// Where each file is written before it is compared, in case the other program does not return.
     pub before: Option<PathBuf>,
     pub files: u64,
-    /// How often each number was the answer: of the judge, layer sums, reader, writer, position.
-    pub reached: [[u64; 23]; 5],
+    pub reached: Reached,
+    /// How often nothing and each of the seven kinds was told to be due.
+    pub due: [u64; 8],
     /// Of so many comparisons side by side this is the one of that number, from 0.
     share: (u64, u64),
     /// How many files, values and positions there were, for all shares.
     turns: u64,
     /// Draws the further calls about a file that are made, if not all of them are.
     pub sparing: Option<Random>,
+    /// Whether due is asked of every record of a short file.
+    pub every_record: bool,
+    /// Draws records of which due is asked.
+    drawn: Random,
 }
 
 /// The other program.
@@ -56,6 +76,7 @@ pub fn agree(file: &[u8], call: &Call, ours: &Answer, theirs: &Answer) -> Agreed
     let differing = differs("", &ours.told, &theirs.told)
         .or_else(|| differs(": the table", &our.table, &their.table))
         .or_else(|| differs(": the measures", &our.measures, &their.measures))
+        .or_else(|| differs(": the sums", &our.sums, &their.sums))
         .or_else(|| differs(": the buffer", &our.bytes, &their.bytes));
     match differing {
         None => Ok(()),
@@ -70,7 +91,7 @@ fn differs<T: PartialEq + Debug>(part: &'static str, ours: &T, theirs: &T) -> Op
 /// A disagreement about a part of an answer. Its bytes are the file, the record that was read, or what we wrote.
 pub fn disagreement(file: &[u8], call: &Call, ours: &Answer, part: &str, our: String, their: String) -> Disagreement {
     let bytes = match call {
-        Call::Need | Call::Judge { .. } | Call::Sums { .. } => file,
+        Call::Need | Call::Judge { .. } | Call::Sums { .. } | Call::AllSums { .. } | Call::Due { .. } => file,
         Call::Read { bytes, .. } => bytes,
         Call::Write { .. } | Call::Position { .. } => &ours.buffers.bytes,
     };
@@ -88,7 +109,18 @@ impl<'a> Compare<'a> {
     }
 
     fn with(other: Other<'a>, share: (u64, u64)) -> Compare<'a> {
-        Compare { other, before: None, files: 0, reached: [[0; 23]; 5], share, turns: 0, sparing: None }
+        Compare {
+            other,
+            before: None,
+            files: 0,
+            reached: [[0; 49]; 6],
+            due: [0; 8],
+            share,
+            turns: 0,
+            sparing: None,
+            every_record: false,
+            drawn: Random::new(share.0),
+        }
     }
 
     /// Whether what comes next is of this share.
@@ -113,20 +145,25 @@ impl<'a> Compare<'a> {
     /// Makes a call and holds the answer to our own.
     fn ask(&mut self, file: &[u8], call: Call, ours: Answer) -> Agreed {
         let row = match call {
-            Call::Need => None,
+            Call::Need | Call::Due { .. } => None,
             Call::Judge { .. } => Some(0),
             Call::Sums { .. } => Some(1),
-            Call::Read { .. } => Some(2),
-            Call::Write { .. } => Some(3),
-            Call::Position { .. } => Some(4),
+            Call::AllSums { .. } => Some(2),
+            Call::Read { .. } => Some(3),
+            Call::Write { .. } => Some(4),
+            Call::Position { .. } => Some(5),
         };
         let number = ours.told.number();
+        let kind = if let Told::Due(kind) = ours.told { Some(kind) } else { None };
         match &mut self.other {
             Other::Called(product) => agree(file, &call, &ours, &call.answer(*product, file))?,
             Other::Piped(pipe) => pipe.ask(call, ours)?,
         }
         if let Some(row) = row {
             self.reached[row][number as usize] += 1;
+        }
+        if let Some(kind) = kind {
+            self.due[kind as usize] += 1;
         }
         Ok(())
     }
@@ -158,7 +195,11 @@ impl<'a> Compare<'a> {
                 self.judged(file, verdict, words, areas)?;
             }
         }
-        self.summed(file, verdict)
+        self.summed(file, verdict)?;
+        for (words, room) in sums_lengths(verdict.table.len(), verdict.layers) {
+            self.summed_all(file, verdict, words, room)?;
+        }
+        self.due(file, verdict)
     }
 
     /// The judge's answer, and both buffers afterwards.
@@ -204,6 +245,45 @@ impl<'a> Compare<'a> {
         let mut buffers = call.buffers();
         put_table(&mut buffers, verdict, words);
         self.ask(file, call, Answer { told: Told::Sums(refusal, sums), buffers })
+    }
+
+    /// The answer for the sums of all layers, and both buffers afterwards.
+    fn summed_all(&mut self, file: &[u8], verdict: &Verdict, words: usize, room: usize) -> Agreed {
+        if !self.further() {
+            return Ok(());
+        }
+        let call = Call::AllSums { words, room };
+        let (outcome, sums) = answer_for_all(verdict, words, room);
+        let mut buffers = call.buffers();
+        put_table(&mut buffers, verdict, words);
+        buffers.sums[..sums.len()].copy_from_slice(&sums);
+        self.ask(file, call, Answer { told: Told::Outcome(outcome), buffers })
+    }
+
+    /// What is due at the ends of a file, past it, about the record that is refused, and at some records or all of them.
+    fn due(&mut self, file: &[u8], verdict: &Verdict) -> Agreed {
+        let dues = dues(file);
+        let last = dues.len() as u32 - 1;
+        let refused = verdict.outcome(usize::MAX, usize::MAX).refusal.record;
+        let mut asked = vec![0, 1, refused.saturating_sub(1), refused, refused + 1, last, last + 1, last + 2, u32::MAX];
+        if self.every_record && last <= SHORT {
+            asked.extend(1..=last);
+        } else {
+            asked.extend((0..3).map(|_| 1 + self.drawn.below(dues.len()) as u32));
+        }
+        asked.sort();
+        asked.dedup();
+        for record in asked {
+            if self.further() {
+                self.due_at(file, &dues, record)?;
+            }
+        }
+        Ok(())
+    }
+
+    fn due_at(&mut self, file: &[u8], dues: &[Kind], record: u32) -> Agreed {
+        let told = Told::Due(told(dues, record));
+        self.ask(file, Call::Due { record }, Answer { told, buffers: Buffers::default() })
     }
 
     /// Every record, read by its kind and by another, and written back.
@@ -274,9 +354,18 @@ fn buffer_lengths(need: usize, areas: usize) -> Vec<(usize, usize)> {
     lengths
 }
 
+/// Tables and rooms for the sums of all layers: just right, and each too short or longer. One sum a layer is not enough.
+fn sums_lengths(need: usize, layers: usize) -> Vec<(usize, usize)> {
+    let room = 2 * layers;
+    if need == 0 {
+        return vec![(0, 2), (3, 0)];
+    }
+    vec![(need, room), (need, room - 1), (need, 0), (need + 3, layers), (need + 3, room + 3), (need - 1, room), (0, 0)]
+}
+
 // The parts of the comparison.
 
-/// Part 1: every one-byte change of sheet S.
+/// Part 1: every one-byte change of sheet S, and sheet S cut at every byte.
 pub fn one_byte_changes(compare: &mut Compare) -> Agreed {
     let sheet = sheet_s().bytes();
     compare.file(&sheet)?;
@@ -287,6 +376,7 @@ pub fn one_byte_changes(compare: &mut Compare) -> Agreed {
             compare.file(&changed)?;
         }
         changed[index] = sheet[index];
+        compare.file(&sheet[..index])?;
     }
     Ok(())
 }
@@ -439,6 +529,45 @@ pub fn positions(compare: &mut Compare) -> Agreed {
         let mesh = random.within(10_00, 99_99) * 100 + random.within(0, 7) * 10 + random.within(0, 7);
         compare.position(mesh, random.within(0, 10_000), random.within(0, 10_000))?;
     }
+    Ok(())
+}
+
+/// Part 6: rows of records whose numbers lead the walk astray, `count` files. Every call is made, and due is asked of every record.
+pub fn walks_astray(compare: &mut Compare, seed: u64, count: usize) -> Agreed {
+    let every_record = std::mem::replace(&mut compare.every_record, true);
+    let sparing = compare.sparing.take();
+    let random = &mut Random::new(seed);
+    let mut records = Records::new();
+    for index in 0..count {
+        if index % 100 == 0 {
+            records = short_sheet(random, index % 200 == 0).records();
+        }
+        let file = astray(random, &records);
+        if compare.turn() {
+            compare.whole_file(&file, &verdict(&file))?;
+        }
+    }
+    compare.every_record = every_record;
+    compare.sparing = sparing;
+    Ok(())
+}
+
+/// Part 6 also: each number that steers the walk as large as its field allows, but no larger than `most`, with all that it counts.
+/// Due is asked of the records where the count ends, too.
+pub fn full_counts(compare: &mut Compare, most: i32) -> Agreed {
+    let sparing = compare.sparing.take();
+    for kind in KINDS {
+        for (index, field) in steering(kind).iter().map(|number| layout(kind).numbers[*number]).enumerate() {
+            if compare.turn() {
+                let file = counted(kind, index, most.min(10i32.pow(field.width() as u32) - 1));
+                compare.whole_file(&file, &verdict(&file))?;
+                let dues = dues(&file);
+                let end = dues.len() as u32;
+                (end - 10..end).try_for_each(|record| compare.due_at(&file, &dues, record))?;
+            }
+        }
+    }
+    compare.sparing = sparing;
     Ok(())
 }
 

@@ -1,9 +1,10 @@
 //! Damages of every sort, by seed: to the sheet in memory, to its records, to its bytes.
 
+use crate::due::dues;
 use crate::fields::{number, spelled};
-use crate::layout::{layout, Field, Kind, Sort, RECORD};
+use crate::layout::{a, h, l, layout, lp, m, Field, Kind, Sort, RECORD};
 use crate::random::Random;
-use crate::sheet::{joined, Area, Layer, Line, Node, Records, Sheet, Side, OUTSIDE};
+use crate::sheet::{joined, sheet_s, Area, Layer, Line, Node, Records, Sheet, Side, OUTSIDE};
 
 /// A sheet with one to four damages.
 pub fn damaged(random: &mut Random, sheet: &Sheet) -> Vec<u8> {
@@ -448,6 +449,87 @@ fn spoilt(now: &[u8], others: &[u8]) -> Vec<Vec<u8>> {
         }
     }
     texts
+}
+
+// Rows of records that lead the walk astray.
+
+/// Up to 50 records. Most are of the kind that is due at their place. Every second number that steers the walk is odd.
+pub fn astray(random: &mut Random, records: &Records) -> Vec<u8> {
+    let mut bytes = Vec::new();
+    for _ in 0..random.below(51) {
+        let due = *dues(&bytes).last().expect("something is due behind the last record");
+        let of_kind: Vec<usize> = (0..records.len()).filter(|index| records[*index].0 == due).collect();
+        let any = random.below(records.len());
+        let chosen = if of_kind.is_empty() || random.percent(10) { any } else { *random.pick(&of_kind) };
+        let mut record = records[chosen].1;
+        for index in steering(due) {
+            if random.percent(50) {
+                odd_number(random, &mut record, &layout(due).numbers[*index]);
+            }
+        }
+        bytes.extend(record);
+    }
+    if random.percent(20) {
+        damage_bytes(random, &mut bytes);
+    }
+    bytes
+}
+
+/// The numbers of a kind that say what is due next.
+pub fn steering(kind: Kind) -> &'static [usize] {
+    match kind {
+        Kind::M => &[m::LAYERS],
+        Kind::H => &[h::NODES, h::LINES, h::AREAS],
+        Kind::L => &[l::POINTS],
+        Kind::A => &[a::LOOPS],
+        Kind::Loop => &[lp::COUNT],
+        Kind::N | Kind::Coordinates => &[],
+    }
+}
+
+/// A file in which one number that steers the walk is a count, then as many records as it counts, and sheet S behind them.
+/// The number is given by its kind and by its index among those of the kind.
+pub fn counted(kind: Kind, index: usize, count: i32) -> Vec<u8> {
+    let s = sheet_s().records();
+    let record = |kind: Kind, numbers: [i32; 3]| {
+        let mut bytes = s[kind as usize - 1].1;
+        for (index, number) in steering(kind).iter().zip(numbers) {
+            let field = layout(kind).numbers[*index];
+            let text = spelled(number, field.width()).expect("the count fits its field");
+            set(&mut bytes, &field, &text[..field.width()]);
+        }
+        (kind, bytes)
+    };
+    let numbers = |count| std::array::from_fn(|other| if other == index { count } else { 0 });
+    let (over, counted): (&[(Kind, [i32; 3])], Kind) = match (kind, index) {
+        (Kind::M, _) => (&[], Kind::H),
+        (Kind::H, 0) => (&[(Kind::M, [1, 0, 0])], Kind::N),
+        (Kind::H, 1) => (&[(Kind::M, [1, 0, 0])], Kind::L),
+        (Kind::H, _) => (&[(Kind::M, [1, 0, 0])], Kind::A),
+        (Kind::L, _) => (&[(Kind::M, [1, 0, 0]), (Kind::H, [0, 1, 0])], Kind::Coordinates),
+        (Kind::A, _) => (&[(Kind::M, [1, 0, 0]), (Kind::H, [0, 0, 1])], Kind::Loop),
+        _ => (&[(Kind::M, [1, 0, 0]), (Kind::H, [0, 0, 1]), (Kind::A, [1, 0, 0])], Kind::Loop),
+    };
+    let times = match kind {
+        Kind::L => (count as usize).div_ceil(7),
+        Kind::Loop => (count as usize).div_ceil(12) - 1,
+        _ => count as usize,
+    };
+    let mut records: Records = over.iter().map(|(kind, numbers)| record(*kind, *numbers)).collect();
+    records.push(record(kind, numbers(count)));
+    records.extend(vec![record(counted, [0; 3]); times]);
+    records.extend(&s);
+    joined(&records)
+}
+
+/// A number small, below 0 or ill formed.
+fn odd_number(random: &mut Random, record: &mut [u8], field: &Field) {
+    let texts: [&[u8]; 24] = [
+        b"0", b"1", b"2", b"3", b"7", b"8", b"12", b"13", b"14", b"15", b"24", b"25", b"-1", b"-2", b"-7", b"-8", b"-13",
+        b"", b"-0", b"02", b"2 ", b"+2", b"-", b"2x",
+    ];
+    let text: &[u8] = random.pick::<&[u8]>(&texts);
+    set(record, field, &aligned(text, field.width()));
 }
 
 // Damages to bytes.

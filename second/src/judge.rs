@@ -34,6 +34,8 @@ pub struct Verdict {
     pub late: Refusal,
     /// The table, if there is no early refusal.
     pub table: Vec<u32>,
+    /// How many layers the file has, if there is no early refusal.
+    pub layers: usize,
     /// What stands in the answer if the file is accepted.
     pub counts: Counts,
     /// The areas' measures in file order, if the file is accepted.
@@ -98,6 +100,7 @@ pub fn verdict(file: &[u8]) -> Verdict {
         Err(refusal) => verdict.early = refusal,
         Ok(found) => {
             verdict.table = table(&found);
+            verdict.layers = found.layers().count();
             match later_stages(&found) {
                 Err(refusal) => verdict.late = refusal,
                 Ok(()) => accept(&found, &mut verdict),

@@ -2,6 +2,7 @@
 
 pub mod compare;
 pub mod damage;
+pub mod due;
 pub mod fields;
 pub mod generate;
 pub mod judge;

@@ -122,6 +122,7 @@ fn put_call(request: &mut Vec<u8>, call: &Call) {
     let buffers = call.buffers();
     let table = buffers.table.iter().map(|word| word.to_le_bytes());
     let measures = buffers.measures.iter().map(|long| long.to_le_bytes());
+    let sums = buffers.sums.iter().map(|long| long.to_le_bytes());
     match call {
         Call::Need => request.push(b'N'),
         Call::Judge { words, areas } => {
@@ -133,6 +134,15 @@ fn put_call(request: &mut Vec<u8>, call: &Call) {
             request.push(b'S');
             request.extend(layer.to_le_bytes());
             put_lent(request, *words, table);
+        }
+        Call::AllSums { words, room } => {
+            request.push(b'A');
+            put_lent(request, *words, table);
+            put_lent(request, *room, sums);
+        }
+        Call::Due { record } => {
+            request.push(b'D');
+            request.extend(record.to_le_bytes());
         }
         Call::Position { mesh, x, y } => {
             request.push(b'P');
@@ -176,7 +186,7 @@ fn take_answer(answers: &mut impl Read, call: &Call) -> io::Result<Answer> {
     for place in &mut buffers.table {
         *place = word(answers)?;
     }
-    for place in &mut buffers.measures {
+    for place in buffers.measures.iter_mut().chain(&mut buffers.sums) {
         *place = long(answers)? as i64;
     }
     answers.read_exact(&mut buffers.bytes)?;
@@ -186,7 +196,7 @@ fn take_answer(answers: &mut impl Read, call: &Call) -> io::Result<Answer> {
 fn take_told(answers: &mut impl Read, call: &Call) -> io::Result<Told> {
     Ok(match call {
         Call::Need => Told::Need(long(answers)?),
-        Call::Judge { .. } => Told::Outcome(Outcome {
+        Call::Judge { .. } | Call::AllSums { .. } => Told::Outcome(Outcome {
             refusal: refusal(answers)?,
             counts: Counts {
                 meshes: word(answers)?,
@@ -202,6 +212,7 @@ fn take_told(answers: &mut impl Read, call: &Call) -> io::Result<Told> {
             let refusal = refusal(answers)?;
             Told::Sums(refusal, Sums { areas: long(answers)? as i64, outside: long(answers)? as i64 })
         }
+        Call::Due { .. } => Told::Due(word(answers)?),
         Call::Position { .. } => Told::Place(word(answers)?, long(answers)?, long(answers)?),
         Call::Read { .. } => {
             let refusal = refusal(answers)?;

@@ -67,23 +67,22 @@ extern "C" {
         words: usize,
         layer: u32,
     ) -> CallSums;
+    fn stragumella_all_sums(
+        file: *const u8,
+        length: usize,
+        table: *mut u32,
+        words: usize,
+        sums: *mut i64,
+        room: usize,
+    ) -> CallOutcome;
+    fn stragumella_due(file: *const u8, length: usize, record: u32) -> u32;
     fn stragumella_position(mesh: i32, x: i32, y: i32) -> CallPlace;
     fn stragumella_read_record(kind: u32, bytes: *const u8, length: usize) -> CallReading;
     fn stragumella_write_record(value: CallRecord, buffer: *mut u8, length: usize) -> u32;
 }
 
-pub struct Proved;
-
-// Each call lends slices that live until it returns.
-impl Product for Proved {
-    fn need(&self, file: &[u8]) -> u64 {
-        unsafe { stragumella_need(file.as_ptr(), file.len()) }
-    }
-
-    fn judge(&self, file: &[u8], table: &mut [u32], measures: &mut [i64]) -> Outcome {
-        let (words, areas) = (table.len(), measures.len());
-        let (table, measures) = (table.as_mut_ptr(), measures.as_mut_ptr());
-        let told = unsafe { stragumella_judge(file.as_ptr(), file.len(), table, words, measures, areas) };
+impl From<CallOutcome> for Outcome {
+    fn from(told: CallOutcome) -> Outcome {
         Outcome {
             refusal: Refusal { number: told.number, record: told.record, column: told.column },
             counts: Counts {
@@ -97,6 +96,21 @@ impl Product for Proved {
             need: told.need,
         }
     }
+}
+
+pub struct Proved;
+
+// Each call lends slices that live until it returns.
+impl Product for Proved {
+    fn need(&self, file: &[u8]) -> u64 {
+        unsafe { stragumella_need(file.as_ptr(), file.len()) }
+    }
+
+    fn judge(&self, file: &[u8], table: &mut [u32], measures: &mut [i64]) -> Outcome {
+        let (words, areas) = (table.len(), measures.len());
+        let (table, measures) = (table.as_mut_ptr(), measures.as_mut_ptr());
+        unsafe { stragumella_judge(file.as_ptr(), file.len(), table, words, measures, areas) }.into()
+    }
 
     fn layer_sums(&self, file: &[u8], table: &mut [u32], layer: u32) -> (Refusal, Sums) {
         let words = table.len();
@@ -104,6 +118,16 @@ impl Product for Proved {
             unsafe { stragumella_layer_sums(file.as_ptr(), file.len(), table.as_mut_ptr(), words, layer) };
         let refusal = Refusal { number: told.number, record: told.record, column: told.column };
         (refusal, Sums { areas: told.areas, outside: told.outside })
+    }
+
+    fn all_sums(&self, file: &[u8], table: &mut [u32], sums: &mut [i64]) -> Outcome {
+        let (words, room) = (table.len(), sums.len());
+        let (table, sums) = (table.as_mut_ptr(), sums.as_mut_ptr());
+        unsafe { stragumella_all_sums(file.as_ptr(), file.len(), table, words, sums, room) }.into()
+    }
+
+    fn due(&self, file: &[u8], record: u32) -> u32 {
+        unsafe { stragumella_due(file.as_ptr(), file.len(), record) }
     }
 
     fn position(&self, mesh: i32, x: i32, y: i32) -> (u32, f64, f64) {

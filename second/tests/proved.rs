@@ -1,12 +1,13 @@
 //! Sheet S, its neighbours, and the cases of the fields.
 
 use second::fields::{is_blank, is_name, number, spelled};
+use second::generate::from_seed;
 use second::judge::{judge, Counts};
 use second::layout::{Kind, KINDS};
 use second::positions::position;
 use second::records::{bytes_of, read, write, Refusal, Value};
 use second::sheet::sheet_s;
-use second::sums::{sums_of_layer, Sums};
+use second::sums::{sums_of_all, sums_of_layer, Sums};
 use second::walk::record;
 
 /// Sheet S with texts set at (record, column).
@@ -153,6 +154,60 @@ fn buffers() {
     assert_eq!(sums_of_layer(&s, &mut [0; 6], 0), none(22));
     assert_eq!(sums_of_layer(&s, &mut [0; 6], 2), none(22));
     assert_eq!(sums_of_layer(&s, &mut [0; 5], 2), none(9));
+}
+
+#[test]
+fn sums_of_all_layers() {
+    let s = sheet_s().bytes();
+    let wrong_total = s_with(&[(1, 52, b"    6")]);
+    let cases: [(&[u8], usize, usize, (u32, u32, u32), u64); 10] = [
+        (&s, 6, 0, (48, 0, 0), 0),
+        (&s, 8, 1, (48, 0, 0), 0),
+        (&s, 6, 2, (0, 0, 0), 0),
+        (&s, 8, 3, (0, 0, 0), 0),
+        (&s, 5, 2, (9, 0, 0), 6),
+        (&s, 0, 0, (9, 0, 0), 6),
+        (&wrong_total, 5, 1, (9, 0, 0), 6),
+        (&wrong_total, 6, 0, (10, 1, 52), 0),
+        (&s[..6 * 74], 8, 3, (4, 7, 1), 0),
+        (&[], 8, 0, (1, 1, 1), 0),
+    ];
+    for (file, words, room, place, need) in cases {
+        let (mut table, mut sums) = ([7; 8], [-1; 3]);
+        let outcome = sums_of_all(file, &mut table[..words], &mut sums[..room]);
+        let Refusal { number, record, column } = outcome.refusal;
+        assert_eq!(((number, record, column), outcome.need), (place, need));
+        let counts = Counts { meshes: 1, layers: 1, nodes: 1, lines: 1, areas: 1, records: 7 };
+        assert_eq!(outcome.counts, if number == 0 { counts } else { Counts::default() });
+        assert_eq!(table, if number == 0 || number > 9 { [2, 1, 1, 1, 4, 6, 7, 7] } else { [7; 8] });
+        assert_eq!(sums, if number == 0 { [200_000_000, 200_000_000, -1] } else { [-1; 3] });
+    }
+}
+
+#[test]
+fn all_layers_have_the_sums_of_each() {
+    let mut several = 0;
+    for seed in 0..200 {
+        let file = from_seed(seed).bytes();
+        let (mut table, mut sums) = (vec![7; file.len() / 18], [-1; 100]);
+        let counts = judge(&file, &mut table, &mut vec![0; file.len() / 74]).counts;
+        let judged = table.clone();
+        let room = 2 * counts.layers as usize;
+        for short in [0, room / 2, room - 1] {
+            let refusal = Refusal { number: 48, record: 0, column: 0 };
+            assert_eq!(sums_of_all(&file, &mut table, &mut sums[..short]).refusal, refusal);
+        }
+        assert_eq!(sums, [-1; 100]);
+        assert_eq!(sums_of_all(&file, &mut table, &mut sums).counts, counts);
+        assert_eq!(table, judged);
+        for layer in 1..=counts.layers {
+            let [areas, outside] = sums[2 * layer as usize - 2..2 * layer as usize] else { unreachable!() };
+            assert_eq!(sums_of_layer(&file, &mut table, layer), (Refusal::default(), Sums { areas, outside }));
+        }
+        assert!(sums[room..].iter().all(|sum| *sum == -1));
+        several += usize::from(counts.layers > 1);
+    }
+    assert!(several > 50, "{several}");
 }
 
 #[test]

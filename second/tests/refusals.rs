@@ -6,7 +6,7 @@ use second::judge::verdict;
 use second::layout::Kind;
 use second::random::Random;
 use second::records::Refusal;
-use second::sums::answer;
+use second::sums::{answer, answer_for_all};
 use std::collections::BTreeMap;
 
 type Places = BTreeMap<(u32, Option<Kind>, u32), usize>;
@@ -29,6 +29,7 @@ fn reached(seeds: std::ops::Range<u64>, of_each: usize) -> Places {
             reach(verdict.outcome(words.saturating_sub(1), areas).refusal);
             reach(verdict.outcome(words, areas.saturating_sub(1)).refusal);
             reach(answer(&verdict, words, 0).0);
+            reach(answer_for_all(&verdict, words, 0).0.refusal);
         }
     }
     places
@@ -37,12 +38,12 @@ fn reached(seeds: std::ops::Range<u64>, of_each: usize) -> Places {
 #[test]
 fn every_refusal_is_reached() {
     let places = reached(0..800, 60);
-    let mut numbers = [0; 23];
+    let mut numbers = [0; 49];
     for ((number, _, _), times) in &places {
         numbers[*number as usize] += times;
     }
     println!("{numbers:?}");
-    for number in (1..=19).chain([22]) {
+    for number in (1..=19).chain([22, 48]) {
         assert!(numbers[number] > 0, "{number} is not reached");
     }
     let missing: Vec<_> = expected().into_iter().filter(|place| !places.contains_key(place)).collect();

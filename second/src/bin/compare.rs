@@ -1,7 +1,7 @@
 //! compare: the proved program against this one. Exit status 1 at the first disagreement.
 
-use second::compare::{damages, every_field, large, odd_values, one_byte_changes, outside_sheet, positions};
-use second::compare::{Agreed, Compare, Disagreement};
+use second::compare::{damages, every_field, full_counts, large, odd_values, one_byte_changes, outside_sheet, positions};
+use second::compare::{numbers, walks_astray, Agreed, Compare, Disagreement, Reached, CALLS};
 use second::piped::Pipe;
 use second::product::{Product, Second};
 use second::random::Random;
@@ -13,9 +13,9 @@ use std::time::Instant;
 
 const HELP: &str = "compare [--quick] [--alone] [--through PROGRAM] [--sparing] [--parts DIGITS] [--damages N] [--seed N]
         [--sheets FOLDER] [--large] [--write PATH] [--before PATH]
---quick    about a minute
+--quick    about a minute; fewer files, and what is due at some records of a file alone
 --sparing  about each file the need, the judge with just the room it needs, and of the further calls one of four
---parts    which parts to run (12345)
+--parts    which parts to run (123456)
 --alone    this program against itself, to try the parts
 --through  the program that answers for the library over pipes, built from answer.c
 --damages  how many damaged files (20000)
@@ -25,7 +25,7 @@ const HELP: &str = "compare [--quick] [--alone] [--through PROGRAM] [--sparing] 
 --write    where a file with a disagreement goes (disagreement.dat)
 --before   where each file goes before it is compared, in case the linked program does not return";
 
-const ALL: &str = "12345";
+const ALL: &str = "123456";
 
 struct Options {
     quick: bool,
@@ -97,18 +97,26 @@ fn main() -> ExitCode {
         }
     };
     compares[0].before = options.before.clone();
+    for compare in &mut compares {
+        compare.every_record = !options.quick;
+    }
     if options.sparing {
-        println!("Left out: three of four further calls about each file (other buffers, sums).");
+        println!("Left out: three of four further calls about each file (other buffers, sums, what is due).");
         for (number, compare) in compares.iter_mut().enumerate() {
             compare.sparing = Some(Random::new(number as u64));
         }
     }
     let result = parts(&mut compares, &options).and_then(|()| each(&mut compares, |compare| compare.end()));
-    let reached = reached(&compares);
+    let (reached, due) = (reached(&compares), due(&compares));
     print_reached(&reached);
+    print_due(&due);
     match result {
         Ok(()) if options.parts == ALL && !every_number(&reached) => {
             println!("A number was not reached.");
+            ExitCode::from(1)
+        }
+        Ok(()) if options.parts == ALL && due.contains(&0) => {
+            println!("A kind was never due.");
             ExitCode::from(1)
         }
         Ok(()) => {
@@ -167,6 +175,11 @@ fn parts(compares: &mut [Compare], options: &Options) -> Agreed {
         each(compares, |compare| damages(compare, options.seed, options.damages))?;
         told(compares, "damages of generated sheets");
     }
+    if runs('6') {
+        each(compares, |compare| walks_astray(compare, options.seed, few(3000, 60_000) as usize))?;
+        each(compares, |compare| full_counts(compare, few(10_001, 999_999) as i32))?;
+        told(compares, "walks that go astray");
+    }
     if options.large {
         each(compares, large)?;
         told(compares, "large files");
@@ -187,15 +200,24 @@ fn sheet_paths(options: &Options) -> Vec<PathBuf> {
 }
 
 /// How often each number was the answer of each call, in all comparisons.
-fn reached(compares: &[Compare]) -> [[u64; 23]; 5] {
+fn reached(compares: &[Compare]) -> Reached {
     std::array::from_fn(|call| {
         std::array::from_fn(|number| compares.iter().map(|compare| compare.reached[call][number]).sum())
     })
 }
 
-fn print_reached(reached: &[[u64; 23]; 5]) {
-    println!("number      judge       sums     reader     writer   position");
-    for number in 0..=22 {
+/// How often nothing and each kind was told to be due, in all comparisons.
+fn due(compares: &[Compare]) -> [u64; 8] {
+    std::array::from_fn(|kind| compares.iter().map(|compare| compare.due[kind]).sum())
+}
+
+fn print_reached(reached: &Reached) {
+    print!("number");
+    for call in CALLS {
+        print!(" {call:>10}");
+    }
+    println!();
+    for number in numbers() {
         print!("{number:6}");
         for call in reached {
             print!(" {:10}", call[number]);
@@ -204,9 +226,15 @@ fn print_reached(reached: &[[u64; 23]; 5]) {
     }
 }
 
+fn print_due(due: &[u64; 8]) {
+    let names = ["nothing", "M", "H", "N", "L", "coordinates", "A", "loop"];
+    let told: Vec<String> = names.iter().zip(due).map(|(name, times)| format!("{name} {times}")).collect();
+    println!("due: {}", told.join(", "));
+}
+
 /// Acceptance and every refusal was the answer of some call.
-fn every_number(reached: &[[u64; 23]; 5]) -> bool {
-    (0..=22).all(|number| reached.iter().any(|call| call[number] > 0))
+fn every_number(reached: &Reached) -> bool {
+    numbers().all(|number| reached.iter().any(|call| call[number] > 0))
 }
 
 fn tell(disagreement: &Disagreement, options: &Options) {
