@@ -44,13 +44,29 @@ pub fn judge(file: &[u8], table: &mut [u32], measures: &mut [i64]) -> Outcome {
 
 /// Judges a file, fills the table and gives the sums of one layer, counted from 1.
 pub fn layer_sums(file: &[u8], table: &mut [u32], layer: u32) -> (Refusal, Sums) {
-    let mut full = Full::default();
-    full.asked = layer;
-    match (judged(file, table, &mut full), full.sums) {
+    let mut full = Full { summing: Summing::One(layer), ..Full::default() };
+    match (judged(file, table, &mut full), full.sums.first()) {
         (Err(refusal), _) => (refusal, Sums::default()),
         (Ok(()), None) => (nowhere(22), Sums::default()),
-        (Ok(()), Some(sums)) => (Refusal::default(), sums),
+        (Ok(()), Some(sums)) => (Refusal::default(), *sums),
     }
+}
+
+/// Judges a file, fills the table and gives the sums of all layers, two a layer.
+pub fn all_sums(file: &[u8], table: &mut [u32], sums: &mut [i64]) -> Outcome {
+    let mut full = Full { summing: Summing::All, ..Full::default() };
+    let refusal = match judged(file, table, &mut full) {
+        Ok(()) if sums.len() < 2 * full.sums.len() => nowhere(48),
+        Ok(()) => {
+            for (pair, found) in sums.chunks_exact_mut(2).zip(&full.sums) {
+                pair.copy_from_slice(&[found.areas, found.outside]);
+            }
+            return Outcome { counts: full.counts, ..Outcome::default() };
+        }
+        Err(refusal) => refusal,
+    };
+    let need = if refusal.number == 9 { full.need() } else { 0 };
+    Outcome { refusal, need, ..Outcome::default() }
 }
 
 /// All stages and the table: the first broken rule of 1 to 18.
@@ -88,9 +104,18 @@ struct Full {
     lines: Vec<u32>,
     areas: Vec<u32>,
     later: Later,
-    /// The layer whose sums are asked for, or 0, and its sums.
-    asked: u32,
-    sums: Option<Sums>,
+    /// The layers whose sums are asked for, and their sums.
+    summing: Summing,
+    sums: Vec<Sums>,
+}
+
+/// The layers whose sums are asked for: none, the one with this number, or all.
+#[derive(Default)]
+enum Summing {
+    #[default]
+    None,
+    One(u32),
+    All,
 }
 
 impl Full {
@@ -121,8 +146,13 @@ impl Judge for Full {
         self.areas.extend(layer.areas.iter().map(|area| area.record));
         let first = self.later.measures.len();
         self.later.layer(layer);
-        if self.asked == self.counts.layers && self.later.result().is_ok() {
-            self.sums = Some(sums_of(layer, &self.later.measures[first..]));
+        let asked = match self.summing {
+            Summing::None => false,
+            Summing::One(number) => number == self.counts.layers,
+            Summing::All => true,
+        };
+        if asked && self.later.result().is_ok() {
+            self.sums.push(sums_of(layer, &self.later.measures[first..]));
         }
     }
 
@@ -146,7 +176,7 @@ fn sums_of(layer: &Layer, measures: &[i64]) -> Sums {
     Sums { areas: measures.iter().sum(), outside }
 }
 
-/// The lean judge in the form in which programs are compared. Positions and the writer are the second program's.
+/// The lean judge in the form in which programs are compared. What is due, positions and the writer are the second program's.
 pub struct Lean;
 
 impl Product for Lean {
@@ -160,6 +190,14 @@ impl Product for Lean {
 
     fn layer_sums(&self, file: &[u8], table: &mut [u32], layer: u32) -> (Refusal, Sums) {
         layer_sums(file, table, layer)
+    }
+
+    fn all_sums(&self, file: &[u8], table: &mut [u32], sums: &mut [i64]) -> Outcome {
+        all_sums(file, table, sums)
+    }
+
+    fn due(&self, file: &[u8], record: u32) -> u32 {
+        Second.due(file, record)
     }
 
     fn position(&self, mesh: i32, x: i32, y: i32) -> (u32, f64, f64) {

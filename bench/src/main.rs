@@ -5,10 +5,10 @@ mod measure;
 
 use std::process::ExitCode;
 
-const HELP: &str = "bench [--quick] [--rounds N] [--only need|judge|sums|reader]
+const HELP: &str = "bench [--quick] [--rounds N] [--only need|judge|sums|all|reader]
 --quick   small files and two rounds
 --rounds  how often everything is run; the best run counts (5)
---only    one of the four calls";
+--only    one of the five calls";
 
 /// The calls that are measured.
 #[derive(Clone, Copy, PartialEq, Eq, PartialOrd, Ord)]
@@ -16,11 +16,17 @@ pub enum Call {
     Need,
     Judge,
     Sums,
+    All,
     Reader,
 }
 
-pub const CALLS: [(Call, &str); 4] =
-    [(Call::Need, "need"), (Call::Judge, "judge"), (Call::Sums, "sums"), (Call::Reader, "reader")];
+pub const CALLS: [(Call, &str); 5] = [
+    (Call::Need, "need"),
+    (Call::Judge, "judge"),
+    (Call::Sums, "sums"),
+    (Call::All, "all"),
+    (Call::Reader, "reader"),
+];
 
 pub struct Options {
     pub quick: bool,

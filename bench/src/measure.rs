@@ -47,13 +47,14 @@ fn records_in(megabytes: usize) -> usize {
 struct Buffers {
     table: Vec<u32>,
     measures: Vec<i64>,
+    sums: Vec<i64>,
 }
 
 /// What a call answered; all contestants have to answer the same.
 #[derive(Debug, PartialEq)]
 enum Answer {
     Need(u64),
-    /// The outcome, and the sums of both buffers.
+    /// The outcome, and the sums of both buffers; of the judge and of all sums.
     Judge(Outcome, u64, i64),
     Sums(Refusal, Sums, u64),
     Reader,
@@ -62,11 +63,12 @@ enum Answer {
 /// The proved judge accepts the file. The answer is buffers of the right size.
 fn accepted(file: &File) -> Buffers {
     let need = Proved.need(&file.bytes) as usize;
-    let mut buffers = Buffers { table: vec![1; need], measures: vec![1; need] };
+    let mut buffers = Buffers { table: vec![1; need], measures: vec![1; need], sums: Vec::new() };
     let outcome = Proved.judge(&file.bytes, &mut buffers.table, &mut buffers.measures);
     assert_eq!(outcome.refusal, Refusal::default(), "the file is accepted");
     assert_eq!(outcome.counts.records as usize, file.records());
     buffers.measures.truncate(outcome.counts.areas as usize);
+    buffers.sums = vec![1; 2 * outcome.counts.layers as usize];
     buffers
 }
 
@@ -81,7 +83,7 @@ fn run(who: Who, call: Call, file: &File, buffers: &mut Buffers) -> (Duration, A
 
 /// Runs one call and takes its time.
 fn run_as<P: Product>(product: &P, call: Call, file: &File, buffers: &mut Buffers) -> (Duration, Answer) {
-    let Buffers { table, measures } = buffers;
+    let Buffers { table, measures, sums } = buffers;
     let bytes = black_box(&file.bytes[..]);
     let start = Instant::now();
     match call {
@@ -96,6 +98,10 @@ fn run_as<P: Product>(product: &P, call: Call, file: &File, buffers: &mut Buffer
         Call::Sums => {
             let (refusal, sums) = product.layer_sums(bytes, table, 1);
             (start.elapsed(), Answer::Sums(refusal, sums, sum_of(table)))
+        }
+        Call::All => {
+            let outcome = product.all_sums(bytes, table, sums);
+            (start.elapsed(), Answer::Judge(outcome, sum_of(table), sums.iter().sum()))
         }
         Call::Reader => {
             for (record, kind) in bytes.chunks_exact(74).zip(&file.kinds) {

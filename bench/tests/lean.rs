@@ -9,7 +9,7 @@ use second::judge::verdict;
 use second::product::Product;
 
 /// Runs one part of the comparison, and tells how often each refusal was reached.
-fn agrees(part: fn(&mut Compare) -> Result<(), Disagreement>) -> [u64; 23] {
+fn agrees(part: fn(&mut Compare) -> Result<(), Disagreement>) -> [u64; 49] {
     let mut compare = Compare::new(&Lean);
     if let Err(disagreement) = part(&mut compare) {
         panic!("{}: {} and {}", disagreement.what, disagreement.ours, disagreement.theirs);
