@@ -97,7 +97,7 @@ static void field_title(const Field *field, char title[24])
         snprintf(title, 24, key[1] == '\0' ? "%c%s" : "%c %s", key[0] == 'x' ? 'X' : 'Y', key + 1);
     } else {
         size_t i = 0;
-        for (; key[i] != '\0' && i < 23; i++) {
+        for (; i < 23 && key[i] != '\0'; i++) {
             title[i] = key[i] == '_' ? ' ' : key[i];
         }
         title[i] = '\0';
