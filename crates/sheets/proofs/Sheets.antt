@@ -36,11 +36,11 @@ use Rattle.loops.specs.Loops.{repeatsArea, lastNode, entryBefore, joins, areaOn
 use Rattle.loops.specs.Loops.{winds, windChecks, firstRecord, areaRecord, loopChecks, stageFive}
 use Rattle.sides.specs.Sides.{lists, sideListed, listChecks, stageSix}
 use Rattle.ground.specs.Layers.{areaOfLayer, areasSum, leftAreaOf, rightAreaOf, outsideSum, measuresTo}
 use Rattle.judge.specs.Rulebook.{late, rulesOf, measureRule, layerRule, verdictOf, sumsVerdict}
 use Rattle.judge.specs.Outcomes.{outcomeOf, tableAfter, measuresOf, measuresAfter, sumsOf}
 use Rattle.judge.specs.declared.Outcome.{Outcome}
-use Rattle.judge.specs.Sheets.{written, mRecord, hRecord, nRecord, lRecord, points, aRecord, loopRecord, sheetS, changed, withMesh, Case, sheet}
-use Rattle.judge.specs.Sheets.{field, cases, twoMeshes, node, line, coordinates, area, loop, heads, sheetT, shore, sheetU, withoutHole, further}
+use Rattle.sheets.specs.Sheets.{written, mRecord, hRecord, nRecord, lRecord, points, aRecord, loopRecord, sheetS, changed, withMesh, Case, sheet}
+use Rattle.sheets.specs.Sheets.{field, cases, twoMeshes, node, line, coordinates, area, loop, heads, sheetT, shore, sheetU, withoutHole, further}
 
 -- what has to compute, under four names: a line that names one of them opens all that its own line names
 

@@ -1,0 +1,2 @@
+-- `Sheets`: that it is answered so.
+pub mod Sheets
