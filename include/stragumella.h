@@ -16,7 +16,7 @@
  *   - changes no byte of `file` or `bytes`, and of the other buffers only what is named below.
  * Buffers that are lent to one call must not overlap. Nothing checks that.
  *
- * Lengths count elements: bytes of a file, 32-bit words of a table, 64-bit places of measures.
+ * Lengths count elements: bytes of a file, 32-bit words of a table, 64-bit places of measures and of sums.
  * Records count from 1, and so do columns. Record k of a file is its 74 bytes from file + 74 * (k - 1) on.
  *
  * Refusals (docs/RULES.md 6)
@@ -49,11 +49,13 @@
  *   20  -      writer: a value or an unused entry doesn't fit                              -
  *   21  -      writer: the buffer is under 74 bytes; judged before 20                      -
  *   22  -      layer sums: there is no such layer; judged after acceptance                 -
+ *   48  -      all sums: fewer than two places a layer; judged after acceptance            -
  *
  * How to call
  *   words = stragumella_need(file, length). Lend a table of so many words, and as many places for measures: a file has
  *   never more areas than its table has words. Then the judge answers neither 9 nor 19. If words is 0, the file is
- *   refused in stage 1 or 2: the judge names the refusal, and no table has to be lent.
+ *   refused in stage 1 or 2: the judge names the refusal, and no table has to be lent. As many places for sums are
+ *   enough too: half of them would do.
  */
 #ifndef STRAGUMELLA_H
 #define STRAGUMELLA_H
@@ -160,7 +162,8 @@ stragumella_outcome stragumella_judge(const uint8_t *file, size_t length, uint32
 /*
  * Judges a file and gives the two sums of one of its layers. layer 1 is the file's first, and layers count on through
  * all meshes. Refused with 1 to 18 as by the judge, then with 22 if there is no such layer. 19 is no answer of this
- * call, and with 9 the need is not told: stragumella_need tells it. The whole file is judged in each call.
+ * call, and with 9 the need is not told: stragumella_need tells it. The whole file is judged in each call; whoever
+ * wants the sums of all layers calls stragumella_all_sums.
  *
  * file     length bytes, read.
  * table    words words. Refused with 1 to 9: untouched. Refused later, 22 included, or accepted: the table stands in
@@ -170,6 +173,22 @@ stragumella_outcome stragumella_judge(const uint8_t *file, size_t length, uint32
  */
 stragumella_sums stragumella_layer_sums(const uint8_t *file, size_t length, uint32_t *table, size_t words,
                                         uint32_t layer);
+
+/*
+ * Judges a file once and gives the two sums of each of its layers. Refused with 1 to 18 as by the judge, then with 48 if
+ * room is less than two for each layer; 19 is no answer of this call. Counts and need are told as by the judge.
+ *
+ * file     length bytes, read.
+ * table    words words. Refused with 1 to 9: untouched. Refused later, 48 included, or accepted: the table stands in
+ *          its first words and the rest is untouched, as behind the judge.
+ * sums     room places; what they hold before doesn't matter. Accepted: the first places, two for each of the outcome's
+ *          layers in file order, hold the layer's areas' sum and then its outside sum, and the rest is untouched.
+ *          Refused: untouched.
+ * Promises: Total. Exact, as the judge. No ground lost: the two sums of a layer are those that stragumella_layer_sums
+ * gives, and they are equal.
+ */
+stragumella_outcome stragumella_all_sums(const uint8_t *file, size_t length, uint32_t *table, size_t words,
+                                         int64_t *sums, size_t room);
 
 /*
  * The latitude and longitude of the point (x, y) on the sheet with the code mesh, in degrees. Latitude is the whole

@@ -14,6 +14,7 @@ ghost use lib.ListN.{length};
 ghost use Rattle.walk.specs.Stages.{needOf};
 ghost use Rattle.dues.specs.Dues.{dueAt};
 ghost use Rattle.judge.specs.Outcomes.{outcomeOf, tableAfter, measuresAfter, sumsOf, tableAfterSums};
+ghost use Rattle.judge.specs.Outcomes.{outcomeOfAll, tableAfterAll, sumsAfter};
 ghost use Rattle.positions.specs.Degrees.{positionOf};
 ghost use Rattle.capi.specs.Values.{meantBy, kindNumber, owedNumber, noKind, foundOf, WrittenValue};
 
@@ -77,6 +78,14 @@ pub extern "C" fn stragumella_layer_sums(file: &[u8], table: &mut [u32], layer: 
     ensures { λ r. ⌜ (r ≡ sumsOf (now (file .entry)) (length (now (table .entry))) layer) × (now (table .exit) ≡ tableAfterSums (now (file .entry)) layer (now (table .entry))) ⌝ }
 {
     judge::layer_sums(file, table, layer)
+}
+
+// Judges a file once for all of its layers, with its table and their sums left in the lent buffers.
+#[no_mangle]
+pub extern "C" fn stragumella_all_sums(file: &[u8], table: &mut [u32], sums: &mut [i64]) -> Outcome
+    ensures { λ r. ⌜ (r ≡ outcomeOfAll (now (file .entry)) (length (now (table .entry))) (length (now (sums .entry)))) × (now (table .exit) ≡ tableAfterAll (now (file .entry)) (length (now (sums .entry))) (now (table .entry))) × (now (sums .exit) ≡ sumsAfter (now (file .entry)) (length (now (table .entry))) (now (sums .entry))) ⌝ }
+{
+    judge::all_sums(file, table, sums)
 }
 
 // ---- positions

@@ -4,7 +4,7 @@ use mathlib.Core.Bool.{Bool, true, false, cond, false≢true}
 use mathlib.Core.List.{List}
 use mathlib.Core.Logic.{⊎-elim}
 use mathlib.Core.Path.{_≡_, refl, sym, _∙_, ap, ap₂}
-use Prim.Native.Nat.{ℕ, zero, suc, _+_, _^_, _≤_, _<_}
+use Prim.Native.Nat.{ℕ, zero, suc, _+_, _*_, _^_, _≤_, _<_}
 use native.Mathlib.Nat.{eq-or-lt-of-le}
 use native.Mathlib.Numerals.{add-one}
 use native.Mathlib.Omega.{arith}
@@ -18,7 +18,9 @@ use mir.Syntax.{w32, w64}
 use mir.Val.{SFits, toZ, ofZ, hbits}
 use Rattle.records.specs.Columns.{leftArea, rightArea, valueAt}
 use Rattle.permitted.specs.Permitted.{size, same, isZero}
+use Rattle.verdict.specs.declared.Verdict.the-variants.{Fine}
 use Rattle.walk.specs.Row.{areasWord}
+use Rattle.walk.specs.Table.{filled}
 use Rattle.walk.proofs.Stores.{more-filled, filled-length}
 use Rattle.links.proofs.Numbers.{told}
 use Rattle.measures.specs.Sum.{sum, sumTo}
@@ -39,8 +41,10 @@ use Rattle.entries.specs.Loops.{measureOf, areaMeasureIn}
 use Rattle.entries.specs.Keeping.{keptMeasure, Kept}
 use Rattle.entries.proofs.Keeping.{most, kept-small, entries-kept}
 use Rattle.entries.proofs.Summing.{turned-fits, turned-back}
-use Rattle.ground.specs.Layers.{areaOfLayer, leftAreaOf, rightAreaOf, measuresTo}
-use Rattle.judge.specs.Measuring.{Fits, Measurable, keptArea, outsideAt, Summable, Fillable, filledTo}
+use Rattle.ground.specs.Layers.{areaOfLayer, areasSum, leftAreaOf, rightAreaOf, outsideSum, measuresTo}
+use Rattle.judge.specs.Outcomes.{sumsWith, pairOf, pairsTo}
+use Rattle.judge.specs.declared.Sums.{Sums}
+use Rattle.judge.specs.Measuring.{Fits, Measurable, keptArea, outsideAt, Summable, SummableTo}
 
 -- ---- the two sides of a line
 
@@ -180,7 +184,7 @@ module _ (t : List ℕ) (b : Bases) where
   row-areas i h = ap (λ (l : Layer). l .areas) (row-layer t b i h)
 
   -- the areas of the layers before row i and its own are some of those of n rows
-  pub areas-more : (i n : ℕ) → i < n → n ≤ 6399936 → wordsBefore t areasWord i + layerIn t b i .areas ≤ wordsBefore t areasWord n
+  areas-more : (i n : ℕ) → i < n → n ≤ 6399936 → wordsBefore t areasWord i + layerIn t b i .areas ≤ wordsBefore t areasWord n
   areas-more i n h f = rw (row-areas i (omega arith)) (words-more t areasWord i n h)
 
   words-up : (i n : ℕ) → i ≤ n → n ≤ 6399936 → wordsBefore t areasWord i ≤ wordsBefore t areasWord n
@@ -193,40 +197,63 @@ module _ (t : List ℕ) (b : Bases) where
     measures-many zero h = refl
     measures-many (suc n) h = rw (length-append, measures-many n (omega arith), first-many, row-areas n (omega arith))
 
-    filled-many : (n : ℕ) (ms : List ℤ) → n ≤ 6399936 → wordsBefore t areasWord n ≤ length ms → length (filledTo file t b n ms) ≡ length ms
-    unfolding filledTo
+    filled-many : (n : ℕ) (ms : List ℤ) → n ≤ 6399936 → wordsBefore t areasWord n ≤ length ms → length (filled (measuresTo file t b n) ms) ≡ length ms
     filled-many n ms h f = filled-length (measuresTo file t b n) ms (rw (measures-many n h) f)
 
     -- a layer's measures behind those of the layers before it
     layer-filled : (i : ℕ) (ms : List ℤ) → i < 6399936 → wordsBefore t areasWord i + layerIn t b i .areas ≤ length ms
-        → sets (filledTo file t b i ms) (wordsBefore t areasWord i) (firstOf (λ a. areaOfLayer file t (layerIn t b i) (suc a)) (layerIn t b i .areas))
-        ≡ filledTo file t b (i + 1) ms
-    unfolding filledTo measuresTo
+        → sets (filled (measuresTo file t b i) ms) (wordsBefore t areasWord i)
+        (firstOf (λ a. areaOfLayer file t (layerIn t b i) (suc a)) (layerIn t b i .areas))
+        ≡ filled (measuresTo file t b (i + 1)) ms
+    unfolding measuresTo
     layer-filled i ms h f =
         rw (add-one, ← measures-many i (omega arith))
         (more-filled (measuresTo file t b i) (firstOf (λ a. areaOfLayer file t (layerIn t b i) (suc a)) (layerIn t b i .areas)) ms
         (rw (measures-many i (omega arith), first-many) f))
 
-    pub none-filled : (ms : List ℤ) → ms ≡ filledTo file t b 0 ms
-    unfolding filledTo measuresTo
+    pub none-filled : (ms : List ℤ) → ms ≡ filled (measuresTo file t b 0) ms
+    unfolding measuresTo
     none-filled ms = refl
 
+    -- one of the first n layers
+    pub next-summable : {n i : ℕ} {l : Layer} → SummableTo file t b n → i < n → l ≡ layerIn t b i → Summable file t l
+    next-summable f h e = rw e (f .each _ h)
+
     -- the first i of n layers are filled into what held `entry`; l is the next one
-    module _ (n i : ℕ) (entry : List ℤ) {at : ℕ} {ms : List ℤ} (f : Fillable file t b n (length entry))
-        (p : at ≡ wordsBefore t areasWord i) (q : ms ≡ filledTo file t b i entry) where
+    module _ (n i : ℕ) (entry : List ℤ) {at : ℕ} {ms : List ℤ} (f : SummableTo file t b n × (wordsBefore t areasWord n ≤ length entry))
+        (p : at ≡ wordsBefore t areasWord i) (q : ms ≡ filled (measuresTo file t b i) entry) where
       pub same-many : i ≤ n → length ms ≡ length entry
-      same-many h = rw q (filled-many i entry (omega (arith, f .few)) (omega (arith, words-up i n h (f .few), f .places)))
+      same-many h = rw q (filled-many i entry (omega (arith, f .0 .few)) (omega (arith, words-up i n h (f .0 .few), f .1)))
 
       module _ {l : Layer} (h : i < n) (e : l ≡ layerIn t b i) where
         pub room : at + l .areas ≤ length ms
-        room = rw (p, e, same-many (omega arith)) (omega (arith, areas-more i n h (f .few), f .places))
-
-        pub layer-summable : Summable file t l
-        layer-summable = rw e (f .sums i h)
+        room = rw (p, e, same-many (omega arith)) (omega (arith, areas-more i n h (f .0 .few), f .1))
 
         pub at-more : at + l .areas ≡ wordsBefore t areasWord (i + 1)
         unfolding wordsBefore
-        at-more = rw (add-one, p, e, row-areas i (omega (arith, f .few)))
+        at-more = rw (add-one, p, e, row-areas i (omega (arith, f .0 .few)))
 
-        pub layer-put : {out : List ℤ} → out ≡ sets ms at (firstOf (λ a. areaOfLayer file t l (suc a)) (l .areas)) → out ≡ filledTo file t b (i + 1) entry
-        layer-put o = o ∙ rw (q, p, e) (layer-filled i entry (omega (arith, f .few)) (omega (arith, areas-more i n h (f .few), f .places)))
+        pub layer-put : {out : List ℤ} → out ≡ sets ms at (firstOf (λ a. areaOfLayer file t l (suc a)) (l .areas))
+            → out ≡ filled (measuresTo file t b (i + 1)) entry
+        layer-put o = o ∙ rw (q, p, e) (layer-filled i entry (omega (arith, f .0 .few)) (omega (arith, areas-more i n h (f .0 .few), f .1)))
+
+    -- ---- the sums of each layer
+
+    pub pairs-many : (n : ℕ) → length (pairsTo file t b n) ≡ 2 * n
+    unfolding pairsTo
+    pairs-many zero = refl
+    pairs-many (suc n) = rw (length-append, pairs-many n) (omega arith)
+
+    -- the first i of n pairs are filled into what held `entry`; x and y are the next
+    module _ (n i : ℕ) (entry : List ℤ) {ss : List ℤ} (w : 2 * n ≤ length entry) (q : ss ≡ filled (pairsTo file t b i) entry) where
+      pub same-room : i ≤ n → length ss ≡ length entry
+      same-room h = rw q (filled-length (pairsTo file t b i) entry (rw (pairs-many i) (omega arith)))
+
+      -- the answer s about the next layer l, stored
+      pub pair-put : i < n → {l : Layer} {s : Sums} → l ≡ layerIn t b i → s ≡ sumsWith Fine (areasSum file t l) (outsideSum file t l)
+          → mag (s .areas) < 2 ^ hbits w64 → mag (s .outside) < 2 ^ hbits w64
+          → set (set ss (2 * i) (toZ w64 (ofZ w64 (s .areas)))) (2 * i + 1) (toZ w64 (ofZ w64 (s .outside))) ≡ filled (pairsTo file t b (i + 1)) entry
+      unfolding pairsTo
+      pair-put h e g u v =
+          rw (toZ-ofZ {w = w64} (record { sfits = u }), toZ-ofZ {w = w64} (record { sfits = v }), g, e, q, add-one, add-one, ← pairs-many i)
+          (more-filled (pairsTo file t b i) (pairOf file t (layerIn t b i)) entry (rw (pairs-many i) (omega arith)))

@@ -1,17 +1,17 @@
 -- THE THEOREM OF DEMAND 2 (RULES 13.2): a file is accepted exactly when no rule is broken; otherwise the answer is the least broken rule in
 -- the order of RULES 6.1; no second answer fits, and the answer settles what the call tells and what each lent buffer holds. The rules
 -- stand in that order, so the first broken one is the least. Assumes nothing.
-use mathlib.Core.Bool.{true, _&&_}
+use mathlib.Core.Bool.{true}
 use mathlib.Core.List.{List, [], _∷_, _++_, append-assoc}
 use mathlib.Core.Path.{_≡_, refl, subst, sym, _∙_, ap}
 use Prim.Native.Nat.{ℕ, _≤_, _<_}
 use native.Mathlib.Omega.{arith}
-use lib.Dec.{leb, lit<}
+use lib.Dec.{lit<}
 use lib.IntN.{ℤ}
 use lib.ListN.{length}
 use Rattle.verdict.specs.declared.Verdict.{Verdict}
 use Rattle.verdict.specs.declared.Verdict.the-variants.{Fine, Broken}
-use Rattle.verdict.specs.Rules.{Rule, check, toldOf}
+use Rattle.verdict.specs.Rules.{Rule, Check, toldOf}
 use Rattle.verdict.specs.Order.{In, Answer, Sorted}
 use Rattle.verdict.proofs.Orders.{answers, only, block-sorted, block-in, UpTo, Of, turn-sorted, turn-up}
 use Rattle.verdict.proofs.Numbers.{unlike, between-unlike, Numbered, block-numbered, append-numbered, not-told}
@@ -30,8 +30,10 @@ use Rattle.loops.specs.Loops.{sixth, stageFive}
 use Rattle.loops.proofs.InOrder.{five-sorted, five-of}
 use Rattle.sides.specs.Sides.{seventh, stageSix}
 use Rattle.sides.proofs.InOrder.{six-sorted, six-of}
-use Rattle.judge.specs.Rulebook.{late, rulesOf, eighth, measureRule, layerRule, judgeRules, sumsRules, verdictOf, sumsVerdict}
-use Rattle.judge.specs.Outcomes.{outcomeBy, outcomeOf, tableBy, tableAfter, measuresBy, measuresAfter, sumsBy, sumsOf, tableAfterSums}
+use Rattle.judge.specs.Rulebook.{late, rulesOf, eighth, measureRule, layerRule, pairRule, callRules, callVerdict}
+use Rattle.judge.specs.Rulebook.{verdictOf, sumsVerdict, allVerdict}
+use Rattle.judge.specs.Outcomes.{tableBy, outcomeBy, outcomeBehind, tableBehind, lentBy, outcomeOf, measuresOf, measuresAfter}
+use Rattle.judge.specs.Outcomes.{sumsBy, sumsOf, outcomeOfAll, allSumsOf, sumsAfter}
 use Rattle.judge.proofs.Loading.{late-numbered}
 
 -- ---- the rules stand in order
@@ -63,62 +65,59 @@ stages-turn file room =
     (five-of file t b) (five-sorted file t b))
     (six-of file t b) (six-sorted file t b))
 
-judge-sorted : (file : List ℕ) (room places : ℕ) → Sorted (judgeRules file room places)
-unfolding measureRule
-judge-sorted file room places =
-    let cs = check 0 19 (leb (countsAt file (recordsOf file) .areas) places) ∷ [] in
+-- and behind all stages what a call asks
+call-sorted : (file : List ℕ) (room : ℕ) (last : Counts → Check) → Sorted (callRules file room last)
+call-sorted file room last =
+    let cs = last (countsAt file (recordsOf file)) ∷ [] in
     turn seventh eighth _ _ (lit< tt) (stages-turn file room) (λ a i. block-in eighth 0 cs a i .0) (block-sorted eighth 0 cs refl) .sorted
 
-sums-sorted : (file : List ℕ) (room i : ℕ) → Sorted (sumsRules file room i)
-unfolding layerRule
-sums-sorted file room i =
-    let cs = check 0 22 (leb 1 i && leb i (countsAt file (recordsOf file) .layers)) ∷ [] in
-    turn seventh eighth _ _ (lit< tt) (stages-turn file room) (λ a j. block-in eighth 0 cs a j .0) (block-sorted eighth 0 cs refl) .sorted
-
--- ---- the judge
+-- ---- every call: the judge, the layer sums and all sums, which differ in what they ask last
 
 -- the verdict is the answer to the rules: Fine, and all are kept, or the least broken one
-pub verdict-answers : (file : List ℕ) (room places : ℕ) → Answer (judgeRules file room places) (verdictOf file room places)
-unfolding verdictOf
-verdict-answers file room places = answers (judgeRules file room places) (judge-sorted file room places)
+pub verdict-answers : (file : List ℕ) (room : ℕ) (last : Counts → Check) → Answer (callRules file room last) (callVerdict file room last)
+unfolding callVerdict
+verdict-answers file room last = answers (callRules file room last) (call-sorted file room last)
 
 -- no second one fits
-pub verdict-only : (file : List ℕ) (room places : ℕ) (v : Verdict) → Answer (judgeRules file room places) v → v ≡ verdictOf file room places
-verdict-only file room places v a = only (judgeRules file room places) v (verdictOf file room places) a (verdict-answers file room places)
+pub verdict-only : (file : List ℕ) (room : ℕ) (last : Counts → Check) (v : Verdict) → Answer (callRules file room last) v → v ≡ callVerdict file room last
+verdict-only file room last v a = only (callRules file room last) v (callVerdict file room last) a (verdict-answers file room last)
 
 -- RULES 13.2: a file is accepted exactly when it keeps the rules, the room lent included
-pub accepted-keeps : (file : List ℕ) (room places : ℕ) → verdictOf file room places ≡ Fine → (r : Rule) → In r (judgeRules file room places) → r .holds ≡ true
-accepted-keeps file room places e = subst (Answer (judgeRules file room places)) e (verdict-answers file room places)
+pub accepted-keeps : (file : List ℕ) (room : ℕ) (last : Counts → Check) → callVerdict file room last ≡ Fine
+    → (r : Rule) → In r (callRules file room last) → r .holds ≡ true
+accepted-keeps file room last e = subst (Answer (callRules file room last)) e (verdict-answers file room last)
 
-pub kept-accepted : (file : List ℕ) (room places : ℕ) → ((r : Rule) → In r (judgeRules file room places) → r .holds ≡ true) → verdictOf file room places ≡ Fine
-kept-accepted file room places h = sym (verdict-only file room places Fine h)
+pub kept-accepted : (file : List ℕ) (room : ℕ) (last : Counts → Check)
+    → ((r : Rule) → In r (callRules file room last) → r .holds ≡ true) → callVerdict file room last ≡ Fine
+kept-accepted file room last h = sym (verdict-only file room last Fine h)
 
--- whoever finds the answer v to the rules has no choice left: what is told, the table and the measures are settled
-pub load-only : (file words : List ℕ) (ms : List ℤ) (v : Verdict) → Answer (judgeRules file (length words) (length ms)) v
-    → (outcomeBy v (countsAt file (recordsOf file)) (recordsOf file) (needOf file) ≡ outcomeOf file (length words) (length ms))
-    × (tableBy v file words ≡ tableAfter file (length ms) words)
-    × (measuresBy v file ms ≡ measuresAfter file (length words) ms)
-unfolding outcomeOf tableAfter measuresAfter
-load-only file words ms v a =
-    let e : v ≡ verdictOf file (length words) (length ms) = verdict-only file (length words) (length ms) v a in (
-      ap (λ v. outcomeBy v (countsAt file (recordsOf file)) (recordsOf file) (needOf file)) e,
-      ap (λ v. tableBy v file words) e,
-      ap (λ v. measuresBy v file ms) e,
-    )
+-- ---- whoever finds the answer v to the rules has no choice left: what is told and what each lent buffer holds are settled
 
--- ---- the layer sums
+-- what the judge and all sums tell, and the table behind every call
+pub told-only : (file words : List ℕ) (last : Counts → Check) (v : Verdict) → Answer (callRules file (length words) last) v
+    → (outcomeBy v (countsAt file (recordsOf file)) (recordsOf file) (needOf file) ≡ outcomeBehind file (length words) last)
+    × (tableBy v file words ≡ tableBehind file last words)
+unfolding outcomeBehind tableBehind
+told-only file words last v a =
+    let e = verdict-only file (length words) last v a in
+    (ap (λ v. outcomeBy v (countsAt file (recordsOf file)) (recordsOf file) (needOf file)) e, ap (λ v. tableBy v file words) e)
 
-pub sums-answers : (file : List ℕ) (room i : ℕ) → Answer (sumsRules file room i) (sumsVerdict file room i)
-unfolding sumsVerdict
-sums-answers file room i = answers (sumsRules file room i) (sums-sorted file room i)
+-- the measures behind the judge
+pub measures-only : (file : List ℕ) (room : ℕ) (ms : List ℤ) (v : Verdict) → Answer (callRules file room (measureRule (length ms))) v
+    → lentBy v (measuresOf file) ms ≡ measuresAfter file room ms
+unfolding measuresAfter
+measures-only file room ms v a = ap (λ v. lentBy v (measuresOf file) ms) (verdict-only file room (measureRule (length ms)) v a)
 
-pub sums-only : (file words : List ℕ) (i : ℕ) (v : Verdict) → Answer (sumsRules file (length words) i) v
-    → (sumsBy v file i ≡ sumsOf file (length words) i) × (tableBy v file words ≡ tableAfterSums file i words)
-unfolding sumsOf tableAfterSums
-sums-only file words i v a =
-    let e : v ≡ sumsVerdict file (length words) i =
-    only (sumsRules file (length words) i) v (sumsVerdict file (length words) i) a (sums-answers file (length words) i) in
-    (ap (λ v. sumsBy v file i) e, ap (λ v. tableBy v file words) e)
+-- what the layer sums tell
+pub sums-only : (file : List ℕ) (room i : ℕ) (v : Verdict) → Answer (callRules file room (layerRule i)) v → sumsBy v file i ≡ sumsOf file room i
+unfolding sumsOf
+sums-only file room i v a = ap (λ v. sumsBy v file i) (verdict-only file room (layerRule i) v a)
+
+-- the sums behind all sums
+pub pairs-only : (file : List ℕ) (room : ℕ) (ss : List ℤ) (v : Verdict) → Answer (callRules file room (pairRule (length ss))) v
+    → lentBy v (allSumsOf file) ss ≡ sumsAfter file room ss
+unfolding sumsAfter
+pairs-only file room ss v a = ap (λ v. lentBy v (allSumsOf file) ss) (verdict-only file room (pairRule (length ss)) v a)
 
 -- ---- the number 0
 
@@ -130,30 +129,41 @@ rules-unlike file room m o =
     (λ a i. between-unlike 1 9 m (a .number) (λ l h. o l (omega arith)) (early-numbered file room a i))
     (λ a i. between-unlike 10 18 m (a .number) (λ l h. o (omega arith) h) (late-numbered file a i))
 
-pub told-by : (v : Verdict) (c : Counts) (records need : ℕ) → outcomeBy v c records need .number ≡ toldOf v .number
+-- what a call asks last bears another number than 0
+zero-fine : (file : List ℕ) (room : ℕ) (last : Counts → Check) → unlike 0 (last (countsAt file (recordsOf file)) .number) ≡ true
+    → toldOf (callVerdict file room last) .number ≡ 0 → callVerdict file room last ≡ Fine
+unfolding callVerdict
+zero-fine file room last h =
+    not-told 0 (callRules file room last)
+    (append-numbered (unlike 0) (rulesOf file room) _ (rules-unlike file room 0 (λ l h. omega arith))
+    (block-numbered (unlike 0) eighth 0 (last (countsAt file (recordsOf file)) ∷ []) (rw h)))
+    (callVerdict file room last) refl
+
+told-by : (v : Verdict) (c : Counts) (records need : ℕ) → outcomeBy v c records need .number ≡ toldOf v .number
 told-by Fine c records need = refl
 told-by (Broken n r p) c records need = refl
 
--- RULES 6.1: acceptance is number 0; it is told of an accepted file alone
+-- what is told is the verdict's number
+pub outcome-number : (file : List ℕ) (room : ℕ) (last : Counts → Check) → outcomeBehind file room last .number ≡ toldOf (callVerdict file room last) .number
+unfolding outcomeBehind
+outcome-number file room last = told-by (callVerdict file room last) _ _ _
+
+told-sums : (v : Verdict) (file : List ℕ) (i : ℕ) → sumsBy v file i .number ≡ toldOf v .number
+told-sums Fine file i = refl
+told-sums (Broken n r p) file i = refl
+
+pub sums-number : (file : List ℕ) (room i : ℕ) → sumsOf file room i .number ≡ toldOf (sumsVerdict file room i) .number
+unfolding sumsOf
+sums-number file room i = told-sums (sumsVerdict file room i) file i
+
+-- RULES 6.1: acceptance is number 0; it is told of an accepted file alone, by the judge,
 pub zero-accepts : (file : List ℕ) (room places : ℕ) → outcomeOf file room places .number ≡ 0 → verdictOf file room places ≡ Fine
-unfolding outcomeOf verdictOf measureRule
-zero-accepts file room places e =
-    not-told 0 (judgeRules file room places)
-    (append-numbered (unlike 0) (rulesOf file room) _ (rules-unlike file room 0 (λ l h. omega arith))
-    (block-numbered (unlike 0) eighth 0 (check 0 19 (leb (countsAt file (recordsOf file) .areas) places) ∷ []) refl))
-    (verdictOf file room places) refl
-    (sym (told-by (verdictOf file room places) (countsAt file (recordsOf file)) (recordsOf file) (needOf file)) ∙ e)
+zero-accepts file room places e = zero-fine file room (measureRule places) refl (sym (outcome-number file room (measureRule places)) ∙ e)
 
-pub sums-told : (v : Verdict) (file : List ℕ) (i : ℕ) → sumsBy v file i .number ≡ toldOf v .number
-sums-told Fine file i = refl
-sums-told (Broken n r p) file i = refl
-
--- and so it is of the layer sums
+-- by the layer sums
 pub zero-sums : (file : List ℕ) (room i : ℕ) → sumsOf file room i .number ≡ 0 → sumsVerdict file room i ≡ Fine
-unfolding sumsOf sumsVerdict layerRule
-zero-sums file room i e =
-    not-told 0 (sumsRules file room i)
-    (append-numbered (unlike 0) (rulesOf file room) _ (rules-unlike file room 0 (λ l h. omega arith))
-    (block-numbered (unlike 0) eighth 0 (check 0 22 (leb 1 i && leb i (countsAt file (recordsOf file) .layers)) ∷ []) refl))
-    (sumsVerdict file room i) refl
-    (sym (sums-told (sumsVerdict file room i) file i) ∙ e)
+zero-sums file room i e = zero-fine file room (layerRule i) refl (sym (sums-number file room i) ∙ e)
+
+-- and by all sums
+pub zero-all : (file : List ℕ) (room places : ℕ) → outcomeOfAll file room places .number ≡ 0 → allVerdict file room places ≡ Fine
+zero-all file room places e = zero-fine file room (pairRule places) refl (sym (outcome-number file room (pairRule places)) ∙ e)

@@ -1,45 +1,46 @@
 -- What the public calls answer behind all stages, and what each lent buffer then holds. Assumes nothing.
-use mathlib.Core.Bool.{true, false, _&&_, not}
-use mathlib.Core.List.{List, [], _++_}
-use mathlib.Core.Path.{_≡_, sym, _∙_, ap}
+use mathlib.Core.Bool.{Bool, true, false, cond}
+use mathlib.Core.List.{List, [], _∷_, _++_}
+use mathlib.Core.Path.{_≡_, refl, sym, _∙_, ap}
 use Prim.Native.Nat.{ℕ, _-_, _≤_, _<_}
 use native.Mathlib.Omega.{arith}
 use lib.Dec.{leb, lit≤}
 use lib.IntN.{ℤ, pos}
 use lib.ListN.{length, take, drop, length-append}
 use lib.Seq.{take-append-seam}
-use borrow.Author.Tests.{le-leb, lt-leb, leb-true, not-true, not-false}
 use Rattle.verdict.specs.declared.Verdict.{Verdict}
 use Rattle.verdict.specs.declared.Verdict.the-variants.{Fine, Broken}
-use Rattle.verdict.specs.Rules.{firstBroken}
-use Rattle.verdict.proofs.Orders.{and-both}
-use Rattle.verdict.proofs.Parts.{stands, goes-on, both-fine, check-none, check-kept, check-broken}
+use Rattle.verdict.specs.Rules.{Check, block, firstBroken}
+use Rattle.verdict.proofs.Parts.{fine-broken, stands, goes-on, both-fine, check-fine}
 use Rattle.walk.specs.declared.Tabled.{Tabled}
 use Rattle.walk.specs.declared.Counts.{Counts}
+use Rattle.walk.specs.Row.{areasWord}
 use Rattle.walk.specs.States.{Countable, countsAt}
 use Rattle.walk.specs.Stages.{recordsOf, stageOne, stageTwo, roomRule, walkedBy, walkedOf, needOf, early}
 use Rattle.walk.specs.Table.{tableOf, filled}
-use Rattle.walk.proofs.Walking.{counts-small, countable}
+use Rattle.walk.proofs.Walking.{countable}
 use Rattle.walk.proofs.Judging.{records-small, walked-verdict, walked-fine, ended}
 use Rattle.walk.proofs.Room.{table-need}
 use Rattle.totals.specs.Totals.{stageThree}
 use Rattle.layers.specs.declared.Bases.{Bases}
 use Rattle.layers.specs.declared.Layer.{Layer}
-use Rattle.layers.specs.Naming.{layerIn}
+use Rattle.layers.specs.Naming.{wordsBefore, layerIn}
 use Rattle.layers.specs.Passing.{basesOf, basesIn, layerOf}
 use Rattle.layers.proofs.Sections.{areas}
 use Rattle.layers.proofs.Laid.{all-came}
 use Rattle.links.specs.Links.{stageFour}
 use Rattle.loops.specs.Loops.{stageFive}
-use Rattle.ground.specs.Layers.{areasSum, outsideSum}
+use Rattle.ground.specs.Layers.{areasSum, outsideSum, measuresTo}
 use Rattle.ground.proofs.Kept.{Passed}
 use Rattle.ground.proofs.Soundness.{table-sound}
 use Rattle.ground.proofs.Limits.{area-small, areas-small, outside-small}
 use Rattle.judge.specs.declared.Outcome.{Outcome}
 use Rattle.judge.specs.declared.Sums.{Sums}
-use Rattle.judge.specs.Rulebook.{late, rulesOf, eighth, measureRule, layerRule, verdictOf, sumsVerdict}
-use Rattle.judge.specs.Outcomes.{outcomeBy, outcomeOf, judgedOf, tableJudged, tableAfter, measuresOf, measuresAfter, sumsWith, sumsOf, tableAfterSums}
-use Rattle.judge.specs.Measuring.{outsideAt, Summable, Fillable, filledTo}
+use Rattle.judge.specs.Rulebook.{late, rulesOf, eighth, callRules, callVerdict}
+use Rattle.judge.specs.Outcomes.{judgedOf, tableBy, tableJudged, askedBy, outcomeBy, outcomeBehind, tableBehind, lentBy}
+use Rattle.judge.specs.Outcomes.{measuresOf, sumsWith, sumsBy, pairsTo, allSumsOf}
+use Rattle.judge.specs.Measuring.{outsideAt, Summable, SummableTo}
+use Rattle.judge.proofs.Loading.{counts-few}
 
 -- ---- a file that keeps all stages
 
@@ -63,7 +64,19 @@ module _ (file : List ℕ) (room : ℕ) (q : firstBroken (rulesOf file room) ≡
       let six = both-fine (stageFive file (tableOf file) (basesIn file)) _ five in
       record { two = stages-kept .0; four = both-fine (stageFour file (tableOf file) (basesIn file)) _ four .0; five = six .0; six = six .1 }
 
--- ---- behind all stages, of whose answer t is known
+-- a file that a call accepts keeps them, and what the call asks behind them
+module _ (file : List ℕ) (room : ℕ) (last : Counts → Check) (h : callVerdict file room last ≡ Fine) where
+  both-kept : (firstBroken (rulesOf file room) ≡ Fine) × (firstBroken (block eighth 0 (last (countsAt file (recordsOf file)) ∷ [])) ≡ Fine)
+  unfolding callVerdict
+  both-kept = both-fine (rulesOf file room) _ h
+
+  pub rules-fine : firstBroken (rulesOf file room) ≡ Fine
+  rules-fine = both-kept .0
+
+  pub last-fine : last (countsAt file (recordsOf file)) .holds ≡ true
+  last-fine = check-fine eighth 0 _ _ _ (both-kept .1)
+
+-- ---- the counts
 
 counts-countable : (v : Verdict) (c : Counts) → Countable c → Countable (walkedBy v c .counts)
 counts-countable Fine c h = h
@@ -74,9 +87,23 @@ unfolding walkedOf
 walked-countable file =
     counts-countable (firstBroken (stageOne file ++ stageTwo file)) (countsAt file (recordsOf file)) (countable file (recordsOf file) (records-small file))
 
--- a refusal tells no counts
-refused-alike : {v : Verdict} {n r p : ℕ} → v ≡ Broken n r p → (c d : Counts) (i j need : ℕ) → outcomeBy v c i need ≡ outcomeBy v d j need
-refused-alike e c d i j need = rw e
+-- ---- what a call asks behind them
+
+asked-fine : (v : Verdict) (x : Check) → askedBy v x ≡ Fine → (v ≡ Fine) × (x .holds ≡ true)
+asked-fine Fine x h = (refl, check-fine eighth 0 (x .column) (x .number) (x .holds) h)
+asked-fine (Broken n r c) x h = fine-broken h refl
+
+-- a refusal above 9 leaves the table where it stands
+asked-table : (file words : List ℕ) (v : Verdict) (x : Check) → leb (x .number) 9 ≡ false → tableBy (askedBy v x) file words ≡ tableBy v file words
+unfolding firstBroken block
+asked-table file words Fine x h = by (x .holds)
+  where
+    by : (b : Bool) → tableBy (cond b Fine (Broken (x .number) 0 (x .column))) file words ≡ filled (tableOf file) words
+    by true = refl
+    by false = rw h
+asked-table file words (Broken n r c) x h = refl
+
+-- ---- behind all stages, of whose answer t is known
 
 module _ (file : List ℕ) (room : ℕ) {t : Tabled} (e : t ≡ judgedOf file room) where
   judged : t .verdict ≡ firstBroken (rulesOf file room)
@@ -94,47 +121,13 @@ module _ (file : List ℕ) (room : ℕ) {t : Tabled} (e : t ≡ judgedOf file ro
   pub judged-countable : Countable (t .counts)
   judged-countable = rw counted (walked-countable file)
 
-  -- ---- refused
-
-  module _ {n r p : ℕ} (q : t .verdict ≡ Broken n r p) where
-    module _ (places : ℕ) where
-      verdict-refused : t .verdict ≡ verdictOf file room places
-      unfolding verdictOf
-      verdict-refused = stands (rulesOf file room) (measureRule file places) q judged
-
-      pub outcome-refused : (i : ℕ) {o : Outcome} → o ≡ outcomeBy (t .verdict) (t .counts) i (t .counts .words) → o ≡ outcomeOf file room places
-      unfolding outcomeOf
-      outcome-refused i h =
-          rw (← verdict-refused, ← need-is) (h ∙ refused-alike q (t .counts) (countsAt file (recordsOf file)) i (recordsOf file) (t .counts .words))
-
-      pub table-refused : (words : List ℕ) {after : List ℕ} → room ≡ length words → after ≡ tableJudged file words → after ≡ tableAfter file places words
-      unfolding tableJudged tableAfter
-      table-refused words l h = rw (← l, ← verdict-refused) (rw (← l, ← judged) at h)
-
-      pub measures-refused : (ms : List ℤ) → places ≡ length ms → ms ≡ measuresAfter file room ms
-      unfolding measuresAfter
-      measures-refused ms l = rw (← l, ← verdict-refused, q)
-
-    module _ (i : ℕ) where
-      sums-refused-by : t .verdict ≡ sumsVerdict file room i
-      unfolding sumsVerdict
-      sums-refused-by = stands (rulesOf file room) (layerRule file i) q judged
-
-      pub sums-refused : {s : Sums} → s ≡ sumsWith (t .verdict) (pos 0) (pos 0) → s ≡ sumsOf file room i
-      unfolding sumsOf
-      sums-refused h = rw (← sums-refused-by, q) (rw q at h)
-
-      pub table-sums-refused : (words : List ℕ) {after : List ℕ} → room ≡ length words → after ≡ tableJudged file words → after ≡ tableAfterSums file i words
-      unfolding tableJudged tableAfterSums
-      table-sums-refused words l h = rw (← l, ← sums-refused-by) (rw (← l, ← judged) at h)
-
   -- ---- kept
 
   module _ (q : t .verdict ≡ Fine) where
     rules-kept : firstBroken (rulesOf file room) ≡ Fine
     rules-kept = sym judged ∙ q
 
-    pub judged-passed : Passed file
+    judged-passed : Passed file
     judged-passed = passed file room rules-kept
 
     pub judged-counts : t .counts ≡ countsAt file (recordsOf file)
@@ -166,99 +159,79 @@ module _ (file : List ℕ) (room : ℕ) {t : Tabled} (e : t ≡ judgedOf file ro
           outside = outside-small file judged-passed i j;
         }
 
-    -- too few places for the measures
-    module _ (places : ℕ) (l : places < t .counts .areas) where
-      verdict-short : Broken 19 0 0 ≡ verdictOf file room places
-      unfolding verdictOf measureRule
-      verdict-short =
-          goes-on (rulesOf file room) (measureRule file places) q judged
-          (sym (check-broken eighth 0 0 19 _ [] (rw (← judged-counts) (lt-leb (t .counts .areas) places l))))
+    -- what the code hands over: the file's table ws, and where its lines and areas begin
+    module _ {ws : List ℕ} {b : Bases} (f : ws ≡ tableOf file) (g : b ≡ basesOf (t .counts)) where
+      pub summable-to : SummableTo file ws b (t .counts .layers)
+      summable-to = rw (f, g, judged-counts) (record {
+        few = counts-few file refl .0;
+        each = λ i m. summable i (rw judged-counts m);
+      })
 
-      pub outcome-short : (i : ℕ) {o : Outcome} {v : Verdict} → v ≡ Broken 19 0 0
-          → o ≡ outcomeBy v (t .counts) i (t .counts .words) → o ≡ outcomeOf file room places
-      unfolding outcomeOf
-      outcome-short i f h = rw (← verdict-short) (rw f at h)
+      pub areas-fit : wordsBefore ws areasWord (t .counts .layers) ≡ t .counts .areas
+      areas-fit = rw (f, judged-counts) (all-came areas file (ended file (judged-passed .two)))
 
-      pub table-short : (words : List ℕ) {after : List ℕ} → room ≡ length words → after ≡ tableJudged file words → after ≡ tableAfter file places words
-      unfolding tableAfter
-      table-short words m h = rw (← m, ← verdict-short) (table-stands words m h)
+      pub measures-are : measuresTo file ws b (t .counts .layers) ≡ measuresOf file
+      unfolding measuresOf
+      measures-are = rw (f, g, judged-counts)
 
-      pub measures-short : (ms : List ℤ) → places ≡ length ms → ms ≡ measuresAfter file room ms
-      unfolding measuresAfter
-      measures-short ms m = rw (← m, ← verdict-short)
+      pub pairs-are : pairsTo file ws b (t .counts .layers) ≡ allSumsOf file
+      unfolding allSumsOf
+      pairs-are = rw (f, g, judged-counts)
 
-    -- places enough
-    module _ (places : ℕ) (l : t .counts .areas ≤ places) where
-      verdict-kept : Fine ≡ verdictOf file room places
-      unfolding verdictOf measureRule
-      verdict-kept =
-          goes-on (rulesOf file room) (measureRule file places) q judged
-          (check-none eighth 0 ∙ sym (check-kept eighth 0 0 19 _ [] (rw (← judged-counts) (le-leb (t .counts .areas) places l))))
+      -- layer number n
+      module _ (n : ℕ) {l : Layer} (k : l ≡ layerIn ws b (n - 1)) where
+        layer-is : l ≡ layerOf file (n - 1)
+        layer-is = rw (k, f, g, judged-counts)
 
-      pub outcome-kept : {i : ℕ} {o : Outcome} → i ≡ recordsOf file
-          → o ≡ outcomeBy (t .verdict) (t .counts) i (t .counts .words) → o ≡ outcomeOf file room places
-      unfolding outcomeOf
-      outcome-kept f h = rw (← verdict-kept, ← judged-counts, ← f) (rw q at h)
+        pub layer-summable : 1 ≤ n → n ≤ t .counts .layers → Summable file ws l
+        layer-summable x y = rw (layer-is, f) (summable (n - 1) (omega arith))
 
-      pub table-kept : (words : List ℕ) {after : List ℕ} → room ≡ length words → after ≡ tableJudged file words → after ≡ tableAfter file places words
-      unfolding tableAfter
-      table-kept words m h = rw (← m, ← verdict-kept) (table-stands words m h)
+        pub layer-sums-are : sumsWith Fine (areasSum file ws l) (outsideSum file ws l) ≡ sumsBy Fine file n
+        layer-sums-are = rw (layer-is, f)
 
-      -- what the code hands over: the file's table ws, where its lines and areas begin, and how many layers it has
-      module _ {ws : List ℕ} {b : Bases} (f : ws ≡ tableOf file) (g : b ≡ basesOf (t .counts)) where
-        pub fillable : Fillable file ws b (t .counts .layers) places
-        fillable = rw (f, g, judged-counts) (record {
-          few = omega (arith, counts-small file (recordsOf file) .layers, records-small file);
-          sums = λ i m. summable i (rw judged-counts m);
-          places = rw (all-came areas file (ended file (judged-passed .two))) (rw judged-counts at l);
-        })
+  -- ---- the answer v of a call, which asks `last` of the counts behind all stages
 
-        pub measures-kept : (ms : List ℤ) {after : List ℤ} → places ≡ length ms
-            → after ≡ filledTo file ws b (t .counts .layers) ms → after ≡ measuresAfter file room ms
-        unfolding measuresAfter measuresOf filledTo
-        measures-kept ms m h = rw (← m, ← verdict-kept) (rw (f, g, judged-counts) at h)
+  module _ (last : Counts → Check) {v : Verdict} (a : v ≡ askedBy (t .verdict) (last (t .counts))) where
+    asked-is : v ≡ callVerdict file room last
+    unfolding callVerdict
+    asked-is = by (t .verdict) refl
+      where
+        by : (u : Verdict) → t .verdict ≡ u → v ≡ firstBroken (callRules file room last)
+        by Fine q = goes-on (rulesOf file room) _ q judged (rw (← judged-counts q) (rw q at a))
+        by (Broken n r c) q = (rw q at a) ∙ sym q ∙ stands (rulesOf file room) _ q judged
 
-    -- ---- the layer sums: refused above; no such layer; layer number n
+    pub outcome-told : {o : Outcome} → o ≡ outcomeBy v (t .counts) (recordsOf file) (t .counts .words) → o ≡ outcomeBehind file room last
+    unfolding outcomeBehind
+    outcome-told h = rw (← asked-is, ← need-is) (h ∙ by v refl)
+      where
+        by : (u : Verdict) → v ≡ u
+            → outcomeBy u (t .counts) (recordsOf file) (t .counts .words) ≡ outcomeBy u (countsAt file (recordsOf file)) (recordsOf file) (t .counts .words)
+        by Fine q = rw (judged-counts (asked-fine (t .verdict) _ (sym a ∙ q) .0))
+        by (Broken n r c) q = refl
 
-    module _ (n : ℕ) where
-      module _ (h : not (leb 1 n && leb n (t .counts .layers)) ≡ true) where
-        verdict-none : Broken 22 0 0 ≡ sumsVerdict file room n
-        unfolding sumsVerdict layerRule
-        verdict-none =
-            goes-on (rulesOf file room) (layerRule file n) q judged (sym (check-broken eighth 0 0 22 _ [] (rw (← judged-counts) (not-true _ h))))
+    -- a number above 9
+    pub table-told : leb (last (t .counts) .number) 9 ≡ false
+        → (words : List ℕ) {after : List ℕ} → room ≡ length words → after ≡ tableJudged file words → after ≡ tableBehind file last words
+    unfolding tableJudged tableBehind
+    table-told m words l h = rw (← l, ← asked-is, a, asked-table file words (t .verdict) _ m) (rw (← l, ← judged) at h)
 
-        pub sums-none : {v : Verdict} {r : Sums} → v ≡ Broken 22 0 0 → r ≡ sumsWith v (pos 0) (pos 0) → r ≡ sumsOf file room n
-        unfolding sumsOf
-        sums-none f g = rw (← verdict-none) (rw f at g)
+    -- refused, and accepted
+    module _ {n r p : ℕ} (q : v ≡ Broken n r p) where
+      pub lent-refused : (zs ds : List ℤ) → ds ≡ lentBy (callVerdict file room last) zs ds
+      lent-refused zs ds = rw (← asked-is, q)
 
-        pub table-none : (words : List ℕ) {after : List ℕ} → room ≡ length words → after ≡ tableJudged file words → after ≡ tableAfterSums file n words
-        unfolding tableAfterSums
-        table-none words m f = rw (← m, ← verdict-none) (table-stands words m f)
+      pub sums-refused : (i : ℕ) {s : Sums} → s ≡ sumsWith v (pos 0) (pos 0) → s ≡ sumsBy (callVerdict file room last) file i
+      sums-refused i h = rw (← asked-is, q) (rw q at h)
 
-      module _ (h : not (leb 1 n && leb n (t .counts .layers)) ≡ false) where
-        pub layer-there : (1 ≤ n) × (n ≤ t .counts .layers)
-        layer-there =
-            let s = and-both (leb 1 n) (leb n (t .counts .layers)) (not-false _ h) in
-            (leb-true 1 n (s .0), leb-true n (t .counts .layers) (s .1))
+    module _ (q : v ≡ Fine) where
+      pub stages-fine : t .verdict ≡ Fine
+      stages-fine = asked-fine (t .verdict) _ (sym a ∙ q) .0
 
-        verdict-there : Fine ≡ sumsVerdict file room n
-        unfolding sumsVerdict layerRule
-        verdict-there =
-            goes-on (rulesOf file room) (layerRule file n) q judged
-            (check-none eighth 0 ∙ sym (check-kept eighth 0 0 22 _ [] (rw (← judged-counts) (not-false _ h))))
+      pub last-kept : last (t .counts) .holds ≡ true
+      last-kept = asked-fine (t .verdict) _ (sym a ∙ q) .1
 
-        pub table-there : (words : List ℕ) {after : List ℕ} → room ≡ length words → after ≡ tableJudged file words → after ≡ tableAfterSums file n words
-        unfolding tableAfterSums
-        table-there words m f = rw (← m, ← verdict-there) (table-stands words m f)
+      pub lent-kept : (zs ds : List ℤ) {after : List ℤ} → after ≡ filled zs ds → after ≡ lentBy (callVerdict file room last) zs ds
+      lent-kept zs ds h = rw (← asked-is, q) h
 
-        -- what the code hands over: the file's table ws and the layer l
-        module _ {ws : List ℕ} {b : Bases} {l : Layer} (f : ws ≡ tableOf file) (g : b ≡ basesOf (t .counts)) (k : l ≡ layerIn ws b (n - 1)) where
-          layer-is : l ≡ layerOf file (n - 1)
-          layer-is = rw (k, f, g, judged-counts)
-
-          pub layer-summable : Summable file ws l
-          layer-summable = rw (layer-is, f) (summable (n - 1) (omega (arith, layer-there)))
-
-          pub sums-there : {r : Sums} → r ≡ sumsWith Fine (areasSum file ws l) (outsideSum file ws l) → r ≡ sumsOf file room n
-          unfolding sumsOf
-          sums-there m = rw (← verdict-there) (rw (layer-is, f) at m)
+      pub sums-kept : (i : ℕ) {s : Sums} → s ≡ sumsBy Fine file i → s ≡ sumsBy (callVerdict file room last) file i
+      sums-kept i h = rw (← asked-is, q) h

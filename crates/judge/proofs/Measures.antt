@@ -1,17 +1,13 @@
 -- THE MEASURES OF AN ACCEPTED FILE: as many as it has areas, and the measure behind n others is that of the A behind n others. They are made
 -- layer by layer, a layer has as many as its row says, and the A records of a layer stand in its order. Assumes nothing.
 use mathlib.Core.List.{List}
-use mathlib.Core.Logic.{⊎-elim}
-use mathlib.Core.Path.{_≡_, refl, sym, _∙_, ap, subst}
-use Prim.Native.Nat.{ℕ, zero, suc, _+_, _-_, _≤_, _<_}
-use native.Mathlib.Nat.{le-of-suc-le-suc, eq-or-lt-of-le}
+use mathlib.Core.Path.{_≡_, refl, sym, _∙_, ap}
+use Prim.Native.Nat.{ℕ, suc, _+_, _-_, _≤_, _<_}
 use native.Mathlib.Numerals.{add-one}
 use native.Mathlib.Omega.{arith}
 use lib.IntN.{ℤ, pos}
-use lib.ListN.{length, getD, List·getD-append}
-use lib.Seq.{getD-append-add}
+use lib.ListN.{length, getD}
 use Rattle.verdict.specs.declared.Verdict.the-variants.{Fine}
-use Rattle.verdict.proofs.Parts.{both-fine}
 use Rattle.rules.specs.declared.Due.the-variants.{Area}
 use Rattle.walk.specs.Row.{areasWord}
 use Rattle.walk.specs.States.{dueOf, stateAt, countsAt}
@@ -19,7 +15,7 @@ use Rattle.walk.specs.Stages.{recordsOf}
 use Rattle.walk.specs.Table.{tableOf}
 use Rattle.walk.proofs.Judging.{ended}
 use Rattle.measures.specs.Points.{firstOf}
-use Rattle.measures.proofs.FirstLaws.{first-at}
+use Rattle.measures.proofs.FirstLaws.{first-many, first-at}
 use Rattle.layers.specs.declared.Bases.{Bases}
 use Rattle.layers.specs.Naming.{wordsBefore, layerIn}
 use Rattle.layers.specs.Passing.{layerAt, basesIn, layerOf}
@@ -27,49 +23,32 @@ use Rattle.layers.proofs.Sections.{areas, named}
 use Rattle.layers.proofs.Laid.{all-came, nth, place-of, word-of}
 use Rattle.entries.specs.Loops.{areaMeasureIn}
 use Rattle.ground.specs.Layers.{areaOfLayer, measuresTo}
-use Rattle.judge.specs.Rulebook.{rulesOf, measureRule, verdictOf}
+use Rattle.judge.specs.Rulebook.{measureRule, verdictOf}
 use Rattle.judge.specs.Outcomes.{measuresOf}
-use Rattle.judge.proofs.Adding.{areas-more, measures-many}
-use Rattle.judge.proofs.Calling.{passed}
+use Rattle.judge.proofs.Adding.{measures-many}
+use Rattle.judge.proofs.Calling.{passed, rules-fine}
+use Rattle.judge.proofs.Growing.{part-at}
 use Rattle.judge.proofs.Loading.{counts-few}
 
 -- ---- layer by layer
 
-module _ (t : List ℕ) (b : Bases) (file : List ℕ) where
-  abbrev ofLayer : ℕ → List ℤ
-  ofLayer i = firstOf (λ a. areaOfLayer file t (layerIn t b i) (suc a)) (layerIn t b i .areas)
-
-  -- area m of the last layer, and of one before it
-  last-measure : (i m : ℕ) → i ≤ 6399936 → m < layerIn t b i .areas
-      → getD (measuresTo file t b (suc i)) (wordsBefore t areasWord i + m) (pos 0) ≡ areaOfLayer file t (layerIn t b i) (suc m)
-  unfolding measuresTo
-  last-measure i m f a =
-      rw (← measures-many t b file i f)
-      (getD-append-add (measuresTo file t b i) (ofLayer i) m (pos 0)
-      ∙ first-at (λ a. areaOfLayer file t (layerIn t b i) (suc a)) (pos 0) (layerIn t b i .areas) m a)
-
-  layer-measure : (n i m : ℕ) → n ≤ 6399936 → i < n → m < layerIn t b i .areas
-      → getD (measuresTo file t b n) (wordsBefore t areasWord i + m) (pos 0) ≡ areaOfLayer file t (layerIn t b i) (suc m)
-  unfolding measuresTo
-  layer-measure zero i m f l a = absurd (omega arith)
-  layer-measure (suc n) i m f l a =
-      ⊎-elim
-      (λ e.
-      subst (λ (j : ℕ). getD (measuresTo file t b (suc j)) (wordsBefore t areasWord i + m) (pos 0) ≡ areaOfLayer file t (layerIn t b i) (suc m)) e
-      (last-measure i m (omega arith) a))
-      (λ u.
-      List·getD-append (measuresTo file t b n) (ofLayer n) (pos 0) (wordsBefore t areasWord i + m)
-      (rw (measures-many t b file n (omega arith)) (omega (arith, areas-more t b i n u (omega arith))))
-      ∙ layer-measure n i m (omega arith) u a)
-      (eq-or-lt-of-le (le-of-suc-le-suc l))
+-- area m of layer i
+layer-measure : (file t : List ℕ) (b : Bases) (n i m : ℕ) → n ≤ 6399936 → i < n → m < layerIn t b i .areas
+    → getD (measuresTo file t b n) (wordsBefore t areasWord i + m) (pos 0) ≡ areaOfLayer file t (layerIn t b i) (suc m)
+unfolding measuresTo
+layer-measure file t b n i m f l h =
+    let ofLayer : ℕ → List ℤ = λ i. firstOf (λ a. areaOfLayer file t (layerIn t b i) (suc a)) (layerIn t b i .areas) in
+    rw (← measures-many t b file i (omega arith))
+    (part-at (measuresTo file t b) ofLayer (λ n. refl) (pos 0) n i m l (rw first-many h)
+    ∙ first-at (λ a. areaOfLayer file t (layerIn t b i) (suc a)) (pos 0) (layerIn t b i .areas) m h)
 
 -- ---- the file
 
 -- an accepted file has as many measures as areas
 pub measures-areas : (file : List ℕ) (room places : ℕ) → verdictOf file room places ≡ Fine → length (measuresOf file) ≡ countsAt file (recordsOf file) .areas
-unfolding verdictOf measuresOf
+unfolding measuresOf
 measures-areas file room places h =
-    let p = passed file room (both-fine (rulesOf file room) (measureRule file places) h .0) in
+    let p = passed file room (rules-fine file room (measureRule places) h) in
     measures-many (tableOf file) (basesIn file) file (countsAt file (recordsOf file) .layers) (counts-few file refl .0)
     ∙ all-came areas file (ended file (p .two))
 
@@ -82,7 +61,7 @@ measure-place file k l {last = m} e =
     let i = countsAt file k .layers - 1 in
     let x = place-of areas file k l _ _ e in
     rw (x .place)
-    (layer-measure t (basesIn file) file (countsAt file (recordsOf file) .layers) i m (counts-few file refl .0) (x .layer) (x .inside)
+    (layer-measure file t (basesIn file) (countsAt file (recordsOf file) .layers) i m (counts-few file refl .0) (x .layer) (x .inside)
     ∙ ap (areaMeasureIn file t (layerOf file i)) (named areas t (layerOf file i) m (x .inside) ∙ word-of areas file k l _ _ e ∙ sym (add-one k)))
 
 -- the measure in place n is that of the A before which n others stand: the record behind the first k

@@ -2,18 +2,16 @@
 use mathlib.Core.List.{List}
 use Prim.Native.Nat.{ℕ, _≤_, _<_}
 use lib.IntN.{ℤ, pos}
-use Rattle.walk.specs.Row.{areasWord}
-use Rattle.walk.specs.Table.{filled}
 use Rattle.measures.specs.Measures.{areaMeasure, outside}
 use Rattle.measures.specs.Sum.{sumTo}
 use Rattle.measures.specs.Walks.{Small}
 use Rattle.layers.specs.declared.Bases.{Bases}
 use Rattle.layers.specs.declared.Layer.{Layer}
-use Rattle.layers.specs.Naming.{wordsBefore, layerIn, areaOf}
+use Rattle.layers.specs.Naming.{layerIn, areaOf}
 use Rattle.entries.specs.Entries.{loopsAt, loopsTo}
 use Rattle.entries.specs.Loops.{measureOf}
 use Rattle.entries.specs.Keeping.{keptMeasure, SoundLayer}
-use Rattle.ground.specs.Layers.{areaOfLayer, leftAreaOf, rightAreaOf, measuresTo}
+use Rattle.ground.specs.Layers.{areaOfLayer, leftAreaOf, rightAreaOf}
 
 -- a sum that the machine can hold
 abbrev pub Fits : ℤ → Type 0
@@ -38,12 +36,7 @@ pub record Summable (file t : List ℕ) (l : Layer) : Type 0 where
   pub areas : (j : ℕ) → j ≤ l .areas → Fits (sumTo j (areaOfLayer file t l))
   pub outside : (j : ℕ) → j ≤ l .lines → Fits (sumTo j (outsideAt file t l))
 
--- the first n layers, whose areas have room in `room` places
-pub record Fillable (file t : List ℕ) (b : Bases) (n room : ℕ) : Type 0 where
+-- and so it is in the first n layers
+pub record SummableTo (file t : List ℕ) (b : Bases) (n : ℕ) : Type 0 where
   pub few : n ≤ 6399936
-  pub sums : (i : ℕ) → i < n → Summable file t (layerIn t b i)
-  pub places : wordsBefore t areasWord n ≤ room
-
--- the measures of the first n layers in front, and what stood in ms behind them
-unfoldable pub filledTo : List ℕ → List ℕ → Bases → ℕ → List ℤ → List ℤ
-filledTo file t b n ms = filled (measuresTo file t b n) ms
+  pub each : (i : ℕ) → i < n → Summable file t (layerIn t b i)

@@ -1,6 +1,6 @@
-// The judge (RULES 6, 8, 9.1, 9.2): one answer to every file, the first broken rule in the order of
-// RULES 6.1; the table and the measures in the lent buffers; and a layer's two sums. Every public
-// function takes every file and every buffer.
+// The judge (RULES 6, 8, 9.1, 9.2, 9.11): one answer to every file, the first broken rule in the order
+// of RULES 6.1; the table, the measures and the sums in the lent buffers; and a layer's two sums. Every
+// public function takes every file and every buffer.
 //
 // The contracts cite `specs/`: `Rulebook` has the rules in that order, `Outcomes` what is answered and
 // what each lent buffer holds afterwards.
@@ -10,22 +10,25 @@ use verdict::Verdict;
 use walk::Counts;
 use walk::Tabled;
 ghost use mathlib.Core.Path.{_≡_};
-ghost use Prim.Native.Nat.{suc, _+_, _≤_};
+ghost use Prim.Native.Nat.{suc, _+_, _*_, _≤_};
 ghost use lib.IntN.{pos};
 ghost use lib.ListN.{length};
 ghost use lib.Seq.{sets};
 ghost use Rattle.verdict.specs.declared.Verdict.the-variants.{Fine};
-ghost use Rattle.verdict.specs.Rules.{firstBroken};
+ghost use Rattle.verdict.specs.Rules.{check, firstBroken};
+ghost use Rattle.walk.specs.Row.{areasWord};
 ghost use Rattle.walk.specs.States.{countsAt, Countable};
 ghost use Rattle.walk.specs.Stages.{recordsOf, stageTwo};
-ghost use Rattle.walk.specs.Table.{tableOf};
+ghost use Rattle.walk.specs.Table.{tableOf, filled};
+ghost use Rattle.layers.specs.Naming.{wordsBefore};
 ghost use Rattle.layers.specs.Passing.{basesOf};
 ghost use Rattle.measures.specs.Points.{firstOf};
 ghost use Rattle.entries.specs.Keeping.{keptMeasure, Kept};
-ghost use Rattle.ground.specs.Layers.{areaOfLayer, areasSum, outsideSum};
+ghost use Rattle.ground.specs.Layers.{areaOfLayer, areasSum, outsideSum, measuresTo};
 ghost use Rattle.judge.specs.Rulebook.{late};
-ghost use Rattle.judge.specs.Outcomes.{outcomeBy, outcomeOf, tableAfter, measuresAfter, judgedOf, tableJudged, sumsWith, sumsOf, tableAfterSums};
-ghost use Rattle.judge.specs.Measuring.{Measurable, keptArea, outsideAt, Summable, Fillable, filledTo};
+ghost use Rattle.judge.specs.Outcomes.{judgedOf, tableJudged, askedBy, outcomeBy, outcomeOf, tableAfter, measuresAfter};
+ghost use Rattle.judge.specs.Outcomes.{sumsWith, sumsOf, tableAfterSums, outcomeOfAll, tableAfterAll, pairsTo, sumsAfter};
+ghost use Rattle.judge.specs.Measuring.{Measurable, keptArea, outsideAt, Summable, SummableTo};
 
 // What is answered: a refusal's number and place, or 0 at 0, 0; the file's meshes, layers, nodes, lines,
 // areas and records, 0 where it is refused; and the words that it needs where the table is too short (9),
@@ -121,6 +124,28 @@ fn judge_file(file: &[u8], table: &mut [u32]) -> Tabled
     Tabled { verdict: w, counts }
 }
 
+// What a call asks behind all stages: their refusal `v` stands; else what is not `kept` is refused with
+// `number`, at no place.
+fn asked(v: Verdict, number: u32, kept: bool) -> Verdict
+    ensures { λ r. ⌜ r ≡ askedBy v (check 0 number kept) ⌝ }
+{
+    if let Verdict::Broken {
+        number: _,
+        record: _,
+        column: _,
+    } = v {
+        return v;
+    }
+    if kept {
+        return v;
+    }
+    Verdict::Broken {
+        number,
+        record: 0,
+        column: 0,
+    }
+}
+
 // ---- measures
 
 // The measure of the area whose A is record `a`, the sum of its loops', by the line measures `kept` of its
@@ -156,8 +181,8 @@ fn fill_layer(file: &[u8], table: &[u32], l: Layer, kept: &[i64], at: usize, mea
 
 // The measures of all areas of the first `n` layers, in file order.
 fn fill_measures(file: &[u8], table: &[u32], b: Bases, n: usize, measures: &mut [i64])
-    requires { ⌜ Fillable (now file) (now table) b n (length (now measures)) ⌝ }
-    ensures { λ r. ⌜ now (measures .exit) ≡ filledTo (now (file .entry)) (now (table .entry)) b n (now (measures .entry)) ⌝ }
+    requires { ⌜ SummableTo (now file) (now table) b n × (wordsBefore (now table) areasWord n ≤ length (now measures)) ⌝ }
+    ensures { λ r. ⌜ now (measures .exit) ≡ filled (measuresTo (now (file .entry)) (now (table .entry)) b n) (now (measures .entry)) ⌝ }
 {
     let mut kept = [0i64; 9999];
     let mut at: usize = 0;
@@ -221,12 +246,46 @@ fn outside_sum(file: &[u8], table: &[u32], l: Layer, kept: &[i64]) -> i64
     sum
 }
 
+// The sums of a layer of an accepted file; `table` is its table. `measures` has a place for each line;
+// what they hold before does not matter.
+fn sums_in(file: &[u8], table: &[u32], l: Layer, measures: &mut [i64]) -> Sums
+    requires { ⌜ Summable (now file) (now table) l × (9999 ≤ length (now measures)) ⌝ }
+    ensures { λ r. ⌜ r ≡ sumsWith Fine (areasSum (now (file .entry)) (now (table .entry)) l) (outsideSum (now (file .entry)) (now (table .entry)) l) ⌝ }
+{
+    let have = entries::keep_measures(file, table, l, measures);
+    let kept = &measures[..have];
+    Sums {
+        number: 0,
+        place: 0,
+        column: 0,
+        areas: areas_sum(file, table, l, kept),
+        outside: outside_sum(file, table, l, kept),
+    }
+}
+
+// The two sums of each of the first `n` layers, in file order.
+fn fill_sums(file: &[u8], table: &[u32], b: Bases, n: usize, sums: &mut [i64])
+    requires { ⌜ SummableTo (now file) (now table) b n × (2 * n ≤ length (now sums)) ⌝ }
+    ensures { λ r. ⌜ now (sums .exit) ≡ filled (pairsTo (now (file .entry)) (now (table .entry)) b n) (now (sums .entry)) ⌝ }
+{
+    let mut measures = [0i64; 9999];
+    let mut i: usize = 0;
+    while i < n {
+        let s = sums_in(file, table, layers::layer_in(table, b, i), &mut measures);
+        let areas = s.areas;
+        let outside = s.outside;
+        sums[2 * i] = areas;
+        sums[2 * i + 1] = outside;
+        i += 1;
+    }
+}
+
 // ---- the calls
 
 // A verdict by refusal numbers, with the need where it is told; the counts and records of acceptance.
-fn outcome_of(v: Verdict, c: Counts, records: usize) -> Outcome
-    requires { ⌜ Countable c × (records ≤ 6399936) ⌝ }
-    ensures { λ r. ⌜ r ≡ outcomeBy v c records (c .words) ⌝ }
+fn outcome_of(file: &[u8], v: Verdict, c: Counts) -> Outcome
+    requires { ⌜ Countable c ⌝ }
+    ensures { λ r. ⌜ r ≡ outcomeBy v c (recordsOf (now (file .entry))) (c .words) ⌝ }
 {
     let told = verdict::by_number(v);
     let mut o = Outcome {
@@ -257,7 +316,7 @@ fn outcome_of(v: Verdict, c: Counts, records: usize) -> Outcome
     o.nodes = c.nodes as u32;
     o.lines = c.lines as u32;
     o.areas = c.areas as u32;
-    o.records = records as u32;
+    o.records = walk::records_of(file) as u32;
     o
 }
 
@@ -268,22 +327,14 @@ pub fn load(file: &[u8], table: &mut [u32], measures: &mut [i64]) -> Outcome
 {
     let t = judge_file(file, table);
     let counts = t.counts;
-    let v = t.verdict;
-    let n = walk::records_of(file);
+    let stages = t.verdict;
+    let v = asked(stages, 19, counts.areas <= measures.len());
     if let Verdict::Broken {
         number: _,
         record: _,
         column: _,
     } = v {
-        return outcome_of(v, counts, n);
-    }
-    if measures.len() < counts.areas {
-        let short = Verdict::Broken {
-            number: 19,
-            record: 0,
-            column: 0,
-        };
-        return outcome_of(short, counts, n);
+        return outcome_of(file, v, counts);
     }
     fill_measures(
         file,
@@ -292,37 +343,20 @@ pub fn load(file: &[u8], table: &mut [u32], measures: &mut [i64]) -> Outcome
         counts.layers,
         measures,
     );
-    outcome_of(v, counts, n)
+    outcome_of(file, v, counts)
 }
 
 // A refusal, and no sums.
 fn no_sums(v: Verdict) -> Sums
     ensures { λ r. ⌜ r ≡ sumsWith v (pos 0) (pos 0) ⌝ }
 {
-    let told = verdict::by_number(v);
+    let refusal = verdict::by_number(v);
     Sums {
-        number: told.number,
-        place: told.place,
-        column: told.column,
+        number: refusal.number,
+        place: refusal.place,
+        column: refusal.column,
         areas: 0,
         outside: 0,
-    }
-}
-
-// The sums of a layer of an accepted file; `table` is its table.
-fn sums_in(file: &[u8], table: &[u32], l: Layer) -> Sums
-    requires { ⌜ Summable (now file) (now table) l ⌝ }
-    ensures { λ r. ⌜ r ≡ sumsWith Fine (areasSum (now (file .entry)) (now (table .entry)) l) (outsideSum (now (file .entry)) (now (table .entry)) l) ⌝ }
-{
-    let mut measures = [0i64; 9999];
-    let have = entries::keep_measures(file, table, l, &mut measures);
-    let kept = &measures[..have];
-    Sums {
-        number: 0,
-        place: 0,
-        column: 0,
-        areas: areas_sum(file, table, l, kept),
-        outside: outside_sum(file, table, l, kept),
     }
 }
 
@@ -334,7 +368,9 @@ pub fn layer_sums(file: &[u8], table: &mut [u32], layer: u32) -> Sums
 {
     let t = judge_file(file, table);
     let counts = t.counts;
-    let v = t.verdict;
+    let stages = t.verdict;
+    let i = layer as usize;
+    let v = asked(stages, 22, (1 <= i) & (i <= counts.layers));
     if let Verdict::Broken {
         number: _,
         record: _,
@@ -342,15 +378,35 @@ pub fn layer_sums(file: &[u8], table: &mut [u32], layer: u32) -> Sums
     } = v {
         return no_sums(v);
     }
-    let i = layer as usize;
-    if !((1 <= i) & (i <= counts.layers)) {
-        return no_sums(Verdict::Broken {
-            number: 22,
-            record: 0,
-            column: 0,
-        });
-    }
+    let mut measures = [0i64; 9999];
     let words = &table[..counts.words];
     let l = layers::layer_in(words, bases_of(counts), i - 1);
-    sums_in(file, words, l)
+    sums_in(file, words, l, &mut measures)
+}
+
+// Judges a file once for all of its layers, and leaves the two sums of each, in file order, in the first
+// places of `sums`. Refused, with 48 where there are fewer than two places a layer, it leaves `sums` as it
+// was. `table` is left as `load` leaves it.
+pub fn all_sums(file: &[u8], table: &mut [u32], sums: &mut [i64]) -> Outcome
+    ensures { λ r. ⌜ (r ≡ outcomeOfAll (now (file .entry)) (length (now (table .entry))) (length (now (sums .entry)))) × (now (table .exit) ≡ tableAfterAll (now (file .entry)) (length (now (sums .entry))) (now (table .entry))) × (now (sums .exit) ≡ sumsAfter (now (file .entry)) (length (now (table .entry))) (now (sums .entry))) ⌝ }
+{
+    let t = judge_file(file, table);
+    let counts = t.counts;
+    let stages = t.verdict;
+    let v = asked(stages, 48, 2 * counts.layers <= sums.len());
+    if let Verdict::Broken {
+        number: _,
+        record: _,
+        column: _,
+    } = v {
+        return outcome_of(file, v, counts);
+    }
+    fill_sums(
+        file,
+        &table[..counts.words],
+        bases_of(counts),
+        counts.layers,
+        sums,
+    );
+    outcome_of(file, v, counts)
 }

@@ -7,16 +7,17 @@ use lib.IntN.{pos}
 use lib.ListN.{length, length-replicate}
 use lib.Seq.{length-take-le}
 use borrow.Author.Needs.{needs}
+use Rattle.walk.specs.Table.{filled}
 use Rattle.layers.specs.Naming.{wordsBefore}
 use Rattle.entries.proofs.Keeping.{kept-length, kept-room, kept-lines}
-use Rattle.judge.specs.Measuring.{filledTo}
-use Rattle.judge.proofs.Adding.{none-filled, same-many, room, layer-summable, at-more, layer-put}
+use Rattle.ground.specs.Layers.{measuresTo}
+use Rattle.judge.proofs.Adding.{none-filled, next-summable, same-many, room, at-more, layer-put}
 use Rattle.judge.proofs.fill_measures.Statement.{statement}
 use Rattle.judge.proofs.fill_measures.Tie as tie
 
 abbrev Inv-loop : tie.InvT-loop
 Inv-loop file table b n measures₀ kept₀ at₀ i₀ measures kept at i =
-    (i ≤ n) × (length kept ≡ 9999) × (at ≡ wordsBefore table 3 i) × (measures ≡ filledTo file table b i measures₀)
+    (i ≤ n) × (length kept ≡ 9999) × (at ≡ wordsBefore table 3 i) × (measures ≡ filled (measuresTo file table b i) measures₀)
 
 abbrev μ-loop : tie.MeasureT-loop
 μ-loop file table b n measures₀ kept₀ at₀ i₀ measures kept at i = n - i
@@ -46,7 +47,7 @@ fill-layer-requires c κs =
     let l = c .before .before .before .before .before .before .before .loop in
     let h = c .before .before .before .before .before .before .loop-test .taken in
     let e = c .before .before .before .before .before .layer-in .ensures in
-    let u = layer-summable _ _ _ _ _ _ (s .pre) (l .inv .2) (l .inv .3) h e in (
+    let u = next-summable _ _ _ (s .pre .0) h e in (
       room _ _ _ _ _ _ (s .pre) (l .inv .2) (l .inv .3) h e,
       kept-lines _ _ _ _ (c .before .before .before .keep-measures .ensures) (omega (arith, l .inv .1)) (u .sound),
       u,
@@ -66,7 +67,7 @@ add-at c =
 add-i : tie.Need-add-i Inv-loop μ-loop
 add-i c =
     let l = c .before .before .before .before .before .before .before .before .before .loop-test .taken in
-    let p = c .before .before .before .before .before .before .before .before .before .before .before .before .before .pre .few in
+    let p = c .before .before .before .before .before .before .before .before .before .before .before .before .before .pre .0 .few in
     omega (arith, l, p)
 
 loop-less : tie.Need-loop-less Inv-loop μ-loop
@@ -92,7 +93,7 @@ returns : tie.Need-returns Inv-loop μ-loop
 returns c =
     let a = c .before .before .before .before .args in
     let e : c .before .loop .i ≡ a .n = omega (arith, c .loop-test .left) in
-    c .before .loop .inv .3 ∙ ap (λ n. filledTo (now (a .file)) (now (a .table)) (a .b) n (now (a .measures))) e
+    c .before .loop .inv .3 ∙ ap (λ n. filled (measuresTo (now (a .file)) (now (a .table)) (a .b) n) (now (a .measures))) e
 
 pub fill-measures-spec : {M : Type 1} → statement M
 fill-measures-spec =

@@ -1,104 +1,95 @@
--- `judge::load` meets its contract: a refusal of the stages stands, then too few places are refused, and else the measures are filled in.
+-- `judge::load` meets its contract: a refusal stands, of the stages or for too few places, and else the measures are filled in.
 -- Assumes nothing.
-use mathlib.Core.Path.{refl, sym}
+use mathlib.Core.Path.{_≡_, refl, sym}
 use lib.Seq.{length-take-le}
-use Rattle.judge.proofs.Loading.{counts-few}
-use Rattle.judge.proofs.Calling.{judged-countable, outcome-refused, table-refused, measures-refused, judged-counts, judged-fit, judged-words}
-use Rattle.judge.proofs.Calling.{outcome-short, table-short, measures-short, fillable, outcome-kept, table-kept, measures-kept}
 use borrow.Author.Needs.{needs}
+use borrow.Author.Tests.{leb-true}
+use Rattle.verdict.specs.declared.Verdict.the-variants.{Fine}
+use Rattle.judge.specs.Rulebook.{measureRule}
+use Rattle.judge.specs.Outcomes.{measuresAfter}
+use Rattle.judge.proofs.Loading.{counts-few}
+use Rattle.judge.proofs.Calling.{judged-countable, judged-counts, judged-fit, judged-words, summable-to, areas-fit, measures-are}
+use Rattle.judge.proofs.Calling.{outcome-told, table-told, lent-refused, stages-fine, last-kept, lent-kept}
 use Rattle.judge.proofs.load.Statement.{statement}
 use Rattle.judge.proofs.load.Tie as tie
+
+-- what the stages said, before more was asked
+abbrev stages : tie.After-asked → tie.After-judge-file
+stages c = c .before .before .before .before .before
+
+-- accepted: they are kept
+kept : (c : tie.After-enum-told2) → stages (c .before .before) .judge-file .result .verdict ≡ Fine
+kept c = stages-fine _ _ (stages (c .before .before) .judge-file .ensures .0) (measureRule _) (c .before .before .asked .ensures) (c .enum-told2 .given .1)
 
 judge-file-requires : tie.Need-judge-file-requires
 judge-file-requires c κs = search needs
 
-records-of-requires : tie.Need-records-of-requires
-records-of-requires c κs = search needs
+asked-requires : tie.Need-asked-requires
+asked-requires c κs = search needs
 
 enum-told : tie.Need-enum-told
 enum-told c = search needs
 
 outcome-of-requires : tie.Need-outcome-of-requires
-outcome-of-requires c κs =
-    let j = c .before .before .before .before .before .before in
-    (judged-countable _ _ (j .judge-file .ensures .0), c .before .before .records-of .ensures .1)
+outcome-of-requires c κs = judged-countable _ _ (stages (c .before .before) .judge-file .ensures .0)
 
 same-length : tie.Need-same-length
 same-length c = search needs
 
 returns : tie.Need-returns
+unfolding measuresAfter
 returns c =
-    let j = c .before .before .before .before .before .before .before in (
-      outcome-refused _ _ (j .judge-file .ensures .0) (c .before .enum-told .given .1) _ _ (c .outcome-of .ensures),
-      table-refused _ _ (j .judge-file .ensures .0) (c .before .enum-told .given .1) _ _ refl (j .judge-file .ensures .1),
-      measures-refused _ _ (j .judge-file .ensures .0) (c .before .enum-told .given .1) _ _ refl,
+    let a = c .before .before .before in
+    let j = stages a .judge-file .ensures in (
+      outcome-told _ _ (j .0) (measureRule _) (a .asked .ensures) (c .outcome-of .ensures),
+      table-told _ _ (j .0) (measureRule _) (a .asked .ensures) refl _ refl (j .1),
+      lent-refused _ _ (j .0) (measureRule _) (a .asked .ensures) (c .before .enum-told .given .1) _ _,
     )
 
 enum-told-2 : tie.Need-enum-told-2
 enum-told-2 c = search needs
 
+slice-reshare-prefix-fill-measures : tie.Need-slice-reshare-prefix-fill-measures
+slice-reshare-prefix-fill-measures c =
+    let j = stages (c .before .before) .judge-file .ensures in
+    judged-fit _ _ (j .0) (kept c) _ refl (j .1)
+
+slice-aggregate-fill-measures : tie.Need-slice-aggregate-fill-measures
+slice-aggregate-fill-measures c =
+    let j = stages (c .before .before .before) .judge-file .ensures in
+    sym (length-take-le _ _ (judged-fit _ _ (j .0) (kept (c .before)) _ refl (j .1)))
+
+bases-of-requires : tie.Need-bases-of-requires
+bases-of-requires c κs = counts-few _ (judged-counts _ _ (stages (c .before .before .before) .judge-file .ensures .0) (kept (c .before)))
+
+fill-measures-requires : tie.Need-fill-measures-requires
+fill-measures-requires c κs =
+    let k = c .before .before .before in
+    let j = stages (k .before .before) .judge-file .ensures in
+    let w = judged-words _ _ (j .0) (kept k) _ refl (j .1) in
+    let l = leb-true _ _ (last-kept _ _ (j .0) (measureRule _) (k .before .before .asked .ensures) (k .enum-told2 .given .1)) in
+    (summable-to _ _ (j .0) (kept k) w (c .before .bases-of .ensures), rw (areas-fit _ _ (j .0) (kept k) w (c .before .bases-of .ensures)) l)
+
 outcome-of-requires-2 : tie.Need-outcome-of-requires-2
-outcome-of-requires-2 c κs =
-    let j = c .before .before .before .before .before .before .before .before in
-    (judged-countable _ _ (j .judge-file .ensures .0), c .before .before .before .before .records-of .ensures .1)
+outcome-of-requires-2 c κs = judged-countable _ _ (stages (c .before .before .before .before .before .before .before) .judge-file .ensures .0)
 
 same-length-2 : tie.Need-same-length-2
 same-length-2 c = search needs
 
-returns-2 : tie.Need-returns-2
-returns-2 c =
-    let e = c .before .before .before in
-    let j = e .before .before .before .before .before .before in (
-      outcome-short _ _ (j .judge-file .ensures .0) (e .enum-told2 .given .1) _ (c .before .if1 .taken) 0 refl (c .outcome-of2 .ensures),
-      table-short _ _ (j .judge-file .ensures .0) (e .enum-told2 .given .1) _ (c .before .if1 .taken) _ refl (j .judge-file .ensures .1),
-      measures-short _ _ (j .judge-file .ensures .0) (e .enum-told2 .given .1) _ (c .before .if1 .taken) _ refl,
-    )
-
-slice-reshare-prefix-fill-measures : tie.Need-slice-reshare-prefix-fill-measures
-slice-reshare-prefix-fill-measures c =
-    let j = c .before .before .before .before .before .before .before .before in
-    judged-fit _ _ (j .judge-file .ensures .0) (c .before .before .enum-told2 .given .1) _ refl (j .judge-file .ensures .1)
-
-slice-aggregate-fill-measures : tie.Need-slice-aggregate-fill-measures
-slice-aggregate-fill-measures c =
-    let j = c .before .before .before .before .before .before .before .before .before in
-    sym (length-take-le _ _ (judged-fit _ _ (j .judge-file .ensures .0) (c .before .before .before .enum-told2 .given .1) _ refl (j .judge-file .ensures .1)))
-
-bases-of-requires : tie.Need-bases-of-requires
-bases-of-requires c κs =
-    let j = c .before .before .before .before .before .before .before .before .before in
-    counts-few _ (judged-counts _ _ (j .judge-file .ensures .0) (c .before .before .before .enum-told2 .given .1))
-
-fill-measures-requires : tie.Need-fill-measures-requires
-fill-measures-requires c κs =
-    let e = c .before .before .before .before .before in
-    let j = e .before .before .before .before .before .before in
-    fillable _ _ (j .judge-file .ensures .0) (e .enum-told2 .given .1) _ (c .before .before .before .if1 .left)
-    (judged-words _ _ (j .judge-file .ensures .0) (e .enum-told2 .given .1) _ refl (j .judge-file .ensures .1)) (c .before .bases-of .ensures)
-
-outcome-of-requires-3 : tie.Need-outcome-of-requires-3
-outcome-of-requires-3 c κs =
-    let r = c .before .before .before .before .before .before .before .before .before in
-    let j = r .before .before .before .before in
-    (judged-countable _ _ (j .judge-file .ensures .0), r .records-of .ensures .1)
-
 same-length-3 : tie.Need-same-length-3
 same-length-3 c = search needs
 
-same-length-4 : tie.Need-same-length-4
-same-length-4 c = search needs
-
-returns-3 : tie.Need-returns-3
-returns-3 c =
-    let i = c .before .before .before .before .before .before in
-    let e = i .before .before in
-    let j = e .before .before .before .before .before .before in (
-      outcome-kept _ _ (j .judge-file .ensures .0) (e .enum-told2 .given .1) _
-          (i .if1 .left) (e .before .before .records-of .ensures .0) (c .outcome-of3 .ensures),
-      table-kept _ _ (j .judge-file .ensures .0) (e .enum-told2 .given .1) _ (i .if1 .left) _ refl (j .judge-file .ensures .1),
-      measures-kept _ _ (j .judge-file .ensures .0) (e .enum-told2 .given .1) _ (i .if1 .left)
-          (judged-words _ _ (j .judge-file .ensures .0) (e .enum-told2 .given .1) _ refl (j .judge-file .ensures .1))
-          (c .before .before .before .before .bases-of .ensures) _ refl (c .before .before .fill-measures .ensures),
+returns-2 : tie.Need-returns-2
+unfolding measuresAfter
+returns-2 c =
+    let k = c .before .before .before .before .before .before in
+    let a = k .before .before in
+    let j = stages a .judge-file .ensures in
+    let w = judged-words _ _ (j .0) (kept k) _ refl (j .1) in
+    let f = measures-are _ _ (j .0) (kept k) w (c .before .before .before .before .bases-of .ensures) in (
+      outcome-told _ _ (j .0) (measureRule _) (a .asked .ensures) (c .outcome-of2 .ensures),
+      table-told _ _ (j .0) (measureRule _) (a .asked .ensures) refl _ refl (j .1),
+      lent-kept _ _ (j .0) (measureRule _) (a .asked .ensures) (k .enum-told2 .given .1) _ _ (rw f at (c .before .before .fill-measures .ensures)),
     )
 
 pub load-spec : {M : Type 1} → statement M
@@ -106,20 +97,17 @@ load-spec =
     tie.close
     (tie.spec
     judge-file-requires
-    records-of-requires
+    asked-requires
     enum-told
     outcome-of-requires
     same-length
     returns
     enum-told-2
-    outcome-of-requires-2
-    same-length-2
-    returns-2
     slice-reshare-prefix-fill-measures
     slice-aggregate-fill-measures
     bases-of-requires
     fill-measures-requires
-    outcome-of-requires-3
+    outcome-of-requires-2
+    same-length-2
     same-length-3
-    same-length-4
-    returns-3)
+    returns-2)

@@ -50,8 +50,8 @@ by-number-requires c κs = search needs
 
 returns : tie.Need-returns
 returns c =
-    let a = c .before .before .before .args in
-    short (a .v) (a .c) (a .records) (c .before .before .by-number .ensures) (c .if1 .taken)
+    let a = c .before .before .before .before .args in
+    short (a .v) (a .c) _ (c .before .before .by-number .ensures) (c .if1 .taken)
 
 enum-told : tie.Need-enum-told
 enum-told c = search needs
@@ -77,14 +77,17 @@ cast-o-4 c = search needs
 cast-o-5 : tie.Need-cast-o-5
 cast-o-5 c = search needs
 
+records-of-requires : tie.Need-records-of-requires
+records-of-requires c κs = search needs
+
 cast-o-6 : tie.Need-cast-o-6
 cast-o-6 c = search needs
 
 returns-3 : tie.Need-returns-3
 returns-3 c =
-    let e = c .before .before .before .before .before in
+    let e = c .before .before .before .before .before .before in
     let b = e .before .before .before .before in
-    rw (b .by-number .ensures, e .enum-told2 .given .1)
+    rw (b .by-number .ensures, e .enum-told2 .given .1, ← c .records-of .ensures .0)
 
 pub outcome-of-spec : {M : Type 1} → statement M
 outcome-of-spec =
@@ -100,5 +103,6 @@ outcome-of-spec =
     cast-o-3
     cast-o-4
     cast-o-5
+    records-of-requires
     cast-o-6
     returns-3)

@@ -1,6 +1,5 @@
 -- `judge::sums_in` meets its contract: the lines' measures are kept once, for both sums. Assumes nothing.
 use mathlib.Core.Path.{sym, _∙_, ap₂}
-use lib.Dec.{lit≤}
 use lib.Seq.{length-take-le}
 use mir.Facts.{toZ-ofZ}
 use mir.Syntax.{w64}
@@ -11,14 +10,11 @@ use Rattle.judge.specs.Outcomes.{sumsWith}
 use Rattle.judge.proofs.sums_in.Statement.{statement}
 use Rattle.judge.proofs.sums_in.Tie as tie
 
-slice-aggregate-keep-measures : tie.Need-slice-aggregate-keep-measures
-slice-aggregate-keep-measures c = search needs
-
 keep-measures-requires : tie.Need-keep-measures-requires
 keep-measures-requires c κs = search needs
 
-array-share-prefix-measures : tie.Need-array-share-prefix-measures
-array-share-prefix-measures c = search needs
+slice-reshare-prefix-kept : tie.Need-slice-reshare-prefix-kept
+slice-reshare-prefix-kept c = search needs
 
 slice-aggregate-kept : tie.Need-slice-aggregate-kept
 slice-aggregate-kept c = sym (length-take-le _ _ (kept-room _ _ _ _ (c .before .before .keep-measures .ensures)))
@@ -26,12 +22,15 @@ slice-aggregate-kept c = sym (length-take-le _ _ (kept-room _ _ _ _ (c .before .
 areas-sum-requires : tie.Need-areas-sum-requires
 areas-sum-requires c κs =
     let u = c .before .before .before .before .before .before .pre in
-    (kept-lines _ _ _ _ (c .before .before .keep-measures .ensures) (lit≤ tt) (u .sound), u)
+    (kept-lines _ _ _ _ (c .before .before .keep-measures .ensures) (u .1) (u .0 .sound), u .0)
 
 outside-sum-requires : tie.Need-outside-sum-requires
 outside-sum-requires c κs =
     let u = c .before .before .before .before .before .before .before .pre in
-    (kept-lines _ _ _ _ (c .before .before .before .keep-measures .ensures) (lit≤ tt) (u .sound), u)
+    (kept-lines _ _ _ _ (c .before .before .before .keep-measures .ensures) (u .1) (u .0 .sound), u .0)
+
+same-length : tie.Need-same-length
+same-length c = search needs
 
 returns : tie.Need-returns
 returns c =
@@ -42,10 +41,10 @@ pub sums-in-spec : {M : Type 1} → statement M
 sums-in-spec =
     tie.close
     (tie.spec
-    slice-aggregate-keep-measures
     keep-measures-requires
-    array-share-prefix-measures
+    slice-reshare-prefix-kept
     slice-aggregate-kept
     areas-sum-requires
     outside-sum-requires
+    same-length
     returns)

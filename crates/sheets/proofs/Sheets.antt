@@ -36,11 +36,12 @@ use Rattle.loops.specs.Loops.{repeatsArea, lastNode, entryBefore, joins, areaOn
 use Rattle.loops.specs.Loops.{winds, windChecks, firstRecord, areaRecord, loopChecks, stageFive}
 use Rattle.sides.specs.Sides.{lists, sideListed, listChecks, stageSix}
 use Rattle.ground.specs.Layers.{areaOfLayer, areasSum, leftAreaOf, rightAreaOf, outsideSum, measuresTo}
-use Rattle.judge.specs.Rulebook.{late, rulesOf, measureRule, layerRule, verdictOf, sumsVerdict}
-use Rattle.judge.specs.Outcomes.{outcomeOf, tableAfter, measuresOf, measuresAfter, sumsOf}
+use Rattle.judge.specs.Rulebook.{late, rulesOf, callVerdict, verdictOf}
+use Rattle.judge.specs.Outcomes.{outcomeBehind, tableBehind, outcomeOf, tableAfter, measuresOf, measuresAfter, sumsOf}
+use Rattle.judge.specs.Outcomes.{outcomeOfAll, pairsTo, allSumsOf, sumsAfter}
 use Rattle.judge.specs.declared.Outcome.{Outcome}
-use Rattle.judge.specs.Sheets.{written, mRecord, hRecord, nRecord, lRecord, points, aRecord, loopRecord, sheetS, changed, withMesh, Case, sheet}
-use Rattle.judge.specs.Sheets.{field, cases, twoMeshes, node, line, coordinates, area, loop, heads, sheetT, shore, sheetU, withoutHole, further}
+use Rattle.sheets.specs.Sheets.{written, mRecord, hRecord, nRecord, lRecord, points, aRecord, loopRecord, sheetS, changed, withMesh, Case, sheet}
+use Rattle.sheets.specs.Sheets.{field, cases, twoMeshes, node, line, coordinates, area, loop, heads, sheetT, shore, sheetU, withoutHole, further}
 
 -- what has to compute, under four names: a line that names one of them opens all that its own line names
 
@@ -64,13 +65,13 @@ unfolding walking isName isBlanks textAt layoutOf faultOf within isMeshCode foll
     lineEndChecks sideChecks lineChecks atNode firstPointChecks lastPointChecks pointChecks loopEntry entryChecks layerAt stageFour
     coordinateIn pairBy pointBy pointCount firstOf pointsBy measureBy sum steps lineMeasure loopMeasure slotOf entriesTo recordsFor countAt
     loopsAt recordsTo slotsOf loopAt measureOf loopMeasureIn repeatsArea lastNode entryBefore joins areaOnHand loopSlot winds windChecks
-    firstRecord areaRecord loopChecks stageFive lists sideListed listChecks stageSix basesOf late rulesOf measureRule verdictOf
+    firstRecord areaRecord loopChecks stageFive lists sideListed listChecks stageSix basesOf late rulesOf callVerdict
 judging = tt
 
 -- the figures
 measuring : Unit {0}
 unfolding areaMeasure loopsTo areaMeasureIn upTo areaOfLayer areasSum leftAreaOf rightAreaOf
-    outsideSum measuresTo measuresOf measuresAfter layerRule sumsVerdict sumsOf
+    outsideSum measuresTo measuresOf measuresAfter sumsOf pairsTo allSumsOf sumsAfter
 measuring = tt
 
 -- a refusal without a place, and the need that it tells
@@ -111,7 +112,7 @@ pub sheet-outcomes :
     (outcomeOf sheetS 6 1 ≡ record { number = 0; place = 0; column = 0; meshes = 1; layers = 1; nodes = 1; lines = 1; areas = 1; records = 7; need = 0 })
     × (outcomeOf sheetS 5 1 ≡ refusedWith 9 6)
     × (outcomeOf sheetS 6 0 ≡ refusedWith 19 0)
-unfolding writing judging walkedOf needOf outcomeOf
+unfolding writing judging walkedOf needOf outcomeBehind
 sheet-outcomes = (refl, refl, refl)
 
 -- RULES 8.3: refused with 1 to 9, all words are as they were; refused later, or accepted, the table stands in front, the rest is as it was
@@ -120,7 +121,7 @@ pub sheet-words :
     × (tableAfter sheetS 1 (replicate 8 99) ≡ 2 ∷ 1 ∷ 1 ∷ 1 ∷ 4 ∷ 6 ∷ 99 ∷ 99 ∷ [])
     × (tableAfter sheetS 0 (replicate 8 99) ≡ 2 ∷ 1 ∷ 1 ∷ 1 ∷ 4 ∷ 6 ∷ 99 ∷ 99 ∷ [])
     × (tableAfter (withMesh 533945 1 6) 1 (replicate 8 99) ≡ 2 ∷ 1 ∷ 1 ∷ 1 ∷ 4 ∷ 6 ∷ 99 ∷ 99 ∷ [])
-unfolding writing judging tableAfter
+unfolding writing judging tableBehind
 sheet-words = (refl, refl, refl, refl)
 
 -- RULES 11.1, 8.4: the area of S measures 200000000; measures stand in front, on acceptance only; an area with a hole, and the one in it
@@ -140,3 +141,12 @@ pub sheet-sums :
     × (sumsOf (sheetU 2 (negsuc 1 ∷ []) (pos 2 ∷ [])) 8 1 ≡ record { number = 0; place = 0; column = 0; areas = pos 200000000; outside = pos 200000000 })
 unfolding writing judging measuring node line coordinates area loop heads shore sheetU
 sheet-sums = (refl, refl, refl, refl, refl)
+
+-- RULES 11.1, 9.11, 8.5: all sums of S are its one layer's two; 48 with one place, and a refused call leaves the sums; two pairs of two meshes
+pub sheet-all-sums :
+    (sumsAfter sheetS 6 (pos 5 ∷ pos 6 ∷ pos 7 ∷ []) ≡ pos 200000000 ∷ pos 200000000 ∷ pos 7 ∷ [])
+    × (outcomeOfAll sheetS 6 1 ≡ refusedWith 48 0)
+    × (sumsAfter sheetS 6 (pos 5 ∷ []) ≡ pos 5 ∷ [])
+    × (allSumsOf twoMeshes ≡ pos 200000000 ∷ pos 200000000 ∷ pos 200000000 ∷ pos 200000000 ∷ [])
+unfolding writing judging measuring walkedOf needOf outcomeBehind twoMeshes
+sheet-all-sums = (refl, refl, refl, refl)
