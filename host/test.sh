@@ -397,6 +397,7 @@ by_names
 by_many
 by_size
 by_own_programs
+by_small_programs
 by_readme
 by_warnings
 by_other_builds

@@ -370,9 +370,9 @@ static void dues(void)
 
     /* counts steer, whatever the record is good for otherwise; an ill-formed one counts as 0, one below 0 by its size */
     put(s + 3 * RECORD, 50, 6, -8);
-    due(s, SHEET, "12345567");
+    due(s, SHEET, "12345561");
     memcpy(s + 3 * RECORD + 49, "000008", 6);
-    due(s, SHEET, "12346711");
+    due(s, SHEET, "12346111");
     sheet(s, 533945);
     memcpy(s, "XX", 2);
     due(s, SHEET, "12345671");

@@ -1,5 +1,5 @@
 # Further tests of the tool, for host/test.sh: files with faults of their bytes, the forms of output, names, many files at a time, the
-# programs that try a part of the C side alone, and the README's program.
+# programs that try a part of the C side alone, the two small programs, and the README's program.
 
 # ---- files that are made here
 
@@ -196,6 +196,45 @@ by_own_programs() {
         else
             fail "${name%%:*}" "$(cat "$work/out")" "$(head -n 5 "$work/err")"
         fi
+    done
+}
+
+# ---- the two small programs, where `rt` has built them: they print what the tool prints, and tell what they cannot read or write
+
+# small PROGRAM: runs it; elsewhere than on x86-64 under the kit's emulator.
+small() {
+    local chain
+    if [ "$machine" = x86_64 ]; then
+        "target/bin/$1"
+    else
+        chain=$(dirname "$(dirname "$(readlink -f "$(command -v rt)")")")/on/$machine/toolchain
+        "$chain/bin/qemu-x86_64" "$chain/lib/ld-linux-x86-64.so.2" --library-path "$chain/lib" "target/bin/$1"
+    fi
+}
+
+# Standard error is that line.
+told() {
+    if [ "$(cat "$work/err")" = "$2" ]; then
+        pass "$1"
+    else
+        fail "$1" "$(head -n 3 "$work/err")"
+    fi
+}
+
+by_small_programs() {
+    local name
+    for name in check measure; do
+        if [ ! -x target/bin/${name}_sheet ]; then
+            skip "the program $name" "rt check ${name}_sheet builds it"
+            continue
+        fi
+        small ${name}_sheet <$smallest >"$work/out" 2>"$work/err"
+        status=$?
+        hold "the program $name" 0 host/expected/$name-smallest
+        small ${name}_sheet <$smallest >/dev/full 2>"$work/err"
+        told "the program $name on a full disk" "$name: standard output: not everything could be written: No space left on device"
+        small ${name}_sheet <samples >"$work/out" 2>"$work/err"
+        told "the program $name on a directory" "$name: standard input: not everything could be read: Is a directory"
     done
 }
 
