@@ -70,6 +70,11 @@ target/host/sanitized: $(SOURCES) $(HEADERS) $(LIBRARY)
 	@mkdir -p $(@D)
 	$(COMPILE) $(SANITIZE) -o $@ $(SOURCES) $(LIBRARY)
 
+# The tool with the compiler's check of threads.
+target/host/threads: $(SOURCES) $(HEADERS) $(LIBRARY)
+	@mkdir -p $(@D)
+	$(COMPILE) -g -fsanitize=thread -o $@ $(SOURCES) $(LIBRARY)
+
 # As on a machine that is not x86-64, to try that way here.
 target/host/bare: $(SOURCES) $(HEADERS) $(LIBRARY) host/bare.sh
 	host/bare.sh $@ $(LIBRARY) $(SOURCES)

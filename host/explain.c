@@ -198,10 +198,9 @@ static void print_guesses(FILE *out, const Explanation *e)
 /* What is marked: the field, or all there is of a record that the file's end cuts; NULL where nothing is there. */
 static const Field *marked(const Explanation *e)
 {
-    static const Field rest = {"record", 1, 74, BLANK};
     size_t length;
     record_bytes(e->file, e->record, &length);
-    return e->field != NULL ? e->field : length > 0 ? &rest : NULL;
+    return e->field != NULL ? e->field : length > 0 ? &whole_record : NULL;
 }
 
 static void print_record(FILE *out, const Explanation *e)

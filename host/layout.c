@@ -122,6 +122,8 @@ static const Layout layouts[] = {
                END}},
 };
 
+const Field whole_record = {"record", 1, 74, WHOLE};
+
 const char *kind_name(uint32_t kind)
 {
     return layouts[kind].name;

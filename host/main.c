@@ -78,6 +78,8 @@ typedef struct {
     const Options *options;
     char **names;
     size_t count;
+    int explains; /* explain takes numbers too */
+    int page;     /* and makes a page of each, with its name on top */
 } Command;
 
 static int judge(Writer *w, const Input *file, const Judging *judging)
@@ -97,9 +99,8 @@ static int judge(Writer *w, const Input *file, const Judging *judging)
 static int judge_file(const Command *c, const char *name, Writer *w)
 {
     Input file;
-    int page = c->options->format == AS_TEXT && c->judging->accepted == put_acceptance;
     const char *why = input_open(&file, name);
-    writer_begin(w, c->options->format, name, c->count > 1 && why == NULL && !page);
+    writer_begin(w, c->options->format, name, c->count > 1 && why == NULL && !c->page);
     int status = why != NULL ? put_complaint(w, why) : judge(w, &file, c->judging);
     writer_end(w);
     if (why == NULL) {
@@ -112,7 +113,7 @@ static int judge_file(const Command *c, const char *name, Writer *w)
 static int is_number(const Command *c, size_t i, int32_t *number)
 {
     int plain = (size_t)(c->names + i - c->options->words) >= c->options->plain;
-    return c->judging->accepted == put_acceptance && !plain && c->names[i][0] != '-' && whole(c->names[i], number) == 0;
+    return c->explains && !plain && c->names[i][0] != '-' && whole(c->names[i], number) == 0;
 }
 
 static int explain_number(const Command *c, int32_t number, Writer *w)
@@ -128,7 +129,7 @@ static int do_file(const void *given, size_t i, FILE *out, FILE *err)
     const Command *c = given;
     Writer w = {.out = out, .err = err};
     int32_t number;
-    if (c->judging->accepted == put_acceptance && c->options->format == AS_TEXT && i > 0) {
+    if (c->page && i > 0) {
         fputc('\n', out);
     }
     return is_number(c, i, &number) ? explain_number(c, number, &w) : judge_file(c, c->names[i], &w);
@@ -137,6 +138,8 @@ static int do_file(const void *given, size_t i, FILE *out, FILE *err)
 static int each_file(const Judging *judging, const Options *o)
 {
     Command c = {.judging = judging, .options = o, .names = o->words + 1, .count = o->count - 1};
+    c.explains = judging->accepted == put_acceptance;
+    c.page = c.explains && o->format == AS_TEXT;
     size_t inputs = 0;
     int32_t number;
     for (size_t i = 0; i < c.count; i++) {

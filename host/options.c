@@ -24,10 +24,11 @@ int whole(const char *word, int32_t *value)
 /* One form alone can be asked for. */
 static void take_format(Options *o, Format format)
 {
-    if (o->format != AS_TEXT && o->format != format) {
+    if (o->formed && o->format != format) {
         o->misuse = "one of --json, --quiet and --format=line, not two";
     }
     o->format = format;
+    o->formed = 1;
 }
 
 static void take_at_once(Options *o, const char *word)
@@ -51,6 +52,8 @@ static int take_option(Options *o, const char *word, const char *next)
         take_format(o, AS_JSON);
     } else if (strcmp(word, "--quiet") == 0 || strcmp(word, "-q") == 0) {
         take_format(o, AS_NOTHING);
+    } else if (strcmp(word, "--format=text") == 0) {
+        take_format(o, AS_TEXT);
     } else if (strcmp(word, "--format=line") == 0) {
         take_format(o, AS_LINES);
     } else if (strcmp(word, "-j") == 0) {

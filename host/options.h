@@ -6,6 +6,7 @@
 
 typedef struct {
     Format format;
+    int formed;          /* the form was said */
     size_t at_once;      /* -j; 0: not said */
     int help;            /* --help was said, or --version; nothing behind it counts */
     int version;

@@ -115,7 +115,7 @@ static int put_refused(Writer *w, const Input *file, uint32_t number, uint32_t k
     put_number(w, "number", refusal);
     put_number(w, "column", column);
     put_message(w, refusal_text(refusal)->message);
-    put_caret(w, file, number, field_at(kind, column), column);
+    put_caret(w, file, number, refusal == 1 || refusal == 4 ? &whole_record : field_at(kind, column), column);
     put_refusal_line(w, refusal, number, column);
     return REFUSED;
 }

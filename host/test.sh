@@ -363,8 +363,18 @@ by_other_builds() {
         by_calls target/host/test_api-sanitized
         by_samples
         by_misuse
+        by_names
+        by_many
     else
         skip "sanitizers" "the compiler has none"
+    fi
+    if echo 'int main(void) { return 0; }' | cc -fsanitize=thread -x c -o "$work/probe" - 2>/dev/null && "$work/probe" 2>/dev/null; then
+        make -s target/host/threads || exit 1
+        run=("$PWD/target/host/threads")
+        way="threads: "
+        by_many
+    else
+        skip "the check of threads" "the compiler has none, or it does not run here"
     fi
     way=
     if command -v clang >/dev/null; then
