@@ -144,9 +144,12 @@ static void print_place(FILE *out, const Explanation *e)
         snprintf(text, sizeof text, "record %u, due as %s", (unsigned)e->record, kind_title(e->due));
     }
     print_wrapped(out, "Place:", text);
-    if (where->layer.record != 0) {
+    if (where->serial != 0) {
         snprintf(text, sizeof text, "mesh %d, layer %d, %s %d", (int)where->mesh.value.numbers[0], (int)where->layer.value.numbers[0],
                  item_name(e->due), (int)where->serial);
+        print_wrapped(out, "In:", text);
+    } else if (where->layer.record != 0) {
+        snprintf(text, sizeof text, "mesh %d, layer %d", (int)where->mesh.value.numbers[0], (int)where->layer.value.numbers[0]);
         print_wrapped(out, "In:", text);
     } else if (where->mesh.record != 0) {
         snprintf(text, sizeof text, "mesh %d", (int)where->mesh.value.numbers[0]);
@@ -256,7 +259,7 @@ static void put_where(Writer *w, const Explanation *e)
     put_word(w, "due", kind_name(e->due));
     put_bearer(w, "mesh", "mesh_record", &where->mesh);
     put_bearer(w, "layer", "layer_record", &where->layer);
-    if (where->layer.record != 0) {
+    if (where->serial != 0) {
         put_number(w, item_name(e->due), where->serial);
     }
     if (where->item.record != 0) {

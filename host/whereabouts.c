@@ -24,16 +24,25 @@ static int32_t serial_of(const Bearer *item)
     return item->value.numbers[2];
 }
 
+/* The record itself, if it can be read as one of the kind. */
+static Bearer own(const Input *file, uint32_t record, uint32_t kind)
+{
+    stragumella_reading reading = sheet_read(file, kind, record);
+    return (Bearer){.kind = kind, .record = reading.number == 0 ? record : 0, .value = reading.value};
+}
+
 Whereabouts whereabouts(const Input *file, uint32_t record, uint32_t due)
 {
     Whereabouts w = {.mesh = {.kind = MESH}, .layer = {.kind = LAYER}, .item = {.kind = item_kind(due)}};
     uint32_t last = (uint32_t)(file->length / RECORD);
     uint32_t before = record - 1 < last ? record - 1 : last;
     if (due == MESH) {
+        w.mesh = own(file, record, MESH);
         return w;
     }
     w.mesh = bearer(file, before, 0, MESH);
     if (due == LAYER) {
+        w.layer = own(file, record, LAYER);
         return w;
     }
     w.layer = bearer(file, before, w.mesh.record, LAYER);

@@ -13,8 +13,8 @@ typedef struct {
 } Bearer;
 
 typedef struct {
-    Bearer mesh;  /* the M */
-    Bearer layer; /* the H */
+    Bearer mesh;  /* the M, or the record itself where it is one and can be read */
+    Bearer layer; /* the H, likewise */
     Bearer item;  /* the N, L or A, where the record is behind it or is it itself */
     int32_t serial; /* of the node, line or area; where its record is refused itself, the number that is due; 0: of none */
 } Whereabouts;
