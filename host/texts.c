@@ -174,7 +174,7 @@ typedef struct {
 #define DUE_LOOP                                                                                                       \
     "A loop's record is due here: A's loops (column 25) say how many loops, and a loop's line count (column 6) how "   \
     "many entries, twelve a record."
-#define BLANK "This field is blank: spaces alone."
+#define SPACES_ALONE "This field is blank: spaces alone."
 #define LAYER_CODE "A layer code is 1 (boundary and coastline) or 5 (river and lake)."
 #define LAYER_OF_H "The layer code is that of the layer's H (column 3 of it)."
 #define TOTAL "This total is 0 or more."
@@ -205,14 +205,14 @@ static const Hint hints[] = {
     {5, MESH, ONE(9), "This name is ten two-byte characters of Shift JIS, 20 bytes; the full-width space is 81 40."},
     {5, AREA, ONE(33),
      "This name is twenty two-byte characters of Shift JIS, 40 bytes; the full-width space is 81 40."},
-    {5, MESH, ONE(57), BLANK},
-    {5, LAYER, ONE(30), BLANK},
-    {5, LAYER, ONE(35), BLANK},
-    {5, LAYER, ONE(40), BLANK},
-    {5, NODE, ONE(71), BLANK},
-    {5, LINE, ONE(61), BLANK},
-    {5, COORDINATES, ONE(71), BLANK},
-    {5, LOOP, ONE(70), BLANK},
+    {5, MESH, ONE(57), SPACES_ALONE},
+    {5, LAYER, ONE(30), SPACES_ALONE},
+    {5, LAYER, ONE(35), SPACES_ALONE},
+    {5, LAYER, ONE(40), SPACES_ALONE},
+    {5, NODE, ONE(71), SPACES_ALONE},
+    {5, LINE, ONE(61), SPACES_ALONE},
+    {5, COORDINATES, ONE(71), SPACES_ALONE},
+    {5, LOOP, ONE(70), SPACES_ALONE},
     {5, COORDINATES, ONE(1), DUE_COORDINATES " If another record stands here, that count is wrong."},
     {5, LOOP, ONE(1), DUE_LOOP " If another record stands here, one of these counts is wrong."},
 
