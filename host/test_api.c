@@ -174,22 +174,31 @@ static int table_is(const uint32_t *table, size_t words, uint32_t number, const 
     return 1;
 }
 
-/* the judge on a file with `n` meshes like S if it is accepted, `words` words and `places` places */
-static void judge(const uint8_t *bytes, size_t length, size_t words, size_t places, expected e, uint32_t n)
+/* a call that judges and fills places, `each` of them for a mesh like S; with fewer it gives the number `few` */
+typedef struct {
+    stragumella_outcome (*call)(const uint8_t *, size_t, uint32_t *, size_t, int64_t *, size_t);
+    size_t each;
+    uint32_t few;
+} filling;
+
+static const filling MEASURES = { stragumella_judge, 1, 19 }, ALL_SUMS = { stragumella_all_sums, 2, 48 };
+
+/* such a call on a file with `n` meshes like S if it is accepted, `words` words and `places` places */
+static void fills(filling f, const uint8_t *bytes, size_t length, size_t words, size_t places, expected e, uint32_t n)
 {
     uint8_t *file = lent(bytes, length);
     uint32_t *table = lent_words(words);
-    int64_t *measures = lent_places(places);
+    int64_t *figures = lent_places(places);
     uint64_t need = 0;
     if (e.number == 0 || e.number > 9) {
         if (words < e.need) {
             e.number = 9, e.record = 0, e.column = 0;
             need = e.need;
-        } else if (e.number == 0 && places < n)
-            e.number = 19;
+        } else if (e.number == 0 && places < f.each * n)
+            e.number = f.few;
     }
     uint32_t count = e.number == 0 ? n : 0;
-    stragumella_outcome o = stragumella_judge(file, length, table, words, measures, places);
+    stragumella_outcome o = f.call(file, length, table, words, figures, places);
     HOLD(o.number == e.number && o.record == e.record && o.column == e.column);
     HOLD(o.meshes == count && o.layers == count && o.nodes == count && o.lines == count && o.areas == count);
     HOLD(o.records == 7 * count);
@@ -197,10 +206,10 @@ static void judge(const uint8_t *bytes, size_t length, size_t words, size_t plac
     HOLD(table_is(table, words, e.number, &e));
     int ok = 1;
     for (size_t i = 0; i < places; i++)
-        ok &= measures[i] == (i < count ? 200000000 : place(i));
+        ok &= figures[i] == (i < f.each * count ? 200000000 : place(i));
     HOLD(ok);
     HOLD(same_bytes(file, bytes, length));
-    free(file), free(table), free(measures);
+    free(file), free(table), free(figures);
 }
 
 /* the sums of layer number `layer` of a file that has `n` */
@@ -223,35 +232,6 @@ static void sums(const uint8_t *bytes, size_t length, size_t words, uint32_t lay
     free(file), free(table);
 }
 
-/* all sums of a file that has `n` layers, with `room` places */
-static void all_sums(const uint8_t *bytes, size_t length, size_t words, size_t room, expected e, uint32_t n)
-{
-    uint8_t *file = lent(bytes, length);
-    uint32_t *table = lent_words(words);
-    int64_t *pairs = lent_places(room);
-    uint64_t need = 0;
-    if (e.number == 0 || e.number > 9) {
-        if (words < e.need) {
-            e.number = 9, e.record = 0, e.column = 0;
-            need = e.need;
-        } else if (e.number == 0 && room < 2 * (size_t)n)
-            e.number = 48;
-    }
-    uint32_t count = e.number == 0 ? n : 0;
-    stragumella_outcome o = stragumella_all_sums(file, length, table, words, pairs, room);
-    HOLD(o.number == e.number && o.record == e.record && o.column == e.column);
-    HOLD(o.meshes == count && o.layers == count && o.nodes == count && o.lines == count && o.areas == count);
-    HOLD(o.records == 7 * count);
-    HOLD(o.need == need);
-    HOLD(table_is(table, words, e.number, &e));
-    int ok = 1;
-    for (size_t i = 0; i < room; i++)
-        ok &= pairs[i] == (i < 2 * (size_t)count ? 200000000 : place(i));
-    HOLD(ok);
-    HOLD(same_bytes(file, bytes, length));
-    free(file), free(table), free(pairs);
-}
-
 static void need(const uint8_t *bytes, size_t length, uint64_t words)
 {
     uint8_t *file = lent(bytes, length);
@@ -266,10 +246,10 @@ static void all(const uint8_t *bytes, size_t length, expected e, uint32_t n)
     int early = e.number != 0 && e.number <= 8;
     need(bytes, length, early ? 0 : e.need);
     for (size_t words = 0; words <= e.need + 2; words++) {
-        for (size_t places = 0; places <= n + 2u; places++)
-            judge(bytes, length, words, places, e, n);
-        for (size_t room = 0; room <= 2 * n + 2u; room++)
-            all_sums(bytes, length, words, room, e, n);
+        for (size_t places = 0; places <= 2 * n + 2u; places++) {
+            fills(MEASURES, bytes, length, words, places, e, n);
+            fills(ALL_SUMS, bytes, length, words, places, e, n);
+        }
         for (uint32_t layer = 0; layer <= n + 1; layer++)
             sums(bytes, length, words, layer, e, n);
         sums(bytes, length, words, UINT32_MAX, e, n);
