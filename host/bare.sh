@@ -1,19 +1,17 @@
 #!/usr/bin/env bash
-# Builds the tool, or second/answer.c, for x86-64 with clang and the kit's linker alone: host/bare.sh TOOL LIBRARY SOURCE..
+# Builds the tool, or second/answer.c, for x86-64 with clang and the kit alone: host/bare.sh TOOL LIBRARY SOURCE..
 #
-# For machines that are not x86-64: they have no x86-64 C library, headers or linker, but the kit has the library
-# and the linker, and system.h has the declarations (-DBARE). TOOL.x86-64 is the program and TOOL a script that runs
-# it: under the kit's emulator where the kit has one, by the kit's loader alone where the machine is x86-64.
+# For machines that are not x86-64. TOOL.x86-64 is the program and TOOL a script that runs it, as host/x86-64/run does but
+# wherever the two of them stand: under the kit's emulator where the kit has one, by the kit's loader alone where the
+# machine is x86-64.
 set -eu
 
+here=$(dirname "$0")/x86-64
 tool=$1
 library=$2
 shift 2
 
-kit=$(dirname "$(dirname "$(readlink -f "$(command -v rt)")")")/on/$(uname -m)
-chain=$kit/toolchain
-# A plain processor: for a later one the C library fills memory by an instruction that the emulator makes byte by byte,
-# and then judging a short sheet takes ten times as long.
+chain=$("$here/toolchain")
 emulator=
 if [ -x "$chain/bin/qemu-x86_64" ]; then
     emulator="\"$chain/bin/qemu-x86_64\" -cpu qemu64 "
@@ -23,15 +21,7 @@ elif [ "$(uname -m)" != x86_64 ]; then
 fi
 
 mkdir -p "$(dirname "$tool")"
-objects=()
-for source in "$@"; do
-    object=$tool.$(basename "$source" .c).o
-    clang --target=x86_64-unknown-linux-gnu -std=c11 -DBARE -ffreestanding -fno-builtin -nostdlibinc -fPIE -O2 \
-        -Wall -Wextra -Wpedantic -Werror -Iinclude -c "$source" -o "$object"
-    objects+=("$object")
-done
-"$kit/bin/rattle-link" --target x86_64-unknown-linux-gnu --toolchain "$chain" -o "$tool.x86-64" \
-    "${objects[@]}" "$library"
+"$here/cc" -std=c11 -Wall -Wextra -Wpedantic -Werror -Iinclude -o "$tool.x86-64" "$@" "$library"
 
 cat >"$tool" <<END
 #!/bin/sh

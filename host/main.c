@@ -11,8 +11,6 @@
 #include "record.h"
 #include "texts.h"
 
-#define VERSION "stragumella 0.2\n"
-
 static const char help[] =
     "usage: stragumella check FILE..            is the file accepted, and what is in it\n"
     "       stragumella explain FILE..          a page for people: what is wrong, and what to mend\n"
@@ -294,7 +292,7 @@ static int run(const Options *o)
         return misuse(o->misuse);
     }
     if (o->help || o->version) {
-        return print_text(o->help ? help : VERSION);
+        return print_text(o->help ? help : "stragumella " STRAGUMELLA_VERSION "\n");
     }
     return o->count == 0 ? misuse("no command") : command(o);
 }

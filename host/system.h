@@ -1,4 +1,4 @@
-/* What the tool, its tests and second/answer.c use of the C library and the system: memory, files, printing, threads.
+/* What the tool, its tests, second/answer.c and the examples use of the C library and the system: memory, files, printing, threads.
  *
  * Where the C library has no headers for the target (-DBARE), the declarations stand here by hand. They are
  * those of x86-64 Linux with glibc, the one target that the proved library is built for.
@@ -24,7 +24,12 @@
 
 #else
 
+#ifdef __cplusplus
+extern "C" {
+#endif
+
 typedef struct bare_stream FILE;
+extern FILE *stdin;
 extern FILE *stdout;
 extern FILE *stderr;
 int printf(const char *format, ...);
@@ -36,6 +41,8 @@ size_t fwrite(const void *items, size_t size, size_t count, FILE *stream);
 int fflush(FILE *stream);
 int ferror(FILE *stream);
 int fclose(FILE *stream);
+FILE *fopen(const char *name, const char *mode);
+size_t fread(void *items, size_t size, size_t count, FILE *stream);
 FILE *open_memstream(char **bytes, size_t *length);
 
 void *malloc(size_t size);
@@ -44,6 +51,7 @@ void *realloc(void *block, size_t size);
 void free(void *block);
 void exit(int status);
 double strtod(const char *text, char **end);
+long strtol(const char *text, char **end, int base);
 
 int strcmp(const char *a, const char *b);
 int strncmp(const char *a, const char *b, size_t length);
@@ -108,6 +116,10 @@ int pthread_cond_init(pthread_cond_t *condition, const void *attributes);
 int pthread_cond_wait(pthread_cond_t *condition, pthread_mutex_t *mutex);
 int pthread_cond_timedwait(pthread_cond_t *condition, pthread_mutex_t *mutex, const struct timespec *until);
 int pthread_cond_broadcast(pthread_cond_t *condition);
+
+#ifdef __cplusplus
+}
+#endif
 
 #endif
 #endif

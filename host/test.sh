@@ -6,6 +6,7 @@
 # prints what it was answered, and ends with the right status.
 set -u
 cd "$(dirname "${BASH_SOURCE[0]}")/.." || exit 1
+. host/testing.sh
 
 make -s tool || exit 1
 work=$(mktemp -d)
@@ -15,36 +16,16 @@ samples=samples
 smallest=$samples/smallest.dat
 made=target/host/made
 most=473595264
-passed=0
-failed=0
-skipped=0
+version=$(make -s version)
 
-# What is run: the tool, perhaps with something before it, and a word for the tests' names. Names as text need the C library's tables of
+# What is run: the tool, perhaps with something before it. Names as text need the C library's tables of
 # CP932; the kit's C library, which machines that are not x86-64 run, has none, so there the lines are left out (host/test_names.c
 # tries the conversion on every machine).
 run=("$PWD/target/host/stragumella")
-way=
 names=left-out
 if [ "$machine" = x86_64 ]; then
     names=held
 fi
-
-pass() {
-    passed=$((passed + 1))
-    echo "ok      $way$1"
-}
-
-fail() {
-    failed=$((failed + 1))
-    echo "FAILED  $way$1"
-    shift
-    printf '        %s\n' "$@"
-}
-
-skip() {
-    skipped=$((skipped + 1))
-    echo "skipped $way$1: $2"
-}
 
 # Runs the tool; standard output, standard error and the status are kept.
 tool() {
@@ -247,9 +228,9 @@ by_misuse() {
     complains "where without Y" "where takes" where 533945 1
     complains "where with a word" "where takes" where 533945 1 y
     complains "where beyond 32 bits" "where takes" where 533945 1 2147483648
-    says "version" 0 $'stragumella 0.2\n' --version
-    says "version behind a command" 0 $'stragumella 0.2\n' check -V
-    says "version, short" 0 $'stragumella 0.2\n' -V
+    says "version" 0 "stragumella $version"$'\n' --version
+    says "version behind a command" 0 "stragumella $version"$'\n' check -V
+    says "version, short" 0 "stragumella $version"$'\n' -V
     expect help 0 --help
     expect help 0 -h
     expect help 0 record --help
@@ -411,5 +392,4 @@ by_small_programs
 by_readme
 by_warnings
 by_other_builds
-echo "host: $passed passed, $failed failed, $skipped skipped"
-[ $failed -eq 0 ]
+counts host

@@ -201,15 +201,9 @@ by_own_programs() {
 
 # ---- the two small programs, where `rt` has built them: they print what the tool prints, and tell what they cannot read or write
 
-# small PROGRAM: runs it; elsewhere than on x86-64 under the kit's emulator.
+# small PROGRAM: runs it.
 small() {
-    local chain
-    if [ "$machine" = x86_64 ]; then
-        "target/bin/$1"
-    else
-        chain=$(dirname "$(dirname "$(readlink -f "$(command -v rt)")")")/on/$machine/toolchain
-        "$chain/bin/qemu-x86_64" "$chain/lib/ld-linux-x86-64.so.2" --library-path "$chain/lib" "target/bin/$1"
-    fi
+    host/x86-64/run "target/bin/$1"
 }
 
 # Standard error is that line.

@@ -56,9 +56,37 @@
  *   never more areas than its table has words. Then the judge answers neither 9 nor 19. If words is 0, the file is
  *   refused in stage 1 or 2: the judge names the refusal, and no table has to be lent. As many places for sums are
  *   enough too: half of them would do.
+ *
+ * What a version promises
+ *   A version has three numbers, MAJOR.MINOR.PATCH. They stand below and nowhere else: the tool, the shared library, the
+ *   pkg-config file, the manual pages and the Python package take them from here. CHANGELOG.md says what each version
+ *   changed.
+ *   - Numbers. A refusal's number keeps its meaning in every version. A number that is no longer given is never given
+ *     another meaning. A version may add numbers, so take every number but 0 for a refusal.
+ *   - PATCH: every call gives the same answers, and leaves the same in every lent buffer, for every input. Structs, calls and
+ *     table are as they were.
+ *   - MINOR, as long as MAJOR is 0: calls are added, and rules, structs and the table's words may change, where the
+ *     change log says so. A program is compiled anew for it. Nothing goes wrong in silence: the names in the shared library
+ *     bear the version STRAGUMELLA_MAJOR.MINOR, and the system's loader starts no program with another one's library.
+ *   - MINOR, from 1.0 on: calls and numbers are added. Structs, calls and the table stay as they are, and a program made for
+ *     an older MINOR runs with the newer library.
+ *   - MAJOR: anything may change. The shared library's name, libstragumella.so.MAJOR, changes with it.
+ *   The archive and the shared library hold the same code.
  */
 #ifndef STRAGUMELLA_H
 #define STRAGUMELLA_H
+
+#define STRAGUMELLA_VERSION_MAJOR 0
+#define STRAGUMELLA_VERSION_MINOR 3
+#define STRAGUMELLA_VERSION_PATCH 0
+
+/* The version as text, "MAJOR.MINOR.PATCH", and as a number that grows with it, for #if. */
+#define STRAGUMELLA_SPELLED(major, minor, patch) #major "." #minor "." #patch
+#define STRAGUMELLA_SPELL(major, minor, patch) STRAGUMELLA_SPELLED(major, minor, patch)
+#define STRAGUMELLA_VERSION \
+    STRAGUMELLA_SPELL(STRAGUMELLA_VERSION_MAJOR, STRAGUMELLA_VERSION_MINOR, STRAGUMELLA_VERSION_PATCH)
+#define STRAGUMELLA_VERSION_NUMBER \
+    (STRAGUMELLA_VERSION_MAJOR * 1000000 + STRAGUMELLA_VERSION_MINOR * 1000 + STRAGUMELLA_VERSION_PATCH)
 
 #include <stddef.h>
 #include <stdint.h>
