@@ -115,6 +115,15 @@ target/host/sanitized: $(SOURCES) $(HEADERS) $(OWN_ARCHIVE)
 	@mkdir -p $(@D)
 	$(COMPILE) $(SANITIZE) -o $@ $(SOURCES) $(OWN_ARCHIVE)
 
+# Both without these checks, for valgrind.
+target/host/own: $(SOURCES) $(HEADERS) $(OWN_ARCHIVE)
+	@mkdir -p $(@D)
+	$(COMPILE) -g -o $@ $(SOURCES) $(OWN_ARCHIVE)
+
+target/host/test_api-own: host/test_api.c host/system.h include/stragumella.h $(OWN_ARCHIVE)
+	@mkdir -p $(@D)
+	$(COMPILE) -g -o $@ host/test_api.c $(OWN_ARCHIVE)
+
 # The tool with the compiler's check of threads.
 target/host/threads: $(SOURCES) $(HEADERS) $(OWN_ARCHIVE)
 	@mkdir -p $(@D)

@@ -330,14 +330,23 @@ by_calls() {
     fi
 }
 
-by_other_builds() {
-    make -s target/host/test_api || exit 1
-    by_calls target/host/test_api
-    if [ "$machine" != x86_64 ]; then
-        skip "sanitizers, valgrind" "only where the machine is x86-64"
+# Whether the compiler has a check, and what it makes runs here.
+has_check() {
+    echo 'int main(void) { return 0; }' | cc -fsanitize="$1" -x c -o "$work/probe" - 2>/dev/null && "$work/probe" 2>/dev/null
+}
+
+# Builds for this machine, with the C side's checks. Where it is not x86-64 they are linked with the library's code compiled for it
+# (host/native.sh): the checks are of the C side, and names as text are held there too.
+by_checked_builds() {
+    local held=$names
+    if ! make -s own-library 2>"$work/err"; then
+        skip "sanitizers, the check of threads, valgrind" "the library cannot be compiled for this machine: $(tail -n 1 "$work/err")"
         return
     fi
-    if echo 'int main(void) { return 0; }' | cc -fsanitize=address,undefined -x c -o "$work/probe" - 2>/dev/null; then
+    names=held
+    # On Arm the check for leaks takes seconds at each program's end; there valgrind, below, looks for them alone.
+    [ "$machine" = x86_64 ] || export ASAN_OPTIONS=detect_leaks=0
+    if has_check address,undefined; then
         make -s target/host/sanitized target/host/test_api-sanitized || exit 1
         run=("$PWD/target/host/sanitized")
         way="sanitized: "
@@ -347,9 +356,9 @@ by_other_builds() {
         by_names
         by_many
     else
-        skip "sanitizers" "the compiler has none"
+        skip "sanitizers" "the compiler has none, or they do not run here"
     fi
-    if echo 'int main(void) { return 0; }' | cc -fsanitize=thread -x c -o "$work/probe" - 2>/dev/null && "$work/probe" 2>/dev/null; then
+    if has_check thread; then
         make -s target/host/threads || exit 1
         run=("$PWD/target/host/threads")
         way="threads: "
@@ -357,26 +366,42 @@ by_other_builds() {
     else
         skip "the check of threads" "the compiler has none, or it does not run here"
     fi
-    way=
-    if command -v clang >/dev/null; then
-        make -s target/host/bare 2>"$work/err" || cat "$work/err"
-        run=("$PWD/target/host/bare")
-        names=left-out
-        way="bare: "
-        by_samples
-        names=held
-    else
-        skip "bare" "no clang"
-    fi
-    way=
     if command -v valgrind >/dev/null; then
-        run=(valgrind -q --error-exitcode=99 --leak-check=full "$PWD/target/host/stragumella")
+        make -s target/host/own target/host/test_api-own || exit 1
+        run=(valgrind -q --error-exitcode=99 --leak-check=full "$PWD/target/host/own")
         way="valgrind: "
-        by_calls valgrind -q --error-exitcode=99 --leak-check=full target/host/test_api
+        by_calls valgrind -q --error-exitcode=99 --leak-check=full target/host/test_api-own
         by_few
     else
         skip "valgrind" "not here"
     fi
+    way=
+    names=$held
+}
+
+# As on a machine that is not x86-64.
+by_bare_build() {
+    if [ "$machine" != x86_64 ]; then
+        return # it is what all the tests above were of
+    fi
+    if ! command -v clang >/dev/null; then
+        skip "bare" "no clang"
+        return
+    fi
+    make -s target/host/bare 2>"$work/err" || cat "$work/err"
+    run=("$PWD/target/host/bare")
+    names=left-out
+    way="bare: "
+    by_samples
+    names=held
+    way=
+}
+
+by_other_builds() {
+    make -s target/host/test_api || exit 1
+    by_calls target/host/test_api
+    by_checked_builds
+    by_bare_build
 }
 
 . host/test_forms.sh

@@ -232,10 +232,12 @@ by_small_programs() {
     done
 }
 
-# ---- the README's program: it compiles as C and as C++ by the lines that stand beside it, and runs where the library does
+# ---- the README's program: it compiles as C and as C++ by the lines that stand beside it, and runs; where the machine is not x86-64 by the
+# compiler that host/x86-64 has
 
 by_readme() {
-    local compiler line
+    local compiler line elsewhere=
+    [ "$machine" = x86_64 ] || elsewhere=yes
     sed -n '/^```c$/,/^```$/p' README.md | sed '/^```/d' >"$work/judge.c"
     for compiler in "cc -std=c11" "c++ -std=c++11 -x c++"; do
         if $compiler -Wall -Wextra -Wpedantic -Werror -Iinclude -fsyntax-only "$work/judge.c" 2>"$work/err"; then
@@ -244,14 +246,10 @@ by_readme() {
             fail "README's program, ${compiler%% *}" "$(head -n 5 "$work/err")"
         fi
     done
-    if [ "$machine" != x86_64 ]; then
-        skip "README's compile lines" "only where the machine is x86-64"
-        return
-    fi
     for line in cc c++; do
         line=$(sed -n "s/^    \($line .*judge\.c.*\)/\1/p" README.md | head -n 1)
         line=${line//judge.c/$work/judge.c}
-        if $line -o "$work/judge" 2>"$work/err" && "$work/judge" <$smallest >"$work/out" 2>"$work/err" &&
+        if ${elsewhere:+host/x86-64/}$line -o "$work/judge" 2>"$work/err" && ${elsewhere:+host/x86-64/run} "$work/judge" <$smallest >"$work/out" 2>"$work/err" &&
             [ "$(cat "$work/out")" = "number 0 at 0,0; 1 areas" ]; then
             pass "README: ${line%% *}"
         else
