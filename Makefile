@@ -38,7 +38,7 @@ endif
 TOOL = target/host/stragumella
 PARTS = main options many explain look texts whereabouts figures find record names layout writer text sheet input
 SOURCES = $(PARTS:%=host/%.c)
-HEADERS = $(wildcard host/*.h) include/stragumella.h
+HEADERS = $(wildcard host/*.h host/*.inc) include/stragumella.h
 COMPILE = $(CC) $(CFLAGS) -D_POSIX_C_SOURCE=200809L -pthread -Iinclude
 
 .PHONY: run test compare bench tool library own-library version clean

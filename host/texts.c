@@ -6,144 +6,23 @@
 
 /* ---- the numbers (RULES 6.2) */
 
-static const Refusal refusals[] = {
-    [0] = {"accepted", "The file keeps every rule. Acceptance is number 0 at 0, 0.", "6.1",
-           "There is nothing to mend."},
-    [1] = {"the file is empty, ends within a record, or has too many records",
-           "The file has more than 6,399,936 records (at record 6,399,937); or else its length is 0 or no multiple of "
-           "74 (at the record behind the last whole one).",
-           "6.3",
-           "Deliver whole records of 74 bytes. Look for a cut transfer, for a line end that is missing behind the "
-           "last record, and for bytes that stand behind it: a mark (1A), an empty line. Split a sheet that is too "
-           "large."},
-    [2] = {"the record does not end with CR and LF in bytes 73 and 74",
-           "Byte 73 of the record is not CR (0D), or byte 74 is not LF (0A). The first wrong one is named.", "6.3",
-           "Each record is 72 columns, CR and LF. A record that is too short or too long shifts all that follow: look "
-           "at the first one named. If it is record 1, the whole file was probably changed on its way: look for LF "
-           "alone, UTF-8 names, a byte order mark, a packed file, or spaces taken away at the ends of the lines."},
-    [3] = {"the type letters are wrong: another record is due",
-           "The letters in columns 1 and 2 are not those of the record that is due. The counts in M, H, L, A and "
-           "loops say which record is due.",
-           "6.4",
-           "The letters are \"M \", \"H2\", \"N \", \"L \" and \"A \", in capitals. M's layers and H's nodes, lines "
-           "and areas say which records follow. Either the record is out of place, or a count before it is wrong. "
-           "An L's points and a loop's line count say how many records without letters follow."},
-    [4] = {"the file ends where a record is due",
-           "The counts say that another record is due, and the file has ended. The place is the record behind the last "
-           "one, column 1.",
-           "6.4",
-           "The end is missing, or a count that steers the walk is too large: M's layers, H's nodes, lines or areas, "
-           "L's points, A's loops, a loop's line count."},
-    [5] = {"the field is ill formed",
-           "A number, a name or a blank field is not spelled as section 3 asks. The place is where the field starts, "
-           "wherever in it the fault is.",
-           "3.5",
-           "Numbers are right aligned with spaces in front, without leading zeros, \"-\" directly before the digits; "
-           "zero is \"0\" and never \"-0\" or blank. Names are two-byte Shift JIS. Unused columns are spaces. Where "
-           "the record is another one than was due, a count before it is wrong: an L's points, an A's loops or a "
-           "loop's line count."},
-    [6] = {"the value is not permitted",
-           "The value is well formed, but its table in section 4, or section 5, does not permit it. The place is where "
-           "the field starts.",
-           "5",
-           "See RULES 4 and 5. Often: a slot within the count that is 0, or one past the count that is not; a frame "
-           "that is not 1 exactly on the sheet's edge; an area number 0 beside a code that is not 88888, or the "
-           "other way round; a month above 12."},
-    [7] = {"an unstructured layer (H1) stands where an H2 is due",
-           "The letters are H1 where an H is due. Then 3 is not given.", "6.4",
-           "An unstructured layer is not taken. Deliver the layer in structured form (H2)."},
-    [8] = {"the value is out of step with the records before it",
-           "Mesh codes or layer codes do not rise, the first four digits of a mesh code differ, a layer code is unlike "
-           "its H's, a serial is not the next one, or a loop's later record does not repeat its serial and line "
-           "count.",
-           "5.2",
-           "Number nodes, lines and areas from 1 without gaps in each layer. Loops are 1, -2, -3 and on; a loop's "
-           "later records repeat its serial and its count. Sort meshes and layers."},
-    [9] = {"the table that was lent is too short",
-           "The lent table has fewer words than the file needs. The judge tells the need with it. The place is 0, 0.",
-           "6.5",
-           "This is no fault of the file; stages 3 to 6 are not judged yet. The program that calls lends as many words "
-           "as the need says."},
-    [10] = {"the total is not what was counted",
-            "One of these is not what was counted: M's nodes (column 32), lines (37), areas (42) or records (52), H's "
-            "records (25), A's lines (29).",
-            "6.6",
-            "M's totals are the sums of its layers. The records totals count the record that bears them: M's from the "
-            "M, H's from the H to the layer's last record. A's lines is the sum of its loops' line counts."},
-    [11] = {"the number names nothing",
-            "An entry of a node or a loop names no line of the layer, a start or end node no node of it, or an area "
-            "number other than 0 no area of it.",
-            "6.7",
-            "The number is too large, or 0 or below for a node. Serials start again at 1 in each layer of each mesh; a "
-            "number names only a record of its own layer. A check that needs the number waits."},
-    [12] = {"the number or point disagrees with what it names",
-            "A node lists +n where line n does not start, or -n where it does not end; a line's first or last point is "
-            "not where its node is; a link is 0 on a frame node or not 0 elsewhere; or a code is not that of the area "
-            "beside it.",
-            "6.7",
-            "Both sides of a link must say the same. Which one is wrong is for the supplier to see."},
-    [13] = {"the entry repeats an earlier one of its node or area",
-            "An entry is the same, sign and all, as an earlier one of the same node; or of the same area, in whichever "
-            "of its loops.",
-            "6.7, 6.8",
-            "At a node, list each end of a line once; +n and -n of one line at one node are good: the line is closed. "
-            "In an area, each side of a line bounds it once."},
-    [14] = {"the line's end is not listed at its node",
-            "Line n is not listed at its start node as +n (at column 18), or at its end node as -n (at column 24).",
-            "6.7",
-            "The node must list +n for each line n that starts there and -n for each that ends there."},
-    [15] = {"the entry does not begin where the one before it ends",
-            "The node where an entry begins is not the node where the entry before it ends. The entry before a loop's "
-            "first is the loop's last.",
-            "6.8",
-            "Order the entries so that the loop closes; turn the sign of a line that is walked backwards."},
-    [16] = {"the loop measures 0 or runs the wrong way round",
-            "The loop's measure is 0, or its sign is unlike its serial's: the first loop is clockwise (above 0), the "
-            "others counterclockwise (below 0). The place is column 1 of the loop's first record.",
-            "6.8",
-            "The first loop runs clockwise, the others counterclockwise, with X to the east and Y to the north. Turn "
-            "the order and all signs of the loop. A loop that measures 0 encloses no ground: look for lines that are "
-            "walked out and back."},
-    [17] = {"the entry stands in an area that is not on its right",
-            "+n stands in an area that is not line n's right, or -n in one that is not its left.", "6.8",
-            "Either the line's left and right areas are exchanged, or the entry's sign is wrong, or the line is listed "
-            "in the wrong area."},
-    [18] = {"the line's side is not listed in its area",
-            "Line n's left area, not 0, has no entry -n (at column 35 of the L), or its right area, not 0, has no "
-            "entry +n (at column 45).",
-            "6.9",
-            "The area's loops leave out a line that bounds it, often a hole. Ground would be counted double."},
-    [19] = {"the buffer for the measures is shorter than the areas",
-            "The lent measures have fewer places than the file has areas. The place is 0, 0.", "6.10",
-            "Nothing is wrong with the file. The program that calls lends more places; the need in words is always "
-            "enough."},
-    [20] = {"what is to be written does not fit the record",
-            "Writer: a value does not fit its field, a name is not two-byte characters, a number or name byte that the "
-            "kind lacks is not 0, or the kind is none of the seven. The place is 0, 0.",
-            "9.5",
-            "Look for a number too large for its width, a name that is no row of two-byte characters, an unused entry "
-            "that is not 0."},
-    [21] = {"the buffer to write to is under 74 bytes",
-            "Writer: the buffer has under 74 bytes. This is judged before 20. The place is 0, 0.", "9.5",
-            "The program that calls lends 74 bytes."},
-    [22] = {"the file has no such layer",
-            "Layer sums: the file has no layer of that number; 1 is the file's first. This is judged behind all "
-            "stages. The place is 0, 0.",
-            "9.2", "Nothing is wrong with the file. Ask for 1 to the file's layers."},
+#define REFUSAL(number, message, rule, section, mend) {number, {message, rule, section, mend}},
+static const struct {
+    uint32_t number;
+    Refusal text;
+} refusals[] = {
+#include "refusals.inc"
 };
-
-static const Refusal refusal_48 = {
-    "the buffer for the sums has fewer than two places a layer",
-    "All sums: the lent sums have fewer places than two for each of the file's layers. This is judged behind all "
-    "stages. The place is 0, 0.",
-    "9.11", "Nothing is wrong with the file. The program that calls lends two places for each of the file's layers."};
+#undef REFUSAL
 
 const Refusal *refusal_text(uint32_t number)
 {
-    if (number == 48) {
-        return &refusal_48;
+    for (size_t i = 0; i < sizeof refusals / sizeof *refusals; i++) {
+        if (refusals[i].number == number) {
+            return &refusals[i].text;
+        }
     }
-    return number < sizeof refusals / sizeof *refusals ? &refusals[number] : NULL;
+    return NULL;
 }
 
 /* ---- the fields (RULES 4, 5, 6) */
