@@ -5,6 +5,7 @@
 # make tool   builds the library and the tool, target/host/stragumella
 # make library  builds the archive and the shared library, under target/lib
 # make own-library  builds what programs of this machine can be linked with in tests; on x86-64 the same
+# make python  installs the Python package for this machine under target/python
 # make version  prints the version, which stands in include/stragumella.h alone
 # make clean  removes what make built; the library and the proofs stay
 #
@@ -41,7 +42,7 @@ SOURCES = $(PARTS:%=host/%.c)
 HEADERS = $(wildcard host/*.h host/*.inc) include/stragumella.h
 COMPILE = $(CC) $(CFLAGS) -D_POSIX_C_SOURCE=200809L -pthread -Iinclude
 
-.PHONY: run test compare bench tool library own-library version clean
+.PHONY: run test compare bench tool library own-library python version clean
 
 # A refused sheet is among the samples, so status 1 is as it should be.
 run: $(TOOL)
@@ -78,6 +79,11 @@ $(ARCHIVE): $(LIBRARY)
 # the same on every machine.
 $(SHARED): $(LIBRARY) packaging/shared.sh include/stragumella.h
 	packaging/shared.sh $@ $< $(NAMES) $(CHAIN)/bin/ld.lld $(CHAIN)/lib/libc.so.6
+
+# As `pip install ./python` does, but into a folder of its own.
+python: $(OWN_SHARED)
+	rm -rf target/python
+	python3 -m pip --quiet --disable-pip-version-check install --no-index --target target/python ./python
 
 target/native/libstragumella.a: $(LIBRARY) host/native.sh
 	host/native.sh $@
@@ -138,4 +144,4 @@ target/host/answer: second/answer.c host/system.h include/stragumella.h $(LIBRAR
 	host/bare.sh $@ $(LIBRARY) second/answer.c
 
 clean:
-	rm -rf target/host target/lib target/native
+	rm -rf target/host target/lib target/native target/python

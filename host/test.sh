@@ -330,11 +330,6 @@ by_calls() {
     fi
 }
 
-# Whether the compiler has a check, and what it makes runs here.
-has_check() {
-    echo 'int main(void) { return 0; }' | cc -fsanitize="$1" -x c -o "$work/probe" - 2>/dev/null && "$work/probe" 2>/dev/null
-}
-
 # Builds for this machine, with the C side's checks. Where it is not x86-64 they are linked with the library's code compiled for it
 # (host/native.sh): the checks are of the C side, and names as text are held there too.
 by_checked_builds() {

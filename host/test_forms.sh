@@ -185,7 +185,7 @@ by_time() {
 
 by_own_programs() {
     local name sanitize=
-    if echo 'int main(void) { return 0; }' | cc -fsanitize=address,undefined -x c -o "$work/probe" - 2>/dev/null; then
+    if has_check address,undefined; then
         sanitize="-g -fsanitize=address,undefined -fno-sanitize-recover=all"
     fi
     for name in "look: host/look.c" "names: host/names.c" "layout: host/layout.c"; do

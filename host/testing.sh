@@ -30,3 +30,8 @@ counts() {
     echo "$1: $passed passed, $failed failed, $skipped skipped"
     [ $failed -eq 0 ]
 }
+
+# has_check CHECK: whether the compiler has it, and what it makes runs here. $work is a folder for what is made.
+has_check() {
+    echo 'int main(void) { return 0; }' | cc -fsanitize="$1" -x c -o "$work/probe" - 2>/dev/null && "$work/probe" 2>/dev/null
+}
