@@ -1,0 +1,112 @@
+"""Single records: their kinds, their values, read and written."""
+
+from __future__ import annotations
+
+import ctypes
+from dataclasses import dataclass, replace
+from enum import IntEnum
+from typing import Optional, Union
+
+from . import _library
+from ._facts import FIELDS
+from .refused import Refused
+
+Buffer = Union[bytes, bytearray, memoryview]
+
+_DOES_NOT_FIT = 20
+
+
+class Kind(IntEnum):
+    """The kinds of record, by the library's numbers."""
+
+    MESH = 1
+    LAYER = 2
+    NODE = 3
+    LINE = 4
+    COORDINATES = 5
+    AREA = 6
+    LOOP = 7
+
+
+_NUMBERS = {kind: tuple(name for name, _, _, what in FIELDS[kind.name] if what == "NUMBER") for kind in Kind}
+_NAME_BYTES = {kind: sum(width for _, _, width, what in FIELDS[kind.name] if what == "NAME") for kind in Kind}
+
+
+def as_bytes(data: Buffer) -> bytes:
+    """The bytes of a buffer; they are copied only where somebody could change them."""
+    return data if isinstance(data, bytes) else bytes(memoryview(data))
+
+
+def fits_32_bits(number: int) -> bool:
+    """Whether C's int32_t holds it."""
+    return -(2**31) <= number < 2**31
+
+
+def text_of(name: bytes) -> Optional[str]:
+    """A name as text, by CP932, as it stands, full-width spaces behind it and all; None where it has none.
+
+    That is no part of the rules: they ask for pairs of bytes, and some pairs are no character.
+    """
+    try:
+        return name.decode("cp932")
+    except UnicodeDecodeError:
+        return None
+
+
+@dataclass(frozen=True)
+class Record:
+    """A record's value: its kind, its numbers in column order and its name bytes (M and A have a name).
+
+    `record["left_area"]` is a number by its field's name; the names are those of `stragumella record`.
+    """
+
+    kind: Kind
+    numbers: tuple[int, ...]
+    name: bytes = b""
+
+    @classmethod
+    def read(cls, kind: int, data: Buffer) -> Record:
+        """Reads 74 bytes as a record of that kind. Only the form of the fields is judged: refused with 1, 2, 3, 5 or 7."""
+        known = kind if kind in _NUMBERS else 0  # 0 is none of the kinds, as every other number, and fits C's
+        lent = as_bytes(data)
+        reading = _library.read_record(known, lent, len(lent))
+        if reading.number != 0:
+            raise Refused(reading.number, reading.record, reading.column)
+        value = reading.value
+        found = Kind(value.kind)
+        return cls(found, tuple(value.numbers[: len(_NUMBERS[found])]), bytes(value.name)[: _NAME_BYTES[found]])
+
+    def write(self) -> bytes:
+        """The record's 74 bytes. Refused with 20 where a number or the name doesn't fit."""
+        if len(self.numbers) > _library.NUMBERS or len(self.name) > _library.NAME_BYTES:
+            raise Refused(_DOES_NOT_FIT)
+        if self.kind not in _NUMBERS or not all(map(fits_32_bits, self.numbers)):
+            raise Refused(_DOES_NOT_FIT)
+        value = _library.Record(kind=self.kind)
+        value.numbers[: len(self.numbers)] = self.numbers
+        value.name[: len(self.name)] = list(self.name)
+        buffer = ctypes.create_string_buffer(_library.RECORD_BYTES)
+        number = _library.write_record(value, buffer, _library.RECORD_BYTES)
+        if number != 0:
+            raise Refused(number)
+        return buffer.raw
+
+    def __getitem__(self, field: str) -> int:
+        return self.fields[field]
+
+    @property
+    def fields(self) -> dict[str, int]:
+        """The numbers by their fields' names, in column order."""
+        return dict(zip(_NUMBERS[self.kind], self.numbers))
+
+    @property
+    def name_text(self) -> Optional[str]:
+        """The name as text (CP932), or None where it has none."""
+        return text_of(self.name)
+
+    def replace(self, name: Optional[bytes] = None, **fields: int) -> Record:
+        """The same record with another name, or other numbers in these fields."""
+        numbers = {**self.fields, **fields}
+        if len(numbers) > len(self.numbers):
+            raise KeyError(f"{self.kind.name} has no field {list(numbers)[-1]}")
+        return replace(self, numbers=tuple(numbers.values()), name=self.name if name is None else name)

@@ -1,0 +1,117 @@
+"""Single records read and written, positions, and the exception."""
+
+import pickle
+import unittest
+
+from outside import SMALLEST, told
+from stragumella import Kind, Position, Record, Refused, Sheet, position
+from stragumella._facts import FIELDS, REFUSALS
+
+S = SMALLEST.read_bytes()
+LINE = S[3 * 74 : 4 * 74]
+
+
+class Records(unittest.TestCase):
+    def refused(self, number, record, column, call, *given):
+        with self.assertRaises(Refused) as caught:
+            call(*given)
+        refused = caught.exception
+        self.assertEqual((refused.number, refused.record, refused.column), (number, record, column))
+
+    def test_fields_as_the_tool_shows_them(self):
+        sheet = Sheet(S)
+        for k in range(1, 8):
+            (object_,) = told("record", k, SMALLEST)
+            fields = {key: value for key, value in object_["fields"].items() if not key.startswith("name")}
+            record = sheet.record(k)
+            self.assertEqual(record.fields, fields)
+            self.assertEqual(record.name.hex().upper(), object_["fields"].get("name", ""))
+
+    def test_written_and_read(self):
+        record = Record.read(Kind.LINE, LINE)
+        changed = record.replace(points=12, left_area=3)
+        self.assertEqual((changed["points"], changed["left_area"], changed["right_area"]), (12, 3, 1))
+        self.assertEqual(Record.read(Kind.LINE, changed.write()), changed)
+        self.assertEqual(record.write(), LINE)
+
+    def test_names(self):
+        record = Record.read(Kind.MESH, S[:74])
+        self.assertEqual(record.name_text, "\u3000" * 10)
+        named = record.replace(name="東京首部".encode("cp932") + b"\x81\x40" * 6)
+        self.assertEqual(Record.read(Kind.MESH, named.write()).name_text, "東京首部" + "\u3000" * 6)
+        unknown = record.replace(name=b"\xfc\xfc" * 10)
+        self.assertEqual(Record.read(Kind.MESH, unknown.write()), unknown)
+        self.assertIsNone(unknown.name_text)
+
+    def test_no_such_field(self):
+        record = Record.read(Kind.LINE, LINE)
+        with self.assertRaises(KeyError):
+            record["mesh_code"]
+        with self.assertRaises(KeyError):
+            record.replace(mesh_code=1)
+
+    def test_readings_refused(self):
+        self.refused(1, 1, 1, Record.read, Kind.LINE, LINE[:73])
+        self.refused(1, 1, 1, Record.read, Kind.LINE, b"")
+        self.refused(2, 1, 74, Record.read, Kind.LINE, LINE[:73] + b" ")
+        self.refused(3, 1, 1, Record.read, Kind.NODE, LINE)
+        self.refused(5, 1, 1, Record.read, Kind.COORDINATES, LINE)
+        for kind in (0, 8, -1, 2**32 + 4, 2**70):
+            self.refused(3, 1, 1, Record.read, kind, LINE)
+
+    def test_writings_refused(self):
+        record = Record.read(Kind.LINE, LINE)
+        for number in (100000, -10000, 2**31, -(2**31) - 1, 2**32 + 1, 2**70):
+            self.refused(20, 0, 0, record.replace(left_code=number).write)
+        self.refused(20, 0, 0, Record(Kind.LINE, record.numbers + (0, 0)).write)
+        self.refused(20, 0, 0, Record(Kind.LINE, record.numbers + (1,)).write)
+        self.refused(20, 0, 0, Record(Kind.LINE, record.numbers, b"\x81\x40").write)
+        self.refused(20, 0, 0, Record(Kind.MESH, (533945, 1, 1, 1, 1, 0, 7), b"\x81").write)
+        self.refused(20, 0, 0, Record(Kind.MESH, (533945, 1, 1, 1, 1, 0, 7), b"\x81\x40" * 21).write)
+        self.refused(20, 0, 0, Record(9, ()).write)
+        with self.assertRaises(TypeError):
+            record.replace(left_code=1.5).write()
+
+    def test_kinds_are_the_lists(self):
+        self.assertEqual([kind.name for kind in Kind], list(FIELDS))
+        for kind in Kind:
+            column = 1
+            for _, start, width, _ in FIELDS[kind.name]:
+                self.assertEqual(start, column)
+                column += width
+            self.assertEqual(column, 75)
+
+
+class Positions(unittest.TestCase):
+    def test_the_rules_cases(self):
+        self.assertEqual(position(533945, 10000, 10000), Position(35.75, 139.75))
+        self.assertEqual(position(533945, 0, 0).longitude, 139.625)
+        (object_,) = told("where", 533945, 1, 1)
+        self.assertEqual(position(533945, 1, 1)._asdict(), {key: object_[key] for key in ("latitude", "longitude")})
+
+    def test_refused(self):
+        for mesh, x, y in ((533985, 0, 0), (533945, -1, 0), (533945, 0, 10001), (2**32 + 533945, 0, 0), (533945, 2**32, 0), (533945, 0, -(2**40))):
+            with self.assertRaises(Refused) as caught:
+                position(mesh, x, y)
+            self.assertEqual(caught.exception.number, 6)
+
+
+class Exceptions(unittest.TestCase):
+    def test_texts_are_the_tools(self):
+        for number in REFUSALS:
+            (object_,) = told("explain", number)
+            refused = Refused(number)
+            self.assertEqual((refused.text, refused.rule, refused.section, refused.mend), tuple(object_[key] for key in ("message", "rule", "section", "mend")))
+
+    def test_one_exception_that_travels(self):
+        refused = Refused(12, 5, 41)
+        self.assertEqual(str(refused), "12 at 5,41: the number or point disagrees with what it names")
+        again = pickle.loads(pickle.dumps(refused))
+        self.assertEqual((type(again), again.number, again.record, again.column, again.text), (Refused, 12, 5, 41, refused.text))
+
+    def test_a_number_of_a_later_version(self):
+        self.assertEqual(str(Refused(99, 1, 2)), "99 at 1,2: an unknown refusal")
+
+
+if __name__ == "__main__":
+    unittest.main()
