@@ -124,6 +124,11 @@ by_python() {
     else
         fail "Python and C" "only $shown lines and areas were compared"
     fi
+    for n in 12 13 40; do
+        python3 python/tests/made.py $n >"$work/made.dat"
+        same area_rings "$work/made.dat" 533945 1 1 && same line_points "$work/made.dat" 533945 1 $((n + 1)) &&
+            pass "Python and C: a loop of $n entries, a hole, a line of three records"
+    done
     if python3 examples/layer_figures.py $refused >"$work/out" 2>"$work/err"; then
         fail "Python, a refused sheet" "no status"
     elif [ "$(cat "$work/err")" = "$refused: refused: 16 at 7,1: the loop measures 0 or runs the wrong way round" ]; then

@@ -106,6 +106,7 @@ class Exceptions(unittest.TestCase):
     def test_one_exception_that_travels(self):
         refused = Refused(12, 5, 41)
         self.assertEqual(str(refused), "12 at 5,41: the number or point disagrees with what it names")
+        self.assertEqual(repr(refused), "Refused(12, 5, 41)")
         again = pickle.loads(pickle.dumps(refused))
         self.assertEqual((type(again), again.number, again.record, again.column, again.text), (Refused, 12, 5, 41, refused.text))
 

@@ -6,6 +6,7 @@ import threading
 import unittest
 from pathlib import Path
 
+from made import HOLE, framed
 from outside import COASTS, REFUSED, SMALLEST, told, with_bytes
 from stragumella import Kind, Outcome, Refused, Sheet, Sums
 
@@ -175,6 +176,24 @@ class Samples(unittest.TestCase):
         for thread in threads:
             thread.join()
         self.assertEqual(counts, [Sheet.open(COASTS[1]).judge()] * 4)
+
+
+class Made(unittest.TestCase):
+    """Sheets that are made of records: loops and lines of several records, a hole."""
+
+    def test_loops_of_several_records(self):
+        for n in (4, 11, 12, 13, 24, 25, 40):
+            sheet = Sheet(framed(n))
+            self.assertEqual(sheet.judge()[:5], (1, 1, n + 1, n + 1, 2))
+            whole, hole = sheet.layers[0].areas
+            self.assertEqual([(ring.serial, ring.entries) for ring in whole.rings], [(1, tuple(range(1, n + 1))), (-2, (-n - 1,))])
+            self.assertEqual([(ring.serial, ring.entries) for ring in hole.rings], [(1, (n + 1,))])
+            self.assertEqual((whole.measure, hole.measure), (200000000 - 8000000, 8000000))
+            self.assertEqual(whole.measure, sum(doubled(ring.points) for ring in whole.rings))
+            self.assertEqual(list(hole.rings[0].points), HOLE)
+            self.assertEqual(hole.rings[0].points, whole.rings[1].points[::-1])
+            self.assertEqual(len(whole.rings[0].points), n + 1)
+            self.assertEqual(b"".join(record.write() for record in sheet.records()), sheet.data)
 
 
 class RefusedSheets(unittest.TestCase):
