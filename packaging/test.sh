@@ -122,12 +122,13 @@ install() {
 by_files() {
     local wanted
     wanted=$(wanted_listing)
-    same "install runs nothing but its own script" 1 "$(make -n install | tee "$work/out" | grep -c packaging/install.sh)$(sed 1d "$work/out")"
+    same "install runs its own script and nothing else" "packaging/install.sh install" "$(make -n install | sed '1s/.* packaging/packaging/')"
     install "install" 077 PREFIX="$folder"
     same "the files and their modes, with a umask of 077" "$wanted" "$(listing "$folder")"
     install "install once more" 000 PREFIX="$folder"
     same "the files and their modes, installed twice, with a umask of 000" "$wanted" "$(listing "$folder")"
     holds "what is installed is what was built" built_is_installed
+    same "the tool runs, found by the path" "status=ok" "$(PATH=$folder/bin:$PATH && stragumella check $smallest 2>&1 | head -n 1)"
     install "install in parts" 022 PREFIX="$work/parts" LIBDIR="$work/parts/lib64" MANDIR="$work/pages" BINDIR="$work/programs"
     same "places of their own" "$(find "$folder" -type f | wc -l)" \
         "$(find "$work/parts/lib64" "$work/parts/include" "$work/parts/share" "$work/pages/man"[13] "$work/programs" -type f | wc -l)"
@@ -151,6 +152,8 @@ by_staging() {
         "$(cat "$stage$prefix"/lib/pkgconfig/*.pc | grep ^prefix= | tr '\n' ' ' | sed 's/ $//')"
     holds "DESTDIR: uninstall" make -s uninstall DESTDIR="$stage" PREFIX="$prefix"
     same "DESTDIR: uninstall leaves no file" "" "$(find "$stage" -not -type d)"
+    install "install with an empty prefix" 022 DESTDIR="$work/root" PREFIX=
+    same "an empty prefix: the files and their modes" "$(wanted_listing)" "$(listing "$work/root")"
 }
 
 by_refused_places() {
@@ -223,9 +226,12 @@ by_next_version() {
     sed 's/\(VERSION_MAJOR\) .*/\1 7/; s/\(VERSION_MINOR\) .*/\1 8/; s/\(VERSION_PATCH\) .*/\1 9/' $header >"$next/$header"
     touch "$next/target/host/stragumella" "$next/target/host/stragumella.x86-64" "$next/target/lib/libstragumella."{a,so.7}
     (cd "$next" && make -s install -o tool -o library PREFIX="$next/there") >"$work/out" 2>&1
-    same "the next version, from the header alone" "7.8.9 7.8.9 7.8.9 7.8.9 libstragumella.so.7" \
-        "$(cd "$next/there" && echo "$(page_version share/man/man1/stragumella.1)" "$(page_version share/man/man3/stragumella.3)" \
-            "$(sed -n 's/^Version: //p' lib/pkgconfig/stragumella.pc lib/pkgconfig/stragumella-static.pc)" "$(readlink lib/libstragumella.so)" | xargs)"
+    same "the next version, from the header alone" "7.8.9 7.8.9 7.8.9 7.8.9 libstragumella.so.7" "$({
+        page_version "$next/there/share/man/man1/stragumella.1"
+        page_version "$next/there/share/man/man3/stragumella.3"
+        cat "$next/there/lib/pkgconfig/"*.pc | sed -n 's/^Version: //p'
+        readlink "$next/there/lib/libstragumella.so"
+    } | xargs)"
 }
 
 # ---- programs
@@ -378,15 +384,23 @@ man_finds() {
     holds "$1" grep -q "stragumella_outcome $2" "$work/page"
 }
 
-# The page's example, taken out of it, compiled as the page says, and run.
+# The page's example, taken out of it, compiled by the lines that the page gives, and run.
 by_page_example() {
+    local line name
     here "the page's example" pkg-config || return
     [ "$machine" = x86_64 ] || here "the page's example" clang || return
-    sed -n '/^\.EX/,/^\.EE/p' "$1" | sed '/^\./d; s/\\e/\\/g; s/\\-/-/g' >"$work/example.c"
-    build "the page's example" C stragumella "$work/example" "$work/example.c" || return
-    same "the page's example: a sheet" 200000000 "$(run "$work/example" <$smallest)"
-    same "the page's example: a refused one" "refused: 16 at 7,1" "$(run "$work/example" <samples/refused-16-loop-walked-backwards.dat)"
-    same "the page's example: no sheet" "too long, or cannot be read" "$(head -c 74001 /dev/zero | run "$work/example")"
+    sed -n '/^\.EX/,/^\.EE/p' "$1" | sed '/^\./d; s/\\e/\\/g; s/\\-/-/g' >"$work/prog.c"
+    same "the page has two lines to compile by" 2 "$(grep -c '^cc .*prog\.c' "$1")"
+    while read -r line; do
+        name="the page's example: $line"
+        if ! eval "$compilers${line/prog.c/-o \"\$work/prog\" \"\$work/prog.c\"}" 2>"$work/err"; then
+            fail "$name" "$(head -n 5 "$work/err")"
+            continue
+        fi
+        same "$name: a sheet" 200000000 "$(run "$work/prog" <$smallest)"
+        same "$name: a refused one" "refused: 16 at 7,1" "$(run "$work/prog" <samples/refused-16-loop-walked-backwards.dat)"
+        same "$name: no sheet" "too long, or cannot be read" "$(head -c 74001 /dev/zero | run "$work/prog")"
+    done < <(sed -n '/^cc .*prog\.c/s/\\-/-/gp' "$1")
 }
 
 . packaging/test_completion.sh
