@@ -122,7 +122,7 @@ install() {
 by_files() {
     local wanted
     wanted=$(wanted_listing)
-    same "install runs its own script and nothing else" "packaging/install.sh install" "$(make -n install | sed '1s/.* packaging/packaging/')"
+    same "install runs its script and nothing else" "packaging/install.sh install" "$(make -n install | sed '1s/.* packaging/packaging/')"
     install "install" 077 PREFIX="$folder"
     same "the files and their modes, with a umask of 077" "$wanted" "$(listing "$folder")"
     install "install once more" 000 PREFIX="$folder"
