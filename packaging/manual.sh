@@ -40,12 +40,12 @@ declarations() {
     ' "$header" | sed 1d
 }
 
-# A paragraph for each row of the table of refusals: its number, its words, and in brackets its stage and its column.
+# A paragraph for each row of the table of refusals: its number, its words, and in square brackets its stage and its column.
 refusals() {
     awk '
         function put() {
             if (number != "")
-                printf ".TP 5\n.B %s\n%s\n(%s%s)\n", number, text, stage, column
+                printf ".TP 5\n.B %s\n%s\n[%s%s]\n", number, text, stage, column
         }
         /^ \*   No\. Stage/ { table = 1; next }
         table && /^ \*$/ { exit }

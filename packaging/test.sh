@@ -349,7 +349,7 @@ by_pages() {
     same "the library's page has the header's refusals" "$(refusal_numbers)" \
         "$(sed -n '/^\.SH RETURN VALUE/,/^\.SH THREADS/s/^\.B \([0-9]*\)$/\1/p' "${pages[1]}")"
     same "the library's page tells of each call" "$(declared_calls)" \
-        "$(sed -n 's/^\.BR \(stragumella_[a-z_]*\) ()$/\1/p' "${pages[1]}" | sort)"
+        "$(sed -n '/^\.TP/{n;s/^\.BR \(stragumella_[a-z_]*\) ()$/\1/p}' "${pages[1]}" | sort)"
     same "the library's page names each call, for whatis" "$(declared_calls)" \
         "$(sed -n '/^\.SH NAME/{n;s/ \\- .*//p}' "${pages[1]}" | grep -o 'stragumella_[a-z_]*' | sort)"
     for page in "${pages[@]}"; do
