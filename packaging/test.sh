@@ -143,10 +143,10 @@ built_is_installed() {
 
 # A package is put together below DESTDIR; its files know nothing of that.
 by_staging() {
-    local stage="$work/the stage" prefix="/opt/somewhere else"
+    local stage="$work/the stage" prefix="/srv/somewhere else"
     install "install below DESTDIR" 022 DESTDIR="$stage" PREFIX="$prefix"
     same "DESTDIR: the files and their modes" "$(wanted_listing)" "$(listing "$stage$prefix")"
-    same "DESTDIR: nothing beside them" "$stage/opt $stage$prefix" "$(echo "$stage"/* "$stage"/opt/*)"
+    same "DESTDIR: nothing beside them" "$stage/srv $stage$prefix" "$(echo "$stage"/* "$stage"/srv/*)"
     same "DESTDIR: stands in no file" "" "$(grep -rlF "$stage" "$stage")"
     same "DESTDIR: the pkg-config files say the prefix" "prefix=$prefix prefix=$prefix" \
         "$(cat "$stage$prefix"/lib/pkgconfig/*.pc | grep ^prefix= | tr '\n' ' ' | sed 's/ $//')"
