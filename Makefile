@@ -6,6 +6,9 @@
 # make library  builds the archive and the shared library, under target/lib
 # make own-library  builds what programs of this machine can be linked with in tests; on x86-64 the same
 # make python  installs the Python package for this machine under target/python
+# make man    makes the manual pages, under target/man
+# make install    builds, then installs tool, library, header, manual pages and completions below PREFIX (/usr/local), or DESTDIR/PREFIX
+# make uninstall  takes away what make install put there
 # make version  prints the version, which stands in include/stragumella.h alone
 # make clean  removes what make built; the library and the proofs stay
 #
@@ -42,7 +45,25 @@ SOURCES = $(PARTS:%=host/%.c)
 HEADERS = $(wildcard host/*.h host/*.inc) include/stragumella.h
 COMPILE = $(CC) $(CFLAGS) -D_POSIX_C_SOURCE=200809L -pthread -Iinclude
 
-.PHONY: run test compare bench tool library own-library python version clean
+# Where things are installed. DESTDIR stands before each place when files are written and in no file: for packages.
+PREFIX = /usr/local
+BINDIR = $(PREFIX)/bin
+LIBDIR = $(PREFIX)/lib
+INCLUDEDIR = $(PREFIX)/include
+DATADIR = $(PREFIX)/share
+MANDIR = $(DATADIR)/man
+DOCDIR = $(DATADIR)/doc/stragumella
+PKGCONFIGDIR = $(LIBDIR)/pkgconfig
+BASHDIR = $(DATADIR)/bash-completion/completions
+ZSHDIR = $(DATADIR)/zsh/site-functions
+
+PAGES = target/man
+PLACES = DESTDIR PREFIX BINDIR LIBDIR INCLUDEDIR MANDIR DOCDIR PKGCONFIGDIR BASHDIR ZSHDIR
+INSTALLED = TOOL ARCHIVE SHARED PAGES VERSION MACHINE
+quoted = '$(subst ','\'',$(1))'
+INSTALL = $(foreach name,$(PLACES) $(INSTALLED),$(name)=$(call quoted,$($(name)))) packaging/install.sh
+
+.PHONY: run test compare bench tool library own-library python man install uninstall version clean
 
 # A refused sheet is among the samples, so status 1 is as it should be.
 run: $(TOOL)
@@ -65,6 +86,14 @@ own-library: $(OWN_ARCHIVE) $(OWN_SHARED)
 
 version:
 	@echo $(VERSION)
+
+man: $(PAGES)/stragumella.1 $(PAGES)/stragumella.3
+
+install: tool library man
+	@$(INSTALL) install
+
+uninstall:
+	@$(INSTALL) uninstall
 
 # rt knows what is proved already; make only asks it when a crate changed.
 $(LIBRARY): crates.txt $(shell find crates -type f -not -path '*/must-fail/*')
@@ -90,6 +119,14 @@ target/native/libstragumella.a: $(LIBRARY) host/native.sh
 
 target/native/libstragumella.so.$(MAJOR): target/native/libstragumella.a packaging/shared.sh include/stragumella.h
 	packaging/shared.sh $@ $< $(NAMES) ld $$($(CC) -print-file-name=libc.so.6)
+
+MANUAL = packaging/manual.sh packaging/calls.sh include/stragumella.h
+
+$(PAGES)/stragumella.1: host/stragumella.1 $(MANUAL)
+	packaging/manual.sh $@ $< $(VERSION)
+
+$(PAGES)/stragumella.3: packaging/stragumella.3.in $(MANUAL)
+	packaging/manual.sh $@ $< $(VERSION)
 
 ifeq ($(MACHINE),x86_64)
 $(TOOL): $(SOURCES) $(HEADERS) $(LIBRARY)
@@ -144,4 +181,4 @@ target/host/answer: second/answer.c host/system.h include/stragumella.h $(LIBRAR
 	host/bare.sh $@ $(LIBRARY) second/answer.c
 
 clean:
-	rm -rf target/host target/lib target/native target/python
+	rm -rf target/host target/lib target/native target/python target/man

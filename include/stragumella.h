@@ -59,7 +59,7 @@
  *
  * What a version promises
  *   A version has three numbers, MAJOR.MINOR.PATCH. They stand below and nowhere else: the tool, the shared library, the
- *   pkg-config file, the manual pages and the Python package take them from here. CHANGELOG.md says what each version
+ *   pkg-config files, the manual pages and the Python package take them from here. CHANGELOG.md says what each version
  *   changed.
  *   - Numbers. A refusal's number keeps its meaning in every version. A number that is no longer given is never given
  *     another meaning. A version may add numbers, so take every number but 0 for a refusal.
