@@ -11,8 +11,7 @@ from stragumella import Area, Refused, Ring, Sheet
 
 
 def in_degrees(ring: Ring) -> list[tuple[float, float]]:
-    places = (ring.area.layer.mesh.position(point.x, point.y) for point in reversed(ring.points))
-    return [(place.longitude, place.latitude) for place in places]
+    return [(place.longitude, place.latitude) for place in reversed(ring.positions)]
 
 
 def feature(area: Area) -> dict[str, Any]:

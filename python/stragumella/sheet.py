@@ -8,7 +8,7 @@ from __future__ import annotations
 
 import ctypes
 import os
-from collections.abc import Callable, Iterator, Sequence
+from collections.abc import Callable, Iterable, Iterator, Sequence
 from dataclasses import dataclass, field
 from functools import cached_property
 from typing import TYPE_CHECKING, Any, Generic, NamedTuple, Optional, TypeVar, Union, overload
@@ -131,6 +131,11 @@ class Line:
         return tuple(map(Point, numbers[0 : 2 * self.count : 2], numbers[1 : 2 * self.count : 2]))
 
     @property
+    def positions(self) -> tuple[Position, ...]:
+        """The points in degrees."""
+        return self.layer.mesh.positions(self.points)
+
+    @property
     def start(self) -> Node:
         return self.layer.node(self.start_node)
 
@@ -173,6 +178,11 @@ class Ring:
             line = self.area.layer.line(abs(entry)).points
             points += (line if entry > 0 else line[::-1])[1 if points else 0 :]
         return tuple(points)
+
+    @property
+    def positions(self) -> tuple[Position, ...]:
+        """The points in degrees."""
+        return self.area.layer.mesh.positions(self.points)
 
     def array(self) -> NDArray[numpy.int64]:
         """The points as an array of numpy, a row a point."""
@@ -381,6 +391,10 @@ class Mesh:
     def position(self, x: int, y: int) -> Position:
         """A point of this mesh in degrees. Refused with 6 where x or y is not 0 to 10000."""
         return position(self.code, x, y)
+
+    def positions(self, points: Iterable[Point]) -> tuple[Position, ...]:
+        """Points of this mesh in degrees."""
+        return tuple(self.position(x, y) for x, y in points)
 
 
 class _Row(NamedTuple):

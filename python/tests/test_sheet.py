@@ -151,6 +151,11 @@ class Samples(unittest.TestCase):
                     self.assertIn(line.serial, line.start.entries)
                     self.assertIn(-line.serial, line.end.entries)
 
+    def test_positions(self):
+        for layer in Sheet.open(COASTS[0]).layers:
+            for thing in (*layer.lines, *(ring for area in layer.areas for ring in area.rings)):
+                self.assertEqual(list(thing.positions), [layer.mesh.position(*point) for point in thing.points])
+
     def test_serials(self):
         for path in TAKEN:
             for layer in Sheet.open(path).layers:
