@@ -104,6 +104,15 @@ code-read s c w v (suc (suc m)) h =
     let z : _≡_ {A = ℕ} 0 1 = cc in
     absurd (omega arith)
 
+-- a code with a mark is 0
+pub marked-zero : (s : List ℕ) (c w : ℕ) (v : ℤ) (m : ℕ) → codeAt s c w ≡ Value v (suc m) → v ≡ pos 0
+unfolding codeHolds
+marked-zero s c w v zero e = land-holds w v (code-says s c w v 1 e .held) .1
+marked-zero s c w v (suc m) e =
+    let h = code-says s c w v (suc (suc m)) e .held in
+    let z : _≡_ {A = ℕ} 0 1 = cc in
+    absurd (omega arith)
+
 -- the answer by refusal number (RULES 6.2): 0 with the value and the mark that the field says, or 5 where it says none
 answer-by : (s : List ℕ) (c w : ℕ) (r : Code) → codeAt s c w ≡ r
     → ((codeRefusal r ≡ 0) × CodeSays s c w (codeValue r) (codeMark r)) ⊎ ((codeRefusal r ≡ 5) × ((v : ℤ) (m : ℕ) → CodeSays s c w v m → ⊥))
