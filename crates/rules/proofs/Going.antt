@@ -10,14 +10,16 @@ use lib.IntN.{ℤ}
 use lib.ListN.{length, getD, drop, set, length-set, drop-of-length-le}
 use Rattle.fields.specs.Number.{numberAt}
 use Rattle.fields.specs.Text.{isBlanks, isName, textAt}
+use Rattle.codes.specs.declared.Code as codes
+use Rattle.codes.specs.declared.Code.the-variants as code
 use Rattle.fields.specs.declared.Number as numbers
 use Rattle.fields.specs.declared.Number.the-variants as number
 use Rattle.fields.specs.declared.Text as texts
 use Rattle.fields.specs.declared.Text.the-variants as text
 use Rattle.records.specs.Layout.{layoutOf, startOf, numbersOf, total}
-use Rattle.records.specs.Reading.{lettersFault, faultOf, zeros}
+use Rattle.records.specs.Reading.{lettersFault, codeIn, faultOf, zeros}
 use Rattle.records.specs.declared.Field.{Field}
-use Rattle.records.specs.declared.Field.the-variants.{End, Letters, Number, Name, Blank}
+use Rattle.records.specs.declared.Field.the-variants.{End, Letters, Number, Code, Name, Blank}
 use Rattle.records.proofs.Layouts.{isField, on-layout, off-layout, split, total-split, fitting, start-small}
 use Rattle.verdict.specs.declared.Verdict.the-variants.{Fine, Broken}
 use Rattle.verdict.specs.Rules.{Check, check, firstBroken, block}
@@ -134,6 +136,29 @@ module _ {d : Due} {t : List ℕ} {r : ℕ} {ns : List ℤ} {n j : ℕ} (g : Goi
         many = rw length-set (g .many);
         room = next-room (Number c w) e refl (n + 1) refl;
         answer = rw (add-one n) (sym (values-kept r c _ (askedOf d n (set ns n v)) (sym p ∙ h)) ∙ asked);
+      }
+
+  module _ (c w : ℕ) (e : Code c w ≡ getD (layoutOf (kindOf d)) j End) {m : codes.Code} (q : m ≡ codeIn t c w) where
+    pub code-ill : m ≡ code.Refused → Broken 5 r c ≡ firstBroken (block 2 r (checksOf d t))
+    unfolding along formChecks faultOf
+    code-ill z = sym (check-broken 2 r c 5 _ _ (rw (← q, z))) ∙ step (Code c w) e refl
+
+    module _ (v : ℤ) (x : ℕ) (z : m ≡ code.Value v x) where
+      -- a well-formed code: what is asked of it comes next
+      code-asked : firstBroken
+          (block 2 r (valueChecks c (askedOf d n (set ns n v)) ++ along (askedOf d) (drop (j + 1) (layoutOf (kindOf d))) (suc n) (set ns n v) t))
+          ≡ firstBroken (block 2 r (checksOf d t))
+      unfolding along formChecks faultOf
+      code-asked = rw (← q, z) at (sym (check-kept 2 r c 5 _ _ (rw (← q, z))) ∙ step (Code c w) e refl)
+
+      pub code-broken : {k : ℕ} → k ≡ firstAsked (askedOf d n (set ns n v)) → (k ≡ 0 → ⊥) → Broken k r c ≡ firstBroken (block 2 r (checksOf d t))
+      code-broken {k} p h = sym (values-broken r c _ (askedOf d n (set ns n v)) k (sym p) h) ∙ code-asked
+
+      pub code-next : {k : ℕ} → k ≡ firstAsked (askedOf d n (set ns n v)) → k ≡ 0 → Going d t r (set ns n v) (n + 1) (j + 1)
+      code-next {k} p h = record {
+        many = rw length-set (g .many);
+        room = next-room (Code c w) e refl (n + 1) refl;
+        answer = rw (add-one n) (sym (values-kept r c _ (askedOf d n (set ns n v)) (sym p ∙ h)) ∙ code-asked);
       }
 
   module _ (c w : ℕ) (e : Name c w ≡ getD (layoutOf (kindOf d)) j End) {m : texts.Text} (q : m ≡ textAt isName t c w) where
