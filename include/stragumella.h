@@ -139,6 +139,7 @@ typedef struct {
     uint32_t kind;
     int32_t numbers[16];
     uint8_t name[40];
+    uint32_t marks[2]; /* of an L's two codes and an A's one: 1 where land stands as " 0000", else 0 */
 } stragumella_record;
 
 /* What reading a record answers. */
