@@ -423,7 +423,8 @@ fn changed_byte(compare: &mut Compare, file: &[u8], index: usize) -> Agreed {
     Ok(())
 }
 
-/// Part 1 also: sheet S with land on its ground, and every one-byte change of its layer codes and of its codes.
+/// Part 1 also: sheet S with land on its ground, and every one-byte change of its layer codes and of its codes; and land in a
+/// sheet of several layers.
 pub fn land_changes(compare: &mut Compare) -> Agreed {
     let records = land_s().records();
     let file = joined(&records);
@@ -434,6 +435,31 @@ pub fn land_changes(compare: &mut Compare) -> Agreed {
         for field in layer.into_iter().chain(codes) {
             for column in field.start..=field.end {
                 changed_byte(compare, &file, k * RECORD + column - 1)?;
+            }
+        }
+    }
+    land_among_layers(compare)
+}
+
+/// A sheet whose layers are 5, 1, 5 and 1, in three meshes, with each code spelled as land is, or nearly so.
+fn land_among_layers(compare: &mut Compare) -> Agreed {
+    let layer = |sheet: Sheet| sheet.meshes[0].layers[0].clone();
+    let (land, other) = (layer(land_s()), layer(sheet_s()));
+    let mut sheet = sheet_s();
+    let mut mesh = sheet.meshes.remove(0);
+    for layers in [vec![land.clone()], vec![other.clone(), land], vec![other]] {
+        mesh.layers = layers;
+        sheet.meshes.push(mesh.clone());
+        mesh.code += 1;
+    }
+    assert_accepted(&sheet);
+    let records = sheet.records();
+    for (index, (kind, _)) in records.iter().enumerate() {
+        for field in codes(*kind).iter().map(|index| layout(*kind).numbers[*index]) {
+            for text in ZEROS {
+                let mut changed = records.clone();
+                set(&mut changed[index].1, &field, text);
+                compare.file(&joined(&changed))?;
             }
         }
     }
