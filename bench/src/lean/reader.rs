@@ -6,7 +6,7 @@ use second::records::Refusal;
 
 /// Reads a single record. Refused, its value is the named kind with all else 0.
 pub fn read_record(kind: u32, bytes: &[u8]) -> (Refusal, RawValue) {
-    let empty = RawValue { kind, numbers: [0; 16], name: [0; 40] };
+    let empty = RawValue { kind, numbers: [0; 16], name: [0; 40], marks: [0; 2] };
     let refused = |number, column| (Refusal { number, record: 1, column }, empty);
     let Ok(record) = <&Record>::try_from(bytes) else {
         return refused(1, 1);
