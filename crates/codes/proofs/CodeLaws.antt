@@ -19,7 +19,8 @@ use Rattle.fields.specs.declared.Number.{Number}
 use Rattle.fields.proofs.Columns.{spell-length}
 use Rattle.fields.proofs.FieldLaws.{number-says, number-read}
 use Rattle.fields.proofs.Places.{both, bytes-length, put-inside, put-bytes, put-same}
-use Rattle.codes.specs.Code.{landText, isLand, landAt, coded, codeAt, codeRefusal, codeValue, codeMark, landHolds, codeHolds, spellCode, CodeSays, codeFits}
+use Rattle.codes.specs.Code.{landText, isLand, landAt, coded, codeAt, codeRefusal, codeValue, codeMark}
+use Rattle.codes.specs.Code.{landHolds, codeHolds, spellCode, CodeSays, codeFits}
 use Rattle.codes.specs.declared.Code.{Code}
 use Rattle.codes.specs.declared.Code.the-variants.{Value, Refused}
 
@@ -56,7 +57,8 @@ land-is = refl
 
 -- ---- what a field says
 
-says-by : (s : List ℕ) (c w : ℕ) (v : ℤ) (m : ℕ) (r : Number) (land : Bool) → numberAt s c w ≡ r → landAt s c w ≡ land → coded r land ≡ Value v m → CodeSays s c w v m
+says-by : (s : List ℕ) (c w : ℕ) (v : ℤ) (m : ℕ) (r : Number) (land : Bool) → numberAt s c w ≡ r → landAt s c w ≡ land
+    → coded r land ≡ Value v m → CodeSays s c w v m
 unfolding landAt codeHolds spellCode
 says-by s c w v m (number.Value u) land e l q =
     let p : u ≡ v = cc in

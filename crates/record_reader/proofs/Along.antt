@@ -95,7 +95,8 @@ module _ {L : List Field} {s : List ℕ} {ns : List ℤ} {nm ms : List ℕ} {n m
 
   -- no field is left
   all-read : End ≡ getD L j End
-      → (firstFault L s ≡ noFault) × (ns ≡ sets zeros 0 (over numbersIn L s)) × (nm ≡ sets noName 0 (over nameIn L s)) × (ms ≡ sets unmarked 0 (over marksIn L s))
+      → (firstFault L s ≡ noFault) × (ns ≡ sets zeros 0 (over numbersIn L s)) × (nm ≡ sets noName 0 (over nameIn L s))
+      × (ms ≡ sets unmarked 0 (over marksIn L s))
   unfolding firstFault over
   all-read e =
       let d : drop j L ≡ [] = drop-of-length-le L (off-layout L j (g .left .fits .tiled) e) in

@@ -10,7 +10,8 @@ use lib.ListN.{length, getD, take, drop, replicate, length-append, take-append-d
 use lib.Seq.{length-sets, getD-at, getD-append-add, drop-cons}
 use borrow.Author.Tests.{eq-eqb, eqb-true}
 use Rattle.records.specs.Layout.{layoutOf, numbersOf, bytesOf, marksOf, total}
-use Rattle.records.specs.Reading.{inLayerFive, numbersIn, nameIn, marksIn, over, firstFault, zeros, noName, unmarked, accepted, refusedAt, valueIn, fieldsBy, fieldsOf, readingOf}
+use Rattle.records.specs.Reading.{inLayerFive, numbersIn, nameIn, marksIn, over, firstFault, zeros, noName, unmarked}
+use Rattle.records.specs.Reading.{accepted, refusedAt, valueIn, fieldsBy, fieldsOf, readingOf}
 use Rattle.records.specs.Writing.{textOf, fits, recordBytes, ofLayerFive, fitsAll}
 use Rattle.permitted.specs.Permitted.{isZero, is}
 use Rattle.records.specs.declared.Kind.{Kind}
@@ -20,7 +21,8 @@ use Rattle.records.specs.declared.Reading.{Reading}
 use Rattle.records.specs.declared.Record.{Record}
 use Rattle.records.proofs.Layouts.{tiled, tiles-width, fitting}
 use Rattle.records.proofs.RoundTrips.{text-length, read-written, written-read, fits-rest, zero-number}
-use Rattle.records.proofs.RoundTrips.{every-same, every-row, laid, padded, over-short, numbers-short, name-short, marks-short, codes, same-fits, layer-written}
+use Rattle.records.proofs.RoundTrips.{every-same, every-row, laid, padded, over-short, numbers-short, name-short, marks-short}
+use Rattle.records.proofs.RoundTrips.{codes, same-fits, layer-written}
 
 -- a record's value has all its entries
 pub record Sized (r : Record) : Type 0 where
@@ -50,7 +52,8 @@ value-sized k s =
     sized-by k s (eqb (length s) 74) (eqb (getD s 72 0) 13) (eqb (getD s 73 0) 10) (firstFault (layoutOf k) s .number) (firstFault (layoutOf k) s .column)
 
 -- what fits is 72 columns
-pub columns-length : (five : Bool) (k : Kind) (ns : List ℤ) (nm ms : List ℕ) → fits five (layoutOf k) ns nm ms ≡ true → length (textOf (layoutOf k) ns nm ms) ≡ 72
+pub columns-length : (five : Bool) (k : Kind) (ns : List ℤ) (nm ms : List ℕ) → fits five (layoutOf k) ns nm ms ≡ true
+    → length (textOf (layoutOf k) ns nm ms) ≡ 72
 columns-length five k ns nm ms h = text-length five (layoutOf k) ns nm ms h ∙ tiles-width (layoutOf k) 1 (tiled k)
 
 -- ---- layer 5: a kind that has codes has its layer code in columns 3-4, and it is the first of its numbers
@@ -154,7 +157,7 @@ kept-value k s a =
     let v = laid 0 40 (over nameIn (layoutOf k) s) (omega arith) in
     let x = laid 0 2 (over marksIn (layoutOf k) s) (omega arith) in (
       rw (u, v, x) (same-fits _ (inLayerFive s) (layoutOf k) _ _ _ (read-layer k s us)
-      ∙ rw (w .fit, every-row isZero (pos 0) refl, every-row (λ b. eqb b 0) 0 refl, every-row (λ b. eqb b 0) 0 refl)),
+          ∙ rw (w .fit, every-row isZero (pos 0) refl, every-row (λ b. eqb b 0) 0 refl, every-row (λ b. eqb b 0) 0 refl)),
       rw (u, v, x, w .bytes, tiles-width (layoutOf k) 1 (tiled k)) (line-is s (a .long) (a .return) (a .feed)),
     )
 

@@ -25,7 +25,8 @@ use Rattle.fields.specs.declared.Number.the-variants as number
 use Rattle.fields.specs.declared.Text as fields-text
 use Rattle.fields.specs.declared.Text.the-variants as text
 use Rattle.records.specs.Layout.{startOf, widthOf, numbersOf, bytesOf, marksOf, total}
-use Rattle.records.specs.Reading.{lettersFault, inLayerFive, landed, codeIn, faultOf, numbersIn, nameIn, marksIn, over, Fault, noFault, faultAt, firstFault}
+use Rattle.records.specs.Reading.{lettersFault, inLayerFive, landed, codeIn, faultOf, numbersIn, nameIn, marksIn, over}
+use Rattle.records.specs.Reading.{Fault, noFault, faultAt, firstFault}
 use Rattle.records.specs.Writing.{every, fieldText, markFits, fieldFits, textOf, noNumbers, noBytes, fits}
 use Rattle.permitted.specs.Permitted.{isZero}
 use Rattle.records.specs.declared.Field.the-variants.{End, Letters, Number, Code, Name, Blank}
@@ -220,10 +221,24 @@ kept End s i l q ns nm ms =
     absurd (omega arith)
 kept (Letters a b) s i l q ns nm ms =
     let h = letters a b (getD s 0 0) (getD s 1 0) q in
-    record { there = inside-fits s 1 2 (omega arith) (omega arith); bytes = rw (← h .0, ← h .1) (two s l); fit = refl; numbers = refl; name = refl; marks = refl }
+    record {
+      there = inside-fits s 1 2 (omega arith) (omega arith);
+      bytes = rw (← h .0, ← h .1) (two s l);
+      fit = refl;
+      numbers = refl;
+      name = refl;
+      marks = refl;
+    }
 kept (Number c w) s i l q ns nm ms =
     let h = number-by s c w (numberAt s c w) refl q in
-    record { there = h .there; bytes = sym (h .spelled); fit = rw (le-leb 1 (suc (length ns)) (omega arith)) (h .held); numbers = refl; name = refl; marks = refl }
+    record {
+      there = h .there;
+      bytes = sym (h .spelled);
+      fit = rw (le-leb 1 (suc (length ns)) (omega arith)) (h .held);
+      numbers = refl;
+      name = refl;
+      marks = refl;
+    }
 kept (Code c w) s i l q ns nm ms =
     let h = code-by s c w (inLayerFive s) (codeAt s c w) refl q in
     record {
@@ -287,8 +302,7 @@ fits-rest five [] ns nm ms h =
     (q .0, r .0, r .1)
 fits-rest five (f ∷ fs) ns nm ms h =
     let q = both (fieldFits five f ns nm ms) (fits five fs (drop (numbersOf f) ns) (drop (bytesOf f) nm) (drop (marksOf f) ms)) h in
-    let r = fits-rest five fs (drop (numbersOf f) ns) (drop (bytesOf f) nm) (drop (marksOf f) ms) (q .1) in
-    (
+    let r = fits-rest five fs (drop (numbersOf f) ns) (drop (bytesOf f) nm) (drop (marksOf f) ms) (q .1) in (
       rw (← drop-drop (total numbersOf fs) (numbersOf f) ns) (r .0),
       rw (← drop-drop (total bytesOf fs) (bytesOf f) nm) (r .1),
       rw (← drop-drop (total marksOf fs) (marksOf f) ms) (r .2),

@@ -42,7 +42,8 @@ use Rattle.judge.specs.Outcomes.{outcomeBehind, tableBehind, outcomeOf, tableAf
 use Rattle.judge.specs.Outcomes.{outcomeOfAll, pairsTo, allSumsOf, sumsAfter}
 use Rattle.judge.specs.declared.Outcome.{Outcome}
 use Rattle.sheets.specs.Sheets.{written, mRecord, hRecord, nRecord, lRecord, points, aRecord, loopRecord, sheetS, changed, withMesh, Case, sheet}
-use Rattle.sheets.specs.Sheets.{field, codeField, number, also, landSheet, cases, twoMeshes, node, line, coordinates, area, loop, heads, sheetT, shore, sheetU, withoutHole, further}
+use Rattle.sheets.specs.Sheets.{field, codeField, number, also, landSheet, cases}
+use Rattle.sheets.specs.Sheets.{twoMeshes, node, line, coordinates, area, loop, heads, sheetT, shore, sheetU, withoutHole, further}
 
 -- what has to compute, under four names: a line that names one of them opens all that its own line names
 
@@ -59,7 +60,8 @@ walking = tt
 
 -- the rules
 judging : Unit {0}
-unfolding walking isLand landAt codeAt inLayerFive codeIn isName isBlanks textAt layoutOf faultOf within isMeshCode followsMesh isLayerCode followsLayer isDate isNodeItem isFrame isLineItem
+unfolding walking isLand landAt codeAt inLayerFive codeIn isName isBlanks textAt layoutOf faultOf within isMeshCode followsMesh isLayerCode
+    followsLayer isDate isNodeItem isFrame isLineItem
     isLineKind isLink isCode isSide isAreaCode isSlot isPoint isNext isLoopSerial from meshAsks layerAsks nodeAsks lineAsks coordinateAsks
     areaAsks loopAsks asksOf askedOf formChecks valueChecks along checksOf firstBroken block rows endChecks lengthChecks stageOne lastChecks
     stageTwo wordsOf roomRule early sumsFrom sumsBehind meshTotals layerTotals areaTotals stageThree gather tableOf numberIn slotStart spread wordsBefore
@@ -93,9 +95,73 @@ All (c ∷ cs) = Holds c × All cs
 -- RULES 11.2, 11.3: the cases
 pub cases-hold : All cases
 unfolding writing judging cases
-cases-hold =
-    (refl, (refl, (refl, (refl, (refl, (refl, (refl, (refl, (refl, (refl, (refl, (refl, (refl, (refl, (refl, (refl, (refl, (refl, (refl, (refl, (refl, (refl,
-    (refl, (refl, (refl, tt)))))))))))))))))))))))))
+cases-hold = (
+  refl,
+  (
+    refl,
+    (
+      refl,
+      (
+        refl,
+        (
+          refl,
+          (
+            refl,
+            (
+              refl,
+              (
+                refl,
+                (
+                  refl,
+                  (
+                    refl,
+                    (
+                      refl,
+                      (
+                        refl,
+                        (
+                          refl,
+                          (
+                            refl,
+                            (
+                              refl,
+                              (
+                                refl,
+                                (
+                                  refl,
+                                  (
+                                    refl,
+                                    (
+                                      refl,
+                                      (
+                                        refl,
+                                        (
+                                          refl,
+                                          (
+                                            refl,
+                                            (refl, (refl, (refl, tt))),
+                                          ),
+                                        ),
+                                      ),
+                                    ),
+                                  ),
+                                ),
+                              ),
+                            ),
+                          ),
+                        ),
+                      ),
+                    ),
+                  ),
+                ),
+              ),
+            ),
+          ),
+        ),
+      ),
+    ),
+  ),
+)
 
 -- each further file has the verdict that stands beside it
 pub further-judged : map (λ (c : List ℕ × Verdict). verdictOf (c .0) 12 2) further ≡ map (λ (c : List ℕ × Verdict). c .1) further

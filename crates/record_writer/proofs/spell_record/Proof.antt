@@ -80,9 +80,9 @@ code-room c = room (c .before .before .before .loop .inv) _ (code-is c) refl
 
 -- whether its mark may stand
 mark-may : (c : tie.After-may-mark Inv-loop μ-loop)
-    → c .may-mark .result
-    ≡ markFits (ofLayerFive (c .before .before .before .before .before .before .before .before .before .before .before .args .r .numbers))
-    (getD (c .before .before .before .before .before .before .before .before .before .before .before .args .r .marks) (c .before .before .before .before .before .before .before .loop .q) 0)
+    → let l = c .before .before .before .before .before .before .before in
+    let r = l .before .before .before .before .args .r in
+    c .may-mark .result ≡ markFits (ofLayerFive (r .numbers)) (getD (r .marks) (l .loop .q) 0)
 mark-may c = rw (c .before .is .ensures, toZ-ofZ {w = w32} (record { sfits = c .before .before .is-arg .given })) at (c .may-mark .ensures)
 
 loop-holds : tie.Need-loop-holds Inv-loop μ-loop
@@ -291,7 +291,8 @@ mul-write-code c = omega (arith, code-room (c .before .before .before .before .b
 
 array-copy-out-write-code : tie.Need-array-copy-out-write-code Inv-loop μ-loop
 array-copy-out-write-code c =
-    omega (arith, code-room (c .before .before .before .before .before .before), c .before .before .before .before .before .before .before .before .before .loop .inv .many)
+    let f = c .before .before .before .before .before .before in
+    omega (arith, code-room f, f .before .before .before .loop .inv .many)
 
 write-code-requires : tie.Need-write-code-requires Inv-loop μ-loop
 write-code-requires c κs = search needs

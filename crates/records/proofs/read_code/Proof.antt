@@ -1,46 +1,42 @@
+-- `records::read_code` meets its contract: a code without a mark is taken as it is, one with a mark in layer 5. Assumes nothing.
 use mir.Facts.{toZ-ofZ}
 use mir.Syntax.{w32}
 use borrow.Author.Tests.{not-true, not-false}
-use Rattle.records.proofs.Codes.{code-none, code-plain, code-elsewhere, code-land}
 use borrow.Author.Needs.{needs}
+use Rattle.records.proofs.Codes.{code-none, code-plain, code-elsewhere, code-land}
 use Rattle.records.proofs.read_code.Statement.{statement}
 use Rattle.records.proofs.read_code.Tie as tie
-use Rattle.records.proofs.read_code.Reads as reads
-use Rattle.records.proofs.read_code.Lts as lts
-use Rattle.codes.proofs.read_code.Reads as read-code-reads
-use Rattle.records.proofs.in_layer_five.Reads as in-layer-five-reads
 
--- src/lib.rt:316:9
 read-code-requires : tie.Need-read-code-requires
 read-code-requires c κs = search needs
 
--- src/lib.rt:317:21
 enum-known-answer : tie.Need-enum-known-answer
 enum-known-answer c = search needs
 
--- src/lib.rt:318:9
 enum-told : tie.Need-enum-told
 enum-told c = search needs
 
--- src/lib.rt:318:9
 returns : tie.Need-returns
 returns c = code-none _ _ _ (c .before .before .read-code .ensures) (c .enum-told .given .1)
 
--- src/lib.rt:321:9
 returns-2 : tie.Need-returns-2
-returns-2 c = rw (toZ-ofZ {w = w32} (record { sfits = c .before .known-told .given .0 .1 })) (code-plain _ _ _ (c .before .before .before .before .read-code .ensures) _ _ (c .before .before .answer .given .1) (c .if1 .taken))
+returns-2 c =
+    rw (toZ-ofZ {w = w32} (record { sfits = c .before .known-told .given .0 .1 }))
+    (code-plain _ _ _ (c .before .before .before .before .read-code .ensures) _ _ (c .before .before .answer .given .1) (c .if1 .taken))
 
--- src/lib.rt:323:9
 in-layer-five-requires : tie.Need-in-layer-five-requires
 in-layer-five-requires c κs = search needs
 
--- src/lib.rt:324:9
 returns-3 : tie.Need-returns-3
-returns-3 c = code-elsewhere _ _ _ (c .before .before .before .before .before .before .read-code .ensures) _ _ (c .before .before .before .before .answer .given .1) (c .before .before .if1 .left) (c .before .in-layer-five .ensures) (not-true _ (c .if2 .taken))
+returns-3 c =
+    code-elsewhere _ _ _ (c .before .before .before .before .before .before .read-code .ensures) _ _ (c .before .before .before .before .answer .given .1)
+    (c .before .before .if1 .left) (c .before .in-layer-five .ensures) (not-true _ (c .if2 .taken))
 
--- src/lib.rt:313:1
 returns-4 : tie.Need-returns-4
-returns-4 c = rw (toZ-ofZ {w = w32} (record { sfits = c .before .before .before .known-told .given .0 .1 })) (code-land _ _ _ (c .before .before .before .before .before .before .read-code .ensures) _ _ (c .before .before .before .before .answer .given .1) (c .before .before .if1 .left) (c .before .in-layer-five .ensures) (not-false _ (c .if2 .left)))
+returns-4 c =
+    rw (toZ-ofZ {w = w32} (record { sfits = c .before .before .before .known-told .given .0 .1 }))
+    (code-land _ _ _ (c .before .before .before .before .before .before .read-code .ensures) _ _ (c .before .before .before .before .answer .given .1)
+    (c .before .before .if1 .left) (c .before .in-layer-five .ensures) (not-false _ (c .if2 .left)))
 
 pub read-code-spec : {M : Type 1} → statement M
 read-code-spec =
