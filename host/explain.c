@@ -41,7 +41,7 @@ static int is_bytes(const Explanation *e)
 static void read_found(Explanation *e)
 {
     stragumella_reading reading = sheet_read(e->file, e->due, e->record);
-    if (e->field->what == NUMBER && reading.number == 0) {
+    if (gives_number(e->field) && reading.number == 0) {
         e->stated = 1;
         e->found = reading.value.numbers[numbers_before(e->due, e->field)];
     }

@@ -64,11 +64,16 @@ const Field *field_at(uint32_t kind, uint32_t column)
     return &row->field;
 }
 
+int gives_number(const Field *field)
+{
+    return field->what == NUMBER || field->what == CODE;
+}
+
 size_t numbers_before(uint32_t kind, const Field *field)
 {
     size_t numbers = 0;
     for (const Row *row = first_row(kind); &row->field != field; row++) {
-        numbers += row->field.what == NUMBER;
+        numbers += (size_t)gives_number(&row->field);
     }
     return numbers;
 }

@@ -9,7 +9,7 @@
 /* The kinds of record, by the library's numbers. */
 enum { MESH = 1, LAYER, NODE, LINE, COORDINATES, AREA, LOOP };
 
-typedef enum { LETTERS, NUMBER, NAME, BLANK, LINE_END, WHOLE } What;
+typedef enum { LETTERS, NUMBER, CODE, NAME, BLANK, LINE_END, WHOLE } What;
 
 typedef struct {
     const char *key; /* "left_area" */
@@ -32,6 +32,9 @@ const Field *field_at(uint32_t kind, uint32_t column);
 
 /* All 74 columns, where a refusal is of the record as a whole: the file ends in it, or before it (1 and 4). */
 extern const Field whole_record;
+
+/* Whether it gives a number to the record's value: a number or a code. */
+int gives_number(const Field *field);
 
 /* How many of the kind's numbers stand before the field: its place among a record's numbers. */
 size_t numbers_before(uint32_t kind, const Field *field);

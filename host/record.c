@@ -80,14 +80,28 @@ static void put_name(Writer *w, const uint8_t *name, size_t length)
     }
 }
 
+/* The mark is shown where it stands: land spelled " 0000". */
+static void put_mark(Writer *w, const char *key, uint32_t mark)
+{
+    char marked[24];
+    if (mark != 0) {
+        snprintf(marked, sizeof marked, "%s_mark", key);
+        put_number(w, marked, mark);
+    }
+}
+
 static void put_fields(Writer *w, uint32_t kind, const stragumella_record *value)
 {
     const int32_t *number = value->numbers;
+    const uint32_t *mark = value->marks;
     const Field *field;
     object_begin(w, "fields");
     for (size_t i = 0; (field = field_of(kind, i)) != NULL; i++) {
-        if (field->what == NUMBER) {
+        if (gives_number(field)) {
             put_number(w, field->key, *number++);
+        }
+        if (field->what == CODE) {
+            put_mark(w, field->key, *mark++);
         } else if (field->what == NAME) {
             put_name(w, value->name, field->width);
         }

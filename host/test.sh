@@ -137,6 +137,11 @@ by_samples() {
     for n in 2 3 4 5 6 7; do
         expect record-$n 0 record $n $smallest
     done
+    expect record-land 0 record 4 $samples/land-0000.dat
+    expect record-land-json 0 record 4 $samples/land-0000.dat --json
+    says "land is accepted" 0 $'status=ok\nmeshes=1\nlayers=1\nnodes=1\nlines=1\nareas=1\nrecords=7\n' check $samples/land-0000.dat
+    says_refused "land as 00000" 5 4 40 check $made/land-00000
+    says_refused "land printed so in layer 1" 5 4 40 check $made/land-layer-1
     expect record-h1 1 record 2 $samples/refused-07-unstructured-layer.dat
     expect record-late-refusal 0 record 7 $samples/refused-16-loop-walked-backwards.dat
     expect record-by-caller 1 record 1 $smallest N

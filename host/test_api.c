@@ -17,9 +17,9 @@ _Static_assert(sizeof(stragumella_sums) == 32 && offsetof(stragumella_sums, area
 _Static_assert(offsetof(stragumella_sums, outside) == 24, "sums");
 _Static_assert(sizeof(stragumella_place) == 24 && offsetof(stragumella_place, latitude) == 8, "place");
 _Static_assert(offsetof(stragumella_place, longitude) == 16, "place");
-_Static_assert(sizeof(stragumella_record) == 108 && offsetof(stragumella_record, numbers) == 4, "record");
-_Static_assert(offsetof(stragumella_record, name) == 68, "record");
-_Static_assert(sizeof(stragumella_reading) == 120 && offsetof(stragumella_reading, value) == 12, "reading");
+_Static_assert(sizeof(stragumella_record) == 116 && offsetof(stragumella_record, numbers) == 4, "record");
+_Static_assert(offsetof(stragumella_record, name) == 68 && offsetof(stragumella_record, marks) == 108, "record");
+_Static_assert(sizeof(stragumella_reading) == 128 && offsetof(stragumella_reading, value) == 12, "reading");
 
 enum { RECORD = 74, SHEET = 7 * RECORD, TWO = 2 * SHEET };
 
@@ -400,9 +400,11 @@ static const int32_t S_NUMBERS[7][16] = {
     { 1, 1, 1 },
 };
 
+/* without a mark */
 static int value_is(stragumella_record v, uint32_t kind, const int32_t *numbers, const uint8_t *name40)
 {
-    return v.kind == kind && memcmp(v.numbers, numbers, sizeof v.numbers) == 0 && memcmp(v.name, name40, 40) == 0;
+    return v.kind == kind && memcmp(v.numbers, numbers, sizeof v.numbers) == 0 && memcmp(v.name, name40, 40) == 0 &&
+           v.marks[0] == 0 && v.marks[1] == 0;
 }
 
 /* reads `length` bytes as a record of the kind and holds the answer to a refusal with an empty value of kind `told` */
@@ -504,12 +506,74 @@ static void records(void)
     refuses(1, h1, RECORD, 3, 1, 1);
 }
 
+/* the code of each place of an L or A as that text, in a record of that layer; S has room for two digits of it */
+static void land_line(uint8_t *line, uint32_t kind, char layer, size_t column, const char *text)
+{
+    uint8_t s[SHEET];
+    sheet(s, 533945);
+    memcpy(line, s + (kind - 1) * RECORD, RECORD);
+    line[3] = (uint8_t)layer;
+    memcpy(line + column - 1, text, 5);
+}
+
+/* " 0000" is land in layer 5, in the three codes alone, and its mark is read and written back */
+static void land(void)
+{
+    static const struct {
+        uint32_t kind;
+        size_t column;
+        size_t mark;
+        size_t number;
+    } codes[] = {{4, 30, 0, 8}, {4, 40, 1, 10}, {6, 5, 0, 1}};
+    static const char *const no_land[] = {"00000", "  000", "   00", "0000 ", " 000 ", " 0001", " 00 0"};
+    uint8_t line[RECORD];
+    for (size_t i = 0; i < sizeof codes / sizeof *codes; i++) {
+        uint32_t kind = codes[i].kind;
+        size_t column = codes[i].column;
+        land_line(line, kind, '5', column, " 0000");
+        stragumella_reading r = stragumella_read_record(kind, line, RECORD);
+        HOLD(r.number == 0 && r.value.numbers[codes[i].number] == 0);
+        HOLD(r.value.marks[codes[i].mark] == 1 && r.value.marks[1 - codes[i].mark] == 0);
+        writes(r.value, RECORD, 0, line);
+        for (uint32_t mark = 0; mark < 5; mark++) {
+            stragumella_record v = r.value;
+            v.marks[codes[i].mark] = mark < 4 ? mark : UINT32_MAX;
+            land_line(line, kind, '5', column, mark == 0 ? "    0" : " 0000");
+            writes(v, RECORD, mark < 2 ? 0 : 20, line);
+            writes(v, RECORD - 1, 21, line);
+        }
+        stragumella_record v = r.value;
+        v.numbers[codes[i].number] = 1; /* a mark beside another code than 0 */
+        writes(v, RECORD, 20, line);
+        v = r.value;
+        v.numbers[0] = 1; /* and in another layer */
+        writes(v, RECORD, 20, line);
+        land_line(line, kind, '1', column, " 0000");
+        refuses(kind, line, RECORD, 5, (uint32_t)column, kind);
+        for (size_t k = 0; k < sizeof no_land / sizeof *no_land; k++) {
+            land_line(line, kind, '5', column, no_land[k]);
+            refuses(kind, line, RECORD, 5, (uint32_t)column, kind);
+        }
+    }
+    land_line(line, 4, '5', 35, " 0000"); /* an area number is no code */
+    refuses(4, line, RECORD, 5, 35, 4);
+    for (uint32_t kind = 1; kind <= 7; kind++) {
+        stragumella_record v = {.kind = kind};
+        memcpy(v.numbers, S_NUMBERS[kind - 1], sizeof v.numbers);
+        for (size_t i = 0; i < 40; i++)
+            v.name[i] = (uint8_t)(kind == 6 || (kind == 1 && i < 20) ? (i % 2 ? 0x40 : 0x81) : 0);
+        v.marks[1] = 1; /* on a kind without codes, the second of an A, beside 13101 of an L */
+        writes(v, RECORD, 20, line);
+    }
+}
+
 int main(void)
 {
     files();
     dues();
     positions();
     records();
+    land();
     if (failed)
         printf("test_api: %u of %u failed, the first at line %u\n", failed, tried, first);
     else

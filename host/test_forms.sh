@@ -14,6 +14,9 @@ make_files() {
     LC_ALL=C sed 's/^M /m /' $smallest >$made/small-m
     LC_ALL=C sed 's/^H2/h2/' $smallest >$made/small-h
     LC_ALL=C sed 's/     5 0  0/     8 0  0/' $smallest >$made/eight-points
+    # land with a zero too many, and in layer 1
+    LC_ALL=C sed '4s/ 0000    1/00000    1/' $samples/land-0000.dat >$made/land-00000
+    LC_ALL=C sed '4s/13101    1/ 0000    1/' $smallest >$made/land-layer-1
     # S as it comes out of a transfer that means well
     tr -d '\r' <$smallest >$made/line-feeds
     LC_ALL=C sed 's/ *\r$/\r/' $smallest >$made/stripped

@@ -64,6 +64,9 @@ typedef struct {
 #define Y_RANGE "Y is 0 to 10000."
 #define LINK "A link is 0, 1 or 2."
 #define CODE "A code is 1 to 99999 in layer 1; in layer 5 it is 0 to 99999, and 0 is land."
+#define CODE_FORM                                                                                                      \
+    "A code is a number. In layer 5 land, code 0, may also be spelled as a space and four zeros; in layer 1 not, and "  \
+    "no other zeros stand in front."
 #define UNUSED "This field is unused and holds 0."
 #define NAMES_A_LINE "An entry +n or -n names line n: n is at most H's lines (column 10)."
 
@@ -84,6 +87,9 @@ static const Hint hints[] = {
     {5, MESH, ONE(9), "This name is ten two-byte characters of Shift JIS, 20 bytes; the full-width space is 81 40."},
     {5, AREA, ONE(33),
      "This name is twenty two-byte characters of Shift JIS, 40 bytes; the full-width space is 81 40."},
+    {5, LINE, ONE(30), CODE_FORM},
+    {5, LINE, ONE(40), CODE_FORM},
+    {5, AREA, ONE(5), CODE_FORM},
     {5, MESH, ONE(57), SPACES_ALONE},
     {5, LAYER, ONE(30), SPACES_ALONE},
     {5, LAYER, ONE(35), SPACES_ALONE},

@@ -46,7 +46,7 @@
  *   17  5      +n stands in an area that is not n's right, or -n in one that is not its left   slot
  *   18  6      a line's left area has no entry -n, or its right area no entry +n           35 or 45
  *   19  last   there are fewer places for measures than areas                              -
- *   20  -      writer: a value or an unused entry doesn't fit                              -
+ *   20  -      writer: a value, a mark or an unused entry doesn't fit                      -
  *   21  -      writer: the buffer is under 74 bytes; judged before 20                      -
  *   22  -      layer sums: there is no such layer; judged after acceptance                 -
  *   48  -      all sums: fewer than two places a layer; judged after acceptance            -
@@ -77,7 +77,7 @@
 #define STRAGUMELLA_H
 
 #define STRAGUMELLA_VERSION_MAJOR 0
-#define STRAGUMELLA_VERSION_MINOR 3
+#define STRAGUMELLA_VERSION_MINOR 4
 #define STRAGUMELLA_VERSION_PATCH 0
 
 /* The version as text, "MAJOR.MINOR.PATCH", and as a number that grows with it, for #if. */
@@ -121,7 +121,8 @@ typedef struct {
 } stragumella_place;
 
 /*
- * A record's value: its kind, its numbers in column order and its name bytes. Entries that the kind lacks are 0.
+ * A record's value: its kind, its numbers in column order, its name bytes and the marks of its codes. Entries that the
+ * kind lacks are 0.
  *
  *   kind             numbers, in order                                                            name
  *   1  M             mesh code, layers, nodes, lines, areas, points, records                      20 bytes
@@ -134,11 +135,15 @@ typedef struct {
  *   7  loop          serial, line count, twelve line numbers                                      -
  *
  * No other number is a kind.
+ *
+ * A mark is 1 where a code is spelled " 0000", which is land, 0, in layer 5; else it is 0. An L has two marks, of its left
+ * and of its right code; an A has one, the first.
  */
 typedef struct {
     uint32_t kind;
     int32_t numbers[16];
     uint8_t name[40];
+    uint32_t marks[2];
 } stragumella_record;
 
 /* What reading a record answers. */
@@ -240,8 +245,9 @@ stragumella_reading stragumella_read_record(uint32_t kind, const uint8_t *bytes,
 
 /*
  * Writes a record, and answers 0. Otherwise 21 for a buffer under 74 bytes, and then 20: a number that its field
- * doesn't hold, a name that is no row of two-byte characters, an entry that the kind lacks and that is not 0, or a
- * kind that is not 1 to 7. Codes, ranges and slots aren't judged here.
+ * doesn't hold, a name that is no row of two-byte characters, a mark that is neither 0 nor 1, or is 1 beside a code
+ * other than 0 or in another layer than 5, an entry that the kind lacks and that is not 0, or a kind that is not 1 to 7.
+ * Codes, ranges and slots aren't judged here.
  *
  * buffer   length bytes; what they hold before doesn't matter. With 0 the record stands in the first 74 bytes and the
  *          rest is untouched. With 20 or 21 all of it is untouched.

@@ -240,6 +240,7 @@ static void put_record(const stragumella_record *value)
     put_word(value->kind);
     put(value->numbers, sizeof value->numbers);
     put(value->name, sizeof value->name);
+    put(value->marks, sizeof value->marks);
 }
 
 static void read_record(void)
@@ -257,6 +258,7 @@ static void write_record(void)
     value.kind = take_word();
     take(value.numbers, sizeof value.numbers);
     take(value.name, sizeof value.name);
+    take(value.marks, sizeof value.marks);
     take_lent(&bytes, 1);
     put_word(stragumella_write_record(value, bytes.place, bytes.lent));
     put_lent(&bytes, 1);

@@ -107,7 +107,7 @@ pub fn worst(meshes: usize) -> File {
 
 /// A layer of one area. Its lines run around the frame.
 fn worst_layer(code: i32) -> Layer {
-    let right = Side { code: 13101, area: 1 };
+    let right = Side { code: 13101, zeros: false, area: 1 };
     let nodes = (1..=MOST_LINES).map(|n| Node { item: 1, place: around(n), entries: vec![n, -before(n)] });
     let line = |n: i32| Line {
         item: 9,
@@ -124,7 +124,7 @@ fn worst_layer(code: i32) -> Layer {
         last_changed: 0,
         nodes: nodes.collect(),
         lines: (1..=MOST_LINES).map(line).collect(),
-        areas: vec![Area { code: right.code, place: (5000, 5000), loops, name: two_byte_spaces() }],
+        areas: vec![Area { code: right.code, zeros: false, place: (5000, 5000), loops, name: two_byte_spaces() }],
     }
 }
 

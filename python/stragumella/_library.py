@@ -15,6 +15,7 @@ _NAMES = "STRAGUMELLA_" + ".".join(VERSION.split(".")[:2])
 
 NUMBERS = 16
 NAME_BYTES = 40
+MARKS = 2
 RECORD_BYTES = 74
 MOST_RECORDS = 6399936
 
@@ -39,7 +40,7 @@ class Place(ctypes.Structure):
 
 
 class Record(ctypes.Structure):
-    _fields_ = [("kind", c_uint32), ("numbers", c_int32 * NUMBERS), ("name", c_uint8 * NAME_BYTES)]
+    _fields_ = [("kind", c_uint32), ("numbers", c_int32 * NUMBERS), ("name", c_uint8 * NAME_BYTES), ("marks", c_uint32 * MARKS)]
 
 
 class Reading(ctypes.Structure):

@@ -28,7 +28,8 @@ class Kind(IntEnum):
     LOOP = 7
 
 
-_NUMBERS = {kind: tuple(name for name, _, _, what in FIELDS[kind.name] if what == "NUMBER") for kind in Kind}
+_NUMBERS = {kind: tuple(name for name, _, _, what in FIELDS[kind.name] if what in ("NUMBER", "CODE")) for kind in Kind}
+_CODES = {kind: tuple(name for name, _, _, what in FIELDS[kind.name] if what == "CODE") for kind in Kind}
 _NAME_BYTES = {kind: sum(width for _, _, width, what in FIELDS[kind.name] if what == "NAME") for kind in Kind}
 
 
@@ -40,6 +41,11 @@ def as_bytes(data: Buffer) -> bytes:
 def fits_32_bits(number: int) -> bool:
     """Whether C's int32_t holds it."""
     return -(2**31) <= number < 2**31
+
+
+def _is_mark(number: int) -> bool:
+    """Whether C's uint32_t holds it."""
+    return 0 <= number < 2**32
 
 
 def text_of(name: bytes) -> Optional[str]:
@@ -55,14 +61,16 @@ def text_of(name: bytes) -> Optional[str]:
 
 @dataclass(frozen=True)
 class Record:
-    """A record's value: its kind, its numbers in column order and its name bytes (M and A have a name).
+    """A record's value: its kind, its numbers in column order, its name bytes (M and A have a name) and the marks of its codes.
 
-    `record["left_area"]` is a number by its field's name; the names are those of `stragumella record`.
+    `record["left_area"]` is a number by its field's name; the names are those of `stragumella record`. A mark is 1 where a code is spelled
+    " 0000", land in layer 5: an L has two, of its left and right code, an A one. Marks that are left out are 0.
     """
 
     kind: Kind
     numbers: tuple[int, ...]
     name: bytes = b""
+    marks: tuple[int, ...] = ()
 
     @classmethod
     def read(cls, kind: int, data: Buffer) -> Record:
@@ -74,17 +82,19 @@ class Record:
             raise Refused(reading.number, reading.record, reading.column)
         value = reading.value
         found = Kind(value.kind)
-        return cls(found, tuple(value.numbers[: len(_NUMBERS[found])]), bytes(value.name)[: _NAME_BYTES[found]])
+        numbers = tuple(value.numbers[: len(_NUMBERS[found])])
+        return cls(found, numbers, bytes(value.name)[: _NAME_BYTES[found]], tuple(value.marks[: len(_CODES[found])]))
 
     def write(self) -> bytes:
-        """The record's 74 bytes. Refused with 20 where a number or the name doesn't fit."""
-        if len(self.numbers) > _library.NUMBERS or len(self.name) > _library.NAME_BYTES:
+        """The record's 74 bytes. Refused with 20 where a number, the name or a mark doesn't fit."""
+        if len(self.numbers) > _library.NUMBERS or len(self.name) > _library.NAME_BYTES or len(self.marks) > _library.MARKS:
             raise Refused(_DOES_NOT_FIT)
-        if self.kind not in _NUMBERS or not all(map(fits_32_bits, self.numbers)):
+        if self.kind not in _NUMBERS or not all(map(fits_32_bits, self.numbers)) or not all(map(_is_mark, self.marks)):
             raise Refused(_DOES_NOT_FIT)
         value = _library.Record(kind=self.kind)
         value.numbers[: len(self.numbers)] = self.numbers
         value.name[: len(self.name)] = list(self.name)
+        value.marks[: len(self.marks)] = self.marks
         buffer = ctypes.create_string_buffer(_library.RECORD_BYTES)
         number = _library.write_record(value, buffer, _library.RECORD_BYTES)
         if number != 0:
@@ -99,14 +109,26 @@ class Record:
         """The numbers by their fields' names, in column order."""
         return dict(zip(_NUMBERS[self.kind], self.numbers))
 
+    def mark(self, code: str) -> int:
+        """The mark of a code by its field's name: 1 where it is spelled " 0000"."""
+        place = _CODES[self.kind].index(code) if code in _CODES[self.kind] else None
+        if place is None:
+            raise KeyError(f"{self.kind.name} has no code {code}")
+        return self.marks[place] if place < len(self.marks) else 0
+
     @property
     def name_text(self) -> Optional[str]:
         """The name as text (CP932), or None where it has none."""
         return text_of(self.name)
 
-    def replace(self, name: Optional[bytes] = None, **fields: int) -> Record:
-        """The same record with another name, or other numbers in these fields."""
+    def replace(self, name: Optional[bytes] = None, marks: Optional[tuple[int, ...]] = None, **fields: int) -> Record:
+        """The same record with another name, other marks, or other numbers in these fields."""
         numbers = {**self.fields, **fields}
         if len(numbers) > len(self.numbers):
             raise KeyError(f"{self.kind.name} has no field {list(numbers)[-1]}")
-        return replace(self, numbers=tuple(numbers.values()), name=self.name if name is None else name)
+        return replace(
+            self,
+            numbers=tuple(numbers.values()),
+            name=self.name if name is None else name,
+            marks=self.marks if marks is None else marks,
+        )

@@ -8,6 +8,7 @@ from pathlib import Path
 ROOT = Path(__file__).resolve().parents[2]
 SAMPLES = ROOT / "samples"
 SMALLEST = SAMPLES / "smallest.dat"
+LAND = SAMPLES / "land-0000.dat"
 COASTS = [SAMPLES / "kasumigaura-5440.dat", SAMPLES / "kyushu-4830.dat"]
 REFUSED = sorted(SAMPLES.glob("refused-*.dat"))
 TOOL = os.environ.get("STRAGUMELLA_TOOL", str(ROOT / "target" / "host" / "stragumella"))

@@ -3,7 +3,7 @@
 import pickle
 import unittest
 
-from outside import SMALLEST, told
+from outside import LAND, SMALLEST, told
 from stragumella import Kind, Position, Record, Refused, Sheet, position
 from stragumella._facts import FIELDS, REFUSALS
 
@@ -71,6 +71,29 @@ class Records(unittest.TestCase):
         self.refused(20, 0, 0, Record(9, ()).write)
         with self.assertRaises(TypeError):
             record.replace(left_code=1.5).write()
+
+    def test_land(self):
+        """" 0000" is 0 with a mark, in layer 5."""
+        sheet = Sheet.open(LAND)
+        line, area = sheet.record(4), sheet.record(6)
+        self.assertEqual((line["right_code"], line.marks, line.mark("left_code"), line.mark("right_code")), (0, (0, 1), 0, 1))
+        self.assertEqual((area["code"], area.marks, area.mark("code")), (0, (0,), 0))
+        self.assertEqual(line.write(), LAND.read_bytes()[3 * 74 : 4 * 74])
+        self.assertEqual(line.replace(marks=(0, 0)).write()[39:44], b"    0")
+        self.assertEqual(Record.read(Kind.AREA, area.replace(marks=(1,)).write()).marks, (1,))
+        self.assertEqual(Record(Kind.LINE, line.numbers).write(), line.replace(marks=()).write())
+        self.assertEqual([sheet.layers[0].areas[0].code, sheet.layers[0].lines[0].right_code], [0, 0])
+        for marks in ((0, 2), (0, 2**32 + 1), (0, -1), (0, 2**70), (1, 1), (0, 1, 0)):
+            self.refused(20, 0, 0, line.replace(marks=marks).write)
+        self.refused(20, 0, 0, line.replace(layer=1).write)
+        self.refused(20, 0, 0, line.replace(right_code=1).write)
+        self.refused(20, 0, 0, area.replace(marks=(0, 1)).write)
+        self.refused(20, 0, 0, sheet.record(3).replace(marks=(1,)).write)
+        self.refused(5, 1, 40, Record.read, Kind.LINE, LINE[:39] + b" 0000" + LINE[44:])
+        with self.assertRaises(KeyError):
+            line.mark("left_area")
+        (object_,) = told("record", 4, LAND)
+        self.assertEqual(object_["fields"]["right_code_mark"], 1)
 
     def test_kinds_are_the_lists(self):
         self.assertEqual([kind.name for kind in Kind], list(FIELDS))

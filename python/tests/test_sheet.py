@@ -7,10 +7,10 @@ import unittest
 from pathlib import Path
 
 from made import HOLE, framed
-from outside import COASTS, REFUSED, SMALLEST, told, with_bytes
+from outside import COASTS, LAND, REFUSED, SMALLEST, told, with_bytes
 from stragumella import Kind, Outcome, Refused, Sheet, Sums
 
-TAKEN = [SMALLEST, *COASTS]
+TAKEN = [SMALLEST, *COASTS, LAND]
 
 
 def doubled(points):
@@ -264,7 +264,7 @@ class RefusedSheets(unittest.TestCase):
         with tempfile.TemporaryDirectory() as folder:
             paths = []
             for i in range(240):
-                data = bytearray(whole[i % 3])
+                data = bytearray(whole[i % len(whole)])
                 for _ in range(source.randrange(1, 3)):
                     data[source.randrange(min(len(data), 74 * 60))] = source.choice(b" -0123456789HLNA\x81")
                 paths.append(Path(folder) / str(i))

@@ -1,15 +1,16 @@
 //! The comparison: every answer of the other program against our own.
 
-use crate::damage::{astray, counted, damaged, interesting, set, steering};
+use crate::damage::{astray, counted, damaged, interesting, set, steering, ZEROS};
 use crate::due::{dues, told};
+use crate::fields::{CODE, LAND};
 use crate::generate::{assert_accepted, from_seed, long_loops, sheet, sheet_of};
 use crate::judge::{verdict, Verdict};
-use crate::layout::{layout, Kind, KINDS, RECORD};
+use crate::layout::{codes, layout, Kind, Sort, KINDS, LAYER, RECORD};
 use crate::piped::Pipe;
 use crate::product::{Answer, Buffers, Call, Product, RawValue, Second, Told};
 use crate::random::Random;
 use crate::records::{read, Refusal};
-use crate::sheet::{joined, sheet_s, Records, Sheet};
+use crate::sheet::{joined, land_s, sheet_s, Records, Sheet};
 use crate::sums::{answer, answer_for_all};
 use crate::walk::record;
 use std::fmt::Debug;
@@ -36,6 +37,9 @@ pub fn numbers() -> impl Iterator<Item = usize> {
     (0..=22).chain([48])
 }
 
+/// What can become of land that is spelled " 0000".
+pub const LAND_BECAME: [&str; 5] = ["in an accepted file", "refused as a code", "refused elsewhere", "read", "written back"];
+
 /// Due is asked of every record of a file of so many records or less, where it is not asked of some alone.
 const SHORT: u32 = 50;
 
@@ -48,6 +52,8 @@ pub struct Compare<'a> {
     pub reached: Reached,
     /// How often nothing and each of the seven kinds was told to be due.
     pub due: [u64; 8],
+    /// How often each of these became of land that is spelled " 0000".
+    pub land: [u64; 5],
     /// Of so many comparisons side by side this is the one of that number, from 0.
     share: (u64, u64),
     /// How many files, values and positions there were, for all shares.
@@ -115,6 +121,7 @@ impl<'a> Compare<'a> {
             files: 0,
             reached: [[0; 49]; 6],
             due: [0; 8],
+            land: [0; 5],
             share,
             turns: 0,
             sparing: None,
@@ -181,6 +188,9 @@ impl<'a> Compare<'a> {
     /// Every answer about one file.
     fn whole_file(&mut self, file: &[u8], verdict: &Verdict) -> Agreed {
         self.files += 1;
+        if let Some(became) = land_became(file, verdict) {
+            self.land[became] += 1;
+        }
         if let Some(path) = &self.before {
             std::fs::write(path, file).expect("the file can be written");
         }
@@ -307,7 +317,13 @@ impl<'a> Compare<'a> {
         let told = ours.told;
         self.ask(&[], call, ours)?;
         match told {
-            Told::Reading(refusal, value) if refusal == Refusal::default() => self.value(value, RECORD),
+            Told::Reading(refusal, value) if refusal == Refusal::default() => {
+                let marked = u64::from(value.marks.contains(&1));
+                self.land[3] += marked;
+                self.value(value, RECORD)?;
+                self.land[4] += marked;
+                Ok(())
+            }
             _ => Ok(()),
         }
     }
@@ -328,6 +344,27 @@ impl<'a> Compare<'a> {
         let ours = call.answer(&Second, &[]);
         self.ask(&[], call, ours)
     }
+}
+
+/// What becomes of land that is spelled " 0000" in a file, by its place in LAND_BECAME: it stands as a code in an accepted
+/// file, or the file is refused for it.
+fn land_became(file: &[u8], verdict: &Verdict) -> Option<usize> {
+    let Refusal { number, record: k, column } = verdict.outcome(usize::MAX, usize::MAX).refusal;
+    let mut kinds = verdict.kinds.iter().zip(1..);
+    match number {
+        0 => kinds.any(|(kind, k)| has_land(*kind, record(file, k))).then_some(0),
+        5 => {
+            let fields = &layout(*verdict.kinds.last()?).numbers;
+            let field = fields.iter().find(|field| field.start == column as usize)?;
+            let is_land = *field.of(record(file, k as usize)) == LAND;
+            is_land.then_some(if field.sort == Sort::Code { 1 } else { 2 })
+        }
+        _ => None,
+    }
+}
+
+fn has_land(kind: Kind, bytes: &[u8]) -> bool {
+    codes(kind).iter().any(|index| *layout(kind).numbers[*index].of(bytes) == LAND)
 }
 
 /// The table, where it stands after a call.
@@ -369,22 +406,71 @@ fn sums_lengths(need: usize, layers: usize) -> Vec<(usize, usize)> {
 pub fn one_byte_changes(compare: &mut Compare) -> Agreed {
     let sheet = sheet_s().bytes();
     compare.file(&sheet)?;
-    let mut changed = sheet.clone();
     for index in 0..sheet.len() {
-        for step in 1..=255u8 {
-            changed[index] = sheet[index].wrapping_add(step);
-            compare.file(&changed)?;
-        }
-        changed[index] = sheet[index];
+        changed_byte(compare, &sheet, index)?;
         compare.file(&sheet[..index])?;
     }
     Ok(())
 }
 
-/// Part 2: every field of every kind set to each interesting value, in sheet S and in generated sheets.
+/// A file with each other byte at a place.
+fn changed_byte(compare: &mut Compare, file: &[u8], index: usize) -> Agreed {
+    let mut changed = file.to_vec();
+    for step in 1..=255u8 {
+        changed[index] = file[index].wrapping_add(step);
+        compare.file(&changed)?;
+    }
+    Ok(())
+}
+
+/// Part 1 also: sheet S with land on its ground, and every one-byte change of its layer codes and of its codes; and land in a
+/// sheet of several layers.
+pub fn land_changes(compare: &mut Compare) -> Agreed {
+    let records = land_s().records();
+    let file = joined(&records);
+    compare.file(&file)?;
+    for (k, (kind, _)) in records.iter().enumerate() {
+        let layer = matches!(kind, Kind::H | Kind::N | Kind::L | Kind::A).then_some(LAYER);
+        let codes = codes(*kind).iter().map(|index| layout(*kind).numbers[*index]);
+        for field in layer.into_iter().chain(codes) {
+            for column in field.start..=field.end {
+                changed_byte(compare, &file, k * RECORD + column - 1)?;
+            }
+        }
+    }
+    land_among_layers(compare)
+}
+
+/// A sheet whose layers are 5, 1, 5 and 1, in three meshes, with each code spelled as land is, or nearly so.
+fn land_among_layers(compare: &mut Compare) -> Agreed {
+    let layer = |sheet: Sheet| sheet.meshes[0].layers[0].clone();
+    let (land, other) = (layer(land_s()), layer(sheet_s()));
+    let mut sheet = sheet_s();
+    let mut mesh = sheet.meshes.remove(0);
+    for layers in [vec![land.clone()], vec![other.clone(), land], vec![other]] {
+        mesh.layers = layers;
+        sheet.meshes.push(mesh.clone());
+        mesh.code += 1;
+    }
+    assert_accepted(&sheet);
+    let records = sheet.records();
+    for (index, (kind, _)) in records.iter().enumerate() {
+        for field in codes(*kind).iter().map(|index| layout(*kind).numbers[*index]) {
+            for text in ZEROS {
+                let mut changed = records.clone();
+                set(&mut changed[index].1, &field, text);
+                compare.file(&joined(&changed))?;
+            }
+        }
+    }
+    Ok(())
+}
+
+/// Part 2: every field of every kind set to each interesting value, in sheet S, in its like of layer 5 and in generated sheets.
 /// Every second sheet has loops over several records.
 pub fn every_field(compare: &mut Compare, seeds: std::ops::Range<u64>) -> Agreed {
     every_field_of(compare, &sheet_s(), &mut Random::new(0))?;
+    every_field_of(compare, &land_s(), &mut Random::new(0))?;
     for seed in seeds {
         let random = &mut Random::new(seed);
         let sheet = short_sheet(random, seed % 2 == 0);
@@ -441,6 +527,75 @@ fn chosen_records(records: &Records, random: &mut Random) -> Vec<usize> {
     chosen
 }
 
+/// Part 2 also: codes and marks. As a code every text of five of the signs " 0-1" in layers 1 and 5, and in records with other
+/// layer codes what is near land; then each mark beside some codes in some layers, and of kinds that have no codes.
+pub fn every_code(compare: &mut Compare) -> Agreed {
+    for (kind, bytes) in land_s().records() {
+        for layer in [b" 5", b" 1"] {
+            for index in codes(kind) {
+                for text in 0..4usize.pow(CODE as u32) {
+                    let text: [u8; CODE] = std::array::from_fn(|place| b" 0-1"[text >> (2 * place) & 3]);
+                    code_read(compare, kind, bytes, layer, &[(*index, text)])?;
+                }
+            }
+        }
+        for layer in [b" 5", b" 1", b" 0", b" 4", b" 6", b"15", b"50", b"55", b"-5", b"05", b"5 ", b" x", b"  "] {
+            for one in ZEROS {
+                for other in ZEROS {
+                    let texts: Vec<_> = codes(kind).iter().copied().zip([*one, *other]).collect();
+                    code_read(compare, kind, bytes, layer, &texts)?;
+                }
+            }
+        }
+        every_mark(compare, read(kind, &bytes).expect("a record of a sheet is good").into())?;
+    }
+    Ok(())
+}
+
+/// A record with a layer code and texts for codes, read and written back, if it has codes and it is this one's turn.
+fn code_read(
+    compare: &mut Compare,
+    kind: Kind,
+    mut bytes: [u8; RECORD],
+    layer: &[u8; 2],
+    texts: &[(usize, [u8; CODE])],
+) -> Agreed {
+    if texts.is_empty() || !compare.turn() {
+        return Ok(());
+    }
+    set(&mut bytes, &LAYER, layer);
+    for (index, text) in texts {
+        set(&mut bytes, &layout(kind).numbers[*index], text);
+    }
+    compare.record(kind, &bytes)
+}
+
+/// Marks of every sort.
+const MARKS: [u32; 10] = [0, 1, 2, 3, 255, 256, 257, 0x1_0001, 0x8000_0001, u32::MAX];
+
+/// A value with two marks of every sort, with several codes if its kind has codes, and with several first numbers: that is the
+/// layer code, if there is one.
+fn every_mark(compare: &mut Compare, value: RawValue) -> Agreed {
+    let codes = codes(KINDS[value.kind as usize - 1]);
+    let beside: &[[i32; 2]] =
+        if codes.is_empty() { &[[0, 0]] } else { &[[0, 0], [0, 1], [1, 0], [88888, 0], [-1, 99999]] };
+    for first in [5, 1, 0, 6, 15, 50, -5] {
+        for numbers in beside {
+            for marks in MARKS.into_iter().flat_map(|one| MARKS.map(|other| [one, other])) {
+                let mut value = RawValue { marks, ..value };
+                value.numbers[0] = first;
+                codes.iter().zip(numbers).for_each(|(index, number)| value.numbers[*index] = *number);
+                for length in [RECORD, RECORD - 1] {
+                    if compare.turn() {
+                        compare.value(value, length)?;
+                    }
+                }
+            }
+        }
+    }
+    Ok(())
+}
+
 /// Part 3: generated sheets, each as it is and with several seeded damages, `count` damaged files in all.
 pub fn damages(compare: &mut Compare, seed: u64, count: usize) -> Agreed {
     let mut left = count;
@@ -477,6 +632,9 @@ pub fn odd_values(compare: &mut Compare, seed: u64, count: usize) -> Agreed {
         }
         if random.percent(20) {
             value.kind = 1 + random.below(7) as u32;
+        }
+        if random.percent(20) {
+            value.marks[random.below(2)] = *random.pick(&[0, 1, 1, 1, 2, u32::MAX]);
         }
         let length = *random.pick(&[74, 74, 74, 75, 80, 148, 73, 1, 0]);
         let cut = *random.pick(&[0, 1, 73, 74, 75]);

@@ -1,8 +1,8 @@
 //! Damages of every sort, by seed: to the sheet in memory, to its records, to its bytes.
 
 use crate::due::dues;
-use crate::fields::{number, spelled};
-use crate::layout::{a, h, l, layout, lp, m, Field, Kind, Sort, RECORD};
+use crate::fields::{number, spelled, CODE, LAND};
+use crate::layout::{a, codes, h, l, layout, lp, m, Field, Kind, Sort, RECORD};
 use crate::random::Random;
 use crate::sheet::{joined, sheet_s, Area, Layer, Line, Node, Records, Sheet, Side, OUTSIDE};
 
@@ -171,9 +171,9 @@ fn damage_line(random: &mut Random, layer: &mut Layer) {
 fn random_side(random: &mut Random, areas: &[Area]) -> Side {
     let number = random.below(areas.len() + 2);
     match (number.checked_sub(1).map(|index| areas.get(index)), random.percent(50)) {
-        (Some(Some(area)), _) => Side { code: area.code, area: number as i32 },
+        (Some(Some(area)), _) => Side { code: area.code, zeros: area.zeros, area: number as i32 },
         (None, true) => OUTSIDE,
-        _ => Side { code: 13101, area: number as i32 },
+        _ => Side { code: 13101, zeros: true, area: number as i32 },
     }
 }
 
@@ -318,6 +318,7 @@ fn damage_records(random: &mut Random, records: &mut Records) {
         6 => records.truncate(one),
         7 | 8 => wrong_total(random, records),
         9 => records[one].1[random.below(72)] = *random.pick(b"0123456789- /:\0\x81\x40ANMLH"),
+        10 | 11 => spell_zero(random, records),
         _ => change_field(random, records),
     }
 }
@@ -342,6 +343,25 @@ fn change_letters(random: &mut Random, records: &mut Records) {
     let index = any_record(random, records);
     let letters: [u8; 2] = **random.pick(&[b"H1", b"H2", b"M ", b"N ", b"L ", b"A ", b"H ", b"m ", b" M", b"HH"]);
     records[index].1[..2].copy_from_slice(&letters);
+}
+
+/// The two spellings of land, and what comes near them.
+pub const ZEROS: [&[u8; CODE]; 6] = [&LAND, b"    0", b"00000", b"  000", b"   00", b"0000 "];
+
+/// A code spelled as land is, or nearly so. Every fourth time it is any number of five columns.
+fn spell_zero(random: &mut Random, records: &mut Records) {
+    let with_codes: Vec<usize> = (0..records.len()).filter(|index| !codes(records[*index].0).is_empty()).collect();
+    let (index, field) = if with_codes.is_empty() || random.percent(25) {
+        let index = any_record(random, records);
+        let fields: Vec<Field> = layout(records[index].0).numbers.iter().filter(|f| f.width() == CODE).copied().collect();
+        (index, *random.pick(&fields))
+    } else {
+        let index = *random.pick(&with_codes);
+        let kind = records[index].0;
+        (index, layout(kind).numbers[*random.pick(codes(kind))])
+    };
+    let text = if random.percent(40) { &LAND } else { *random.pick(&ZEROS) };
+    set(&mut records[index].1, &field, text);
 }
 
 /// A total, serial or count that is one off.
@@ -388,7 +408,7 @@ pub fn set(record: &mut [u8], field: &Field, text: &[u8]) {
 /// Interesting texts for a field.
 pub fn interesting(field: &Field, now: &[u8]) -> Vec<Vec<u8>> {
     match field.sort {
-        Sort::Number => interesting_numbers(field.width(), number(now).unwrap_or(0)),
+        Sort::Number | Sort::Code => interesting_numbers(field.width(), number(now).unwrap_or(0)),
         Sort::Name => interesting_pairs(now),
         Sort::Blank => spoilt(now, b"0\0\tx\xA0-"),
     }
@@ -402,9 +422,9 @@ fn interesting_numbers(width: usize, now: i32) -> Vec<Vec<u8>> {
     ];
     let spelled = numbers.iter().filter_map(|number| spelled(*number, width));
     let mut texts: Vec<Vec<u8>> = spelled.map(|text| text[..width].to_vec()).collect();
-    let odd: [&[u8]; 17] = [
+    let odd: [&[u8]; 22] = [
         b"", b"-0", b"-", b"x", b"+1", b"1 ", b"- 1", b"--1", b"1-", b"1 1", b"00001", b"000000", b"01", b"-01", b"/",
-        b":", b"\x001",
+        b":", b"\x001", b"0000", b"000", b"00", b"0000 ", b"-0000",
     ];
     texts.extend(odd.iter().filter(|text| text.len() <= width).map(|text| aligned(text, width)));
     texts.extend([b'0', b'9', b'x', b'-', 0xB1].map(|byte| vec![byte; width]));

@@ -1,4 +1,4 @@
-//! Fields: numbers (I), names (N) and blanks (X).
+//! Fields: numbers (I), codes, names (N) and blanks (X).
 
 /// The widest number field has six columns (RULES 3.2); eight leave room.
 const WIDEST: usize = 8;
@@ -33,6 +33,33 @@ pub fn number(field: &[u8]) -> Option<i32> {
     let guess = guessed(field);
     let spelling = spelled(guess, field.len())?;
     (spelling[..field.len()] == *field).then_some(guess)
+}
+
+/// A code has five columns.
+pub const CODE: usize = 5;
+
+/// The spelling of land that has mark 1.
+pub const LAND: [u8; CODE] = *b" 0000";
+
+/// The one spelling of a code with its mark, in a record with this layer code (RULES 3.6). None if they have none.
+pub fn code_spelled(code: i32, mark: u32, layer: Option<i32>) -> Option<[u8; WIDEST]> {
+    match (mark, code, layer) {
+        (0, ..) => spelled(code, CODE),
+        (1, 0, Some(5)) => {
+            let mut spelling = [b' '; WIDEST];
+            spelling[..CODE].copy_from_slice(&LAND);
+            Some(spelling)
+        }
+        _ => None,
+    }
+}
+
+/// The code that a field holds, and its mark, or None if the field is ill formed.
+/// We guess both and compare the spelling.
+pub fn code(field: &[u8], layer: Option<i32>) -> Option<(i32, u32)> {
+    let guess = guessed(field);
+    let is_spelled = |mark: &u32| code_spelled(guess, *mark, layer).is_some_and(|spelling| spelling[..CODE] == *field);
+    [0, 1].into_iter().find(is_spelled).map(|mark| (guess, mark))
 }
 
 /// A guess: all digits in a row, below 0 if a "-" stands anywhere.

@@ -536,7 +536,7 @@ pub fn layer(random: &mut Random, code: i32, shape: &Shape) -> Option<Layer> {
     let mut sides = BTreeMap::from([(0, OUTSIDE)]);
     for (index, face) in faces.iter().enumerate() {
         let area = area(random, code, map.middles[*face], &chains, &loops[face]);
-        sides.insert(*face, Side { code: area.code, area: index as i32 + 1 });
+        sides.insert(*face, Side { code: area.code, zeros: false, area: index as i32 + 1 });
         areas.push(area);
     }
     let around = halves_around(&chains);
@@ -587,7 +587,7 @@ fn area(random: &mut Random, layer: i32, middle: Point, chains: &[Chain], loops:
         entries
     };
     let loops = ordered.into_iter().map(as_entries).collect();
-    Area { code: code(random, layer), place: middle, loops, name: name(random) }
+    Area { code: code(random, layer), zeros: false, place: middle, loops, name: name(random) }
 }
 
 fn code(random: &mut Random, layer: i32) -> i32 {
@@ -648,6 +648,16 @@ fn line(
 
 // From layers to sheets.
 
+/// Land is spelled with four zeros in no place, in every place, or in some places and not in others.
+fn spell_land(random: &mut Random, mut layer: Layer) -> Layer {
+    let times = *random.pick(&[0, 50, 50, 100]);
+    let sides = layer.lines.iter_mut().flat_map(|line| [&mut line.left.zeros, &mut line.right.zeros]);
+    for zeros in sides.chain(layer.areas.iter_mut().map(|area| &mut area.zeros)) {
+        *zeros = random.percent(times);
+    }
+    layer
+}
+
 /// A layer without nodes, lines and areas.
 fn empty_layer(random: &mut Random, code: i32) -> Layer {
     let (first_made, last_changed) = (date(random), date(random));
@@ -661,7 +671,7 @@ fn any_layer(random: &mut Random, code: i32, size: usize) -> Layer {
     loop {
         let shape = Shape::random(random, size);
         if let Some(layer) = layer(random, code, &shape) {
-            return layer;
+            return spell_land(random, layer);
         }
     }
 }
@@ -777,7 +787,8 @@ pub fn long_loops(random: &mut Random) -> Sheet {
     };
     let code = mesh_codes(random, 1)[0];
     let layer_code = *random.pick(&[1, 5]);
-    let layers = vec![layer(random, layer_code, &shape).expect("few lines fit")];
+    let layer = layer(random, layer_code, &shape).expect("few lines fit");
+    let layers = vec![spell_land(random, layer)];
     Sheet { meshes: vec![Mesh { code, name: name(random), layers }] }
 }
 
@@ -789,7 +800,7 @@ pub fn windings(random: &mut Random, most: usize) -> Sheet {
     layer.lines[0].points = around(&frame, 1 + random.below(most));
     let k = random.within(1, 4000);
     let shore: Vec<Point> = frame.iter().map(|(x, y)| (5000 + x.signum() * k, 5000 + y.signum() * k)).collect();
-    let lake = Side { code: code(random, 1), area: 2 };
+    let lake = Side { code: code(random, 1), zeros: false, area: 2 };
     layer.nodes.push(Node { item: 3, place: shore[0], entries: vec![-2, 2] });
     layer.lines.push(Line {
         item: 5,
@@ -800,7 +811,7 @@ pub fn windings(random: &mut Random, most: usize) -> Sheet {
         points: around(&shore, 1 + random.below(most)),
     });
     layer.areas[0].loops.push(vec![-2]);
-    layer.areas.push(Area { code: lake.code, place: shore[0], loops: vec![vec![2]], name: name(random) });
+    layer.areas.push(Area { code: lake.code, zeros: false, place: shore[0], loops: vec![vec![2]], name: name(random) });
     sheet
 }
 

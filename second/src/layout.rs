@@ -25,6 +25,8 @@ pub const KINDS: [Kind; 7] =
 #[derive(Clone, Copy, Debug, PartialEq, Eq)]
 pub enum Sort {
     Number,
+    /// A number for which land has a spelling of its own.
+    Code,
     Name,
     Blank,
 }
@@ -52,7 +54,7 @@ pub struct Layout {
     pub letters: Option<[u8; 2]>,
     /// All fields in column order.
     pub fields: Vec<Field>,
-    /// The number fields in column order.
+    /// The number fields in column order, codes among them.
     pub numbers: Vec<Field>,
     /// The name field, if the kind has one.
     pub name: Option<Field>,
@@ -74,7 +76,8 @@ pub fn layout(kind: Kind) -> &'static Layout {
 fn made(kind: Kind) -> Layout {
     let (letters, name, numbers) = named(kind);
     let number = |(start, end): &(usize, usize)| Field { sort: Sort::Number, start: *start, end: *end };
-    let numbers: Vec<Field> = numbers.iter().map(number).collect();
+    let mut numbers: Vec<Field> = numbers.iter().map(number).collect();
+    codes(kind).iter().for_each(|index| numbers[*index].sort = Sort::Code);
     let name = name.map(|(start, end)| Field { sort: Sort::Name, start, end });
     let mut fields = numbers.clone();
     fields.extend(name);
@@ -134,6 +137,18 @@ fn named(kind: Kind) -> (Option<[u8; 2]>, Option<Columns>, Vec<Columns>) {
         Kind::Loop => (None, None, with_slots(vec![(1, 5), (6, 9)], 10, 12)),
     }
 }
+
+/// The number fields of a kind that are codes, in column order. A kind that has codes has a layer code too.
+pub fn codes(kind: Kind) -> &'static [usize] {
+    match kind {
+        Kind::L => &[l::LEFT_CODE, l::RIGHT_CODE],
+        Kind::A => &[a::CODE],
+        _ => &[],
+    }
+}
+
+/// The layer code of a kind that has codes: its first number.
+pub const LAYER: Field = Field { sort: Sort::Number, start: 3, end: 4 };
 
 /// Adds slots of width 5, from a column on.
 fn with_slots(mut columns: Vec<Columns>, first: usize, count: usize) -> Vec<Columns> {

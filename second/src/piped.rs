@@ -159,6 +159,7 @@ fn put_call(request: &mut Vec<u8>, call: &Call) {
             request.extend(value.kind.to_le_bytes());
             value.numbers.iter().for_each(|number| request.extend(number.to_le_bytes()));
             request.extend(value.name);
+            value.marks.iter().for_each(|mark| request.extend(mark.to_le_bytes()));
             put_lent(request, *length, buffers.bytes.iter().map(|byte| [*byte]));
         }
     }
@@ -216,11 +217,14 @@ fn take_told(answers: &mut impl Read, call: &Call) -> io::Result<Told> {
         Call::Position { .. } => Told::Place(word(answers)?, long(answers)?, long(answers)?),
         Call::Read { .. } => {
             let refusal = refusal(answers)?;
-            let mut value = RawValue { kind: word(answers)?, numbers: [0; 16], name: [0; 40] };
+            let mut value = RawValue { kind: word(answers)?, numbers: [0; 16], name: [0; 40], marks: [0; 2] };
             for number in &mut value.numbers {
                 *number = word(answers)? as i32;
             }
             answers.read_exact(&mut value.name)?;
+            for mark in &mut value.marks {
+                *mark = word(answers)?;
+            }
             Told::Reading(refusal, value)
         }
         Call::Write { .. } => Told::Number(word(answers)?),

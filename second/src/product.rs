@@ -14,11 +14,12 @@ pub struct RawValue {
     pub kind: u32,
     pub numbers: [i32; 16],
     pub name: [u8; 40],
+    pub marks: [u32; 2],
 }
 
 impl From<Value> for RawValue {
     fn from(value: Value) -> RawValue {
-        RawValue { kind: value.kind as u32, numbers: value.numbers, name: value.name }
+        RawValue { kind: value.kind as u32, numbers: value.numbers, name: value.name, marks: value.marks }
     }
 }
 
@@ -197,6 +198,7 @@ impl Product for Second {
     }
 
     fn write_record(&self, value: RawValue, buffer: &mut [u8]) -> u32 {
-        records::write(&Value { kind: kind(value.kind), numbers: value.numbers, name: value.name }, buffer)
+        let RawValue { kind: number, numbers, name, marks } = value;
+        records::write(&Value { kind: kind(number), numbers, name, marks }, buffer)
     }
 }

@@ -1,7 +1,7 @@
 //! One record: read and written by its kind.
 
-use crate::fields::{is_blank, is_name, number, spelled};
-use crate::layout::{layout, Field, Kind, Sort, RECORD};
+use crate::fields::{code, code_spelled, is_blank, is_name, number, spelled};
+use crate::layout::{layout, Field, Kind, Sort, LAYER, RECORD};
 
 /// A refusal and its place. Number 0 at 0, 0 is acceptance.
 #[derive(Clone, Copy, Debug, PartialEq, Eq, Default)]
@@ -41,11 +41,13 @@ pub struct Value {
     pub kind: Kind,
     pub numbers: [i32; 16],
     pub name: [u8; 40],
+    /// The marks of the codes in column order.
+    pub marks: [u32; 2],
 }
 
 impl Value {
     pub fn empty(kind: Kind) -> Value {
-        Value { kind, numbers: [0; 16], name: [0; 40] }
+        Value { kind, numbers: [0; 16], name: [0; 40], marks: [0; 2] }
     }
 }
 
@@ -70,10 +72,19 @@ pub fn wrong_letters(kind: Kind, record: &[u8]) -> Option<u32> {
     }
 }
 
+/// What a number field of a record holds, a code or another, and its mark, or None if the field is ill formed.
+/// A number that is no code has mark 0.
+pub fn held(field: &Field, record: &[u8]) -> Option<(i32, u32)> {
+    match field.sort {
+        Sort::Code => code(field.of(record), number(LAYER.of(record))),
+        _ => number(field.of(record)).map(|number| (number, 0)),
+    }
+}
+
 /// A field is well formed by its sort.
 pub fn well_formed(field: &Field, record: &[u8]) -> bool {
     match field.sort {
-        Sort::Number => number(field.of(record)).is_some(),
+        Sort::Number | Sort::Code => held(field, record).is_some(),
         Sort::Name => is_name(field.of(record)),
         Sort::Blank => is_blank(field.of(record)),
     }
@@ -101,8 +112,13 @@ pub fn read(kind: Kind, bytes: &[u8]) -> Result<Value, Refusal> {
 /// The value of a well-formed record.
 fn value_of(kind: Kind, record: &[u8]) -> Value {
     let mut value = Value::empty(kind);
+    let mut marks = value.marks.iter_mut();
     for (index, field) in layout(kind).numbers.iter().enumerate() {
-        value.numbers[index] = number(field.of(record)).expect("a well-formed number");
+        let (number, mark) = held(field, record).expect("a well-formed number");
+        value.numbers[index] = number;
+        if field.sort == Sort::Code {
+            *marks.next().expect("a record has at most two codes") = mark;
+        }
     }
     if let Some(field) = layout(kind).name {
         value.name[..field.width()].copy_from_slice(field.of(record));
@@ -119,8 +135,12 @@ pub fn bytes_of(value: &Value) -> Option<[u8; RECORD]> {
     if let Some(letters) = layout.letters {
         record[..2].copy_from_slice(&letters);
     }
+    let mut marks = value.marks.into_iter();
     for (field, number) in layout.numbers.iter().zip(value.numbers) {
-        let spelling = spelled(number, field.width())?;
+        let spelling = match field.sort {
+            Sort::Code => code_spelled(number, marks.next()?, Some(value.numbers[0]))?,
+            _ => spelled(number, field.width())?,
+        };
         record[field.start - 1..field.end].copy_from_slice(&spelling[..field.width()]);
     }
     let name_width = layout.name.map_or(0, |field| field.width());
@@ -133,7 +153,7 @@ pub fn bytes_of(value: &Value) -> Option<[u8; RECORD]> {
     let unused_numbers = &value.numbers[layout.numbers.len()..];
     let unused_name = &value.name[name_width..];
     let unused_fit = unused_numbers.iter().all(|n| *n == 0) && unused_name.iter().all(|b| *b == 0);
-    unused_fit.then_some(record)
+    (unused_fit && marks.all(|mark| mark == 0)).then_some(record)
 }
 
 /// Writes a record. The answer is 0, 21 (short buffer) or 20 (does not fit).

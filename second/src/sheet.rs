@@ -52,19 +52,23 @@ pub struct End {
 #[derive(Clone, Copy, Debug, PartialEq, Eq)]
 pub struct Side {
     pub code: i32,
+    /// Land is spelled with four zeros here. Says nothing of another code, or in layer 1.
+    pub zeros: bool,
     pub area: i32,
 }
 
 #[derive(Clone, Debug)]
 pub struct Area {
     pub code: i32,
+    /// As in a side.
+    pub zeros: bool,
     pub place: (i32, i32),
     pub loops: Vec<Vec<i32>>,
     pub name: [u8; 40],
 }
 
 /// Outside the frame.
-pub const OUTSIDE: Side = Side { code: 88888, area: 0 };
+pub const OUTSIDE: Side = Side { code: 88888, zeros: false, area: 0 };
 
 pub fn on_frame(place: (i32, i32)) -> bool {
     [0, 10_000].contains(&place.0) || [0, 10_000].contains(&place.1)
@@ -142,6 +146,11 @@ impl Layer {
         }
     }
 
+    /// The mark of a code of this layer.
+    fn mark(&self, code: i32, zeros: bool) -> u32 {
+        u32::from(zeros && code == 0 && self.code == 5)
+    }
+
     fn put_node(&self, serial: i32, node: &Node, records: &mut Records) {
         let (x, y) = node.place;
         let frame = i32::from(on_frame(node.place));
@@ -169,7 +178,8 @@ impl Layer {
             0,
             0,
         ];
-        put(records, Kind::L, &numbers, &[]);
+        let marks = [line.left, line.right].map(|side| self.mark(side.code, side.zeros));
+        put_marked(records, Kind::L, &numbers, &[], marks);
         for part in line.points.chunks(7) {
             let numbers: Vec<i32> = part.iter().flat_map(|(x, y)| [*x, *y]).collect();
             put(records, Kind::Coordinates, &numbers, &[]);
@@ -180,7 +190,7 @@ impl Layer {
         let lines: usize = area.loops.iter().map(Vec::len).sum();
         let (x, y) = area.place;
         let numbers = [self.code, area.code, serial, x, y, area.loops.len() as i32, lines as i32];
-        put(records, Kind::A, &numbers, &area.name);
+        put_marked(records, Kind::A, &numbers, &area.name, [self.mark(area.code, area.zeros), 0]);
         for (index, one) in area.loops.iter().enumerate() {
             for part in one.chunks(12) {
                 let mut numbers = vec![loop_serial(index as i32 + 1), one.len() as i32];
@@ -192,7 +202,11 @@ impl Layer {
 }
 
 fn put(records: &mut Records, kind: Kind, numbers: &[i32], name: &[u8]) {
-    let mut value = Value::empty(kind);
+    put_marked(records, kind, numbers, name, [0; 2]);
+}
+
+fn put_marked(records: &mut Records, kind: Kind, numbers: &[i32], name: &[u8], marks: [u32; 2]) {
+    let mut value = Value { marks, ..Value::empty(kind) };
     value.numbers[..numbers.len()].copy_from_slice(numbers);
     value.name[..name.len()].copy_from_slice(name);
     records.push((kind, bytes_of(&value).expect("a value of a sheet fits")));
@@ -210,10 +224,10 @@ pub fn sheet_s() -> Sheet {
         kind: 9,
         ends: [End { node: 1, link: 2 }; 2],
         left: OUTSIDE,
-        right: Side { code: 13101, area: 1 },
+        right: Side { code: 13101, zeros: false, area: 1 },
         points: vec![(0, 0), (0, 10_000), (10_000, 10_000), (10_000, 0), (0, 0)],
     };
-    let area = Area { code: 13101, place: (5000, 5000), loops: vec![vec![1]], name: two_byte_spaces() };
+    let area = Area { code: 13101, zeros: false, place: (5000, 5000), loops: vec![vec![1]], name: two_byte_spaces() };
     let layer = Layer {
         code: 1,
         first_made: 0,
@@ -223,4 +237,15 @@ pub fn sheet_s() -> Sheet {
         areas: vec![area],
     };
     Sheet { meshes: vec![Mesh { code: 533_945, name: two_byte_spaces(), layers: vec![layer] }] }
+}
+
+/// Sheet S as a sheet of layer 5 with land on its whole ground, which is spelled both ways (RULES 11.3).
+pub fn land_s() -> Sheet {
+    let mut sheet = sheet_s();
+    let layer = &mut sheet.meshes[0].layers[0];
+    layer.code = 5;
+    layer.nodes[0].item = 1;
+    layer.lines[0].right = Side { code: 0, zeros: true, area: 1 };
+    layer.areas[0].code = 0;
+    sheet
 }

@@ -1,9 +1,8 @@
 //! Stages 1 and 2: the walk over the file, and what it finds.
 
-use crate::fields::number;
 use crate::layout::{a, h, l, layout, lp, m, n, Kind, Sort, MOST_RECORDS, RECORD};
 use crate::positions::{coordinate_permitted, mesh_permitted};
-use crate::records::{well_formed, wrong_letters, wrong_line_end, Broken, Refusal};
+use crate::records::{held, well_formed, wrong_letters, wrong_line_end, Broken, Refusal};
 
 /// What stage 2 finds in a file. Record numbers count from 1.
 pub struct Found {
@@ -377,12 +376,12 @@ impl Look {
         }
         let layout = layout(kind);
         for (index, field) in layout.numbers.iter().enumerate() {
-            look.values[index] = number(field.of(bytes));
+            look.values[index] = held(field, bytes).map(|(number, _)| number);
             if look.values[index].is_none() {
                 look.broken.rule(5, record, field.start as u32);
             }
         }
-        for field in layout.fields.iter().filter(|field| field.sort != Sort::Number) {
+        for field in layout.fields.iter().filter(|field| matches!(field.sort, Sort::Name | Sort::Blank)) {
             if !well_formed(field, bytes) {
                 look.broken.rule(5, record, field.start as u32);
             }

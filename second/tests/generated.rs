@@ -2,7 +2,7 @@
 
 use second::generate::{assert_accepted, from_seed, sheet_of};
 use second::random::Random;
-use second::sheet::{Area, Layer, Sheet};
+use second::sheet::{Area, Layer, Line, Sheet, Side};
 use std::collections::BTreeMap;
 
 fn layers(sheet: &Sheet) -> impl Iterator<Item = &Layer> {
@@ -36,8 +36,13 @@ fn see_layer(layer: &Layer, see: &mut impl FnMut(&'static str, bool)) {
     see("two points", layer.lines.iter().any(|line| line.points.len() == 2));
     see("thousands of points", layer.lines.iter().any(|line| line.points.len() > 2000));
     see("outside on both sides", layer.lines.iter().any(|line| line.left.area == 0 && line.right.area == 0));
-    see("one area on both sides", layer.lines.iter().any(|line| line.left.area != 0 && line.left == line.right));
-    see("land in layer 5", layer.code == 5 && layer.areas.iter().any(|area| area.code == 0));
+    see("one area on both sides", layer.lines.iter().any(|line| line.left.area != 0 && line.left.area == line.right.area));
+    let land = |zeros| layer.code == 5 && layer.areas.iter().any(|area| area.code == 0 && area.zeros == zeros);
+    see("land in layer 5", land(false));
+    see("land as 0000", land(true));
+    see("land spelled both ways", land(false) && land(true));
+    let unlike = |line: &Line| [line.left, line.right].iter().any(|side| unlike_its_area(layer, side));
+    see("land spelled unlike its area", layer.lines.iter().any(unlike));
     see("sea", layer.areas.iter().any(|area| area.code == 99999));
     let long = |area: &Area| area.loops.iter().any(|one| one.len() > 12);
     see("loop of several records", layer.areas.iter().any(long));
@@ -45,6 +50,11 @@ fn see_layer(layer: &Layer, see: &mut impl FnMut(&'static str, bool)) {
     see("many holes", layer.areas.iter().any(|area| area.loops.len() > 4));
     see("hole of several lines", layer.areas.iter().any(|area| area.loops[1..].iter().any(|one| one.len() > 1)));
     see("hundreds of lines", layer.lines.len() > 300);
+}
+
+/// A side of land that is spelled in another way than in its area.
+fn unlike_its_area(layer: &Layer, side: &Side) -> bool {
+    layer.code == 5 && side.code == 0 && layer.areas[side.area as usize - 1].zeros != side.zeros
 }
 
 #[test]

@@ -1,18 +1,27 @@
 //! Sheet S, its neighbours, and the cases of the fields.
 
-use second::fields::{is_blank, is_name, number, spelled};
+use second::fields::{code, code_spelled, is_blank, is_name, number, spelled};
 use second::generate::from_seed;
 use second::judge::{judge, Counts};
 use second::layout::{Kind, KINDS};
 use second::positions::position;
+use second::product::{Product, Second};
 use second::records::{bytes_of, read, write, Refusal, Value};
-use second::sheet::sheet_s;
+use second::sheet::{land_s, sheet_s};
 use second::sums::{sums_of_all, sums_of_layer, Sums};
 use second::walk::record;
 
 /// Sheet S with texts set at (record, column).
 fn s_with(changes: &[(usize, usize, &[u8])]) -> Vec<u8> {
-    let mut file = sheet_s().bytes();
+    with(sheet_s().bytes(), changes)
+}
+
+/// Sheet S of layer 5, with land on its ground and texts set.
+fn land_with(changes: &[(usize, usize, &[u8])]) -> Vec<u8> {
+    with(land_s().bytes(), changes)
+}
+
+fn with(mut file: Vec<u8>, changes: &[(usize, usize, &[u8])]) -> Vec<u8> {
     for (record, column, text) in changes {
         let at = (record - 1) * 74 + column - 1;
         file[at..at + text.len()].copy_from_slice(text);
@@ -105,6 +114,74 @@ fn the_open_points() {
     gives(&[(3, 31, b"    1")], (12 + 1, 3, 31));
     gives(&[(6, 29, b"   2")], (10, 6, 29));
     gives(&[(7, 1, b"   -1")], (8, 7, 1));
+}
+
+/// Sheet S of layer 5 by hand: what RULES 11.3 changes in sheet S.
+#[test]
+fn land_by_hand() {
+    let changes: [(usize, usize, &[u8]); 7] = [
+        (2, 3, b" 5"), (3, 3, b" 5"), (4, 3, b" 5"), (6, 3, b" 5"), (3, 5, b" 1"), (4, 40, b" 0000"), (6, 5, b"    0"),
+    ];
+    assert_eq!(land_s().bytes(), s_with(&changes));
+}
+
+#[test]
+fn land_is_accepted() {
+    let file = land_s().bytes();
+    let (mut table, mut measures) = ([7; 8], [-1; 2]);
+    let outcome = judge(&file, &mut table, &mut measures);
+    assert_eq!(outcome.refusal, Refusal::default());
+    assert_eq!(outcome.counts, Counts { meshes: 1, layers: 1, nodes: 1, lines: 1, areas: 1, records: 7 });
+    assert_eq!(table, [2, 1, 1, 1, 4, 6, 7, 7]);
+    assert_eq!(measures, [200_000_000, -1]);
+    let sums = Sums { areas: 200_000_000, outside: 200_000_000 };
+    assert_eq!(sums_of_layer(&file, &mut [0; 6], 1), (Refusal::default(), sums));
+}
+
+#[test]
+fn land_changed() {
+    let gives = |changes: &[(usize, usize, &[u8])], expected| assert_eq!(answer(&land_with(changes)), expected, "{changes:?}");
+    gives(&[], (0, 0, 0));
+    gives(&[(4, 40, b"    0"), (6, 5, b" 0000")], (0, 0, 0));
+    gives(&[(4, 40, b"    0")], (0, 0, 0));
+    gives(&[(6, 5, b" 0000")], (0, 0, 0));
+    gives(&[(4, 40, b"00000")], (5, 4, 40));
+    gives(&[(6, 5, b"  000")], (5, 6, 5));
+    gives(&[(4, 30, b" 0000")], (6, 4, 35));
+    gives(&[(4, 30, b"    0")], (6, 4, 35));
+    for ill in [b"00000", b"  000", b"   00", b"0000 ", b"-0000", b" 000 ", b"0 000", b" 0001", b" 000O", b"\x000000"] {
+        gives(&[(4, 30, ill)], (5, 4, 30));
+        gives(&[(4, 40, ill)], (5, 4, 40));
+        gives(&[(6, 5, ill)], (5, 6, 5));
+    }
+    // Land is a code and no area, and no number but a code takes its spelling.
+    gives(&[(4, 45, b"    0")], (6, 4, 45));
+    gives(&[(4, 35, b" 0000")], (5, 4, 35));
+    gives(&[(4, 45, b" 0000")], (5, 4, 45));
+    gives(&[(2, 20, b" 0000")], (5, 2, 20));
+    gives(&[(3, 12, b" 0000")], (5, 3, 12));
+    gives(&[(3, 36, b" 0000")], (5, 3, 36));
+    gives(&[(5, 1, b" 0000")], (5, 5, 1));
+    gives(&[(6, 15, b" 0000")], (5, 6, 15));
+    gives(&[(7, 15, b" 0000")], (5, 7, 15));
+    // Another code beside land is 12 for either spelling.
+    gives(&[(6, 5, b"    1")], (12, 4, 40));
+    gives(&[(6, 5, b"    1"), (4, 40, b"    0")], (12, 4, 40));
+    gives(&[(4, 40, b"    1"), (6, 5, b" 0000")], (12, 4, 40));
+    // The record's own layer code says how its codes are spelled. Another one than its H's is told before them.
+    gives(&[(4, 3, b" 1")], (8, 4, 3));
+    gives(&[(4, 3, b"05")], (5, 4, 3));
+    gives(&[(4, 3, b" 7")], (6, 4, 3));
+    gives(&[(6, 3, b" 1"), (6, 5, b" 0000")], (8, 6, 3));
+}
+
+#[test]
+fn land_in_layer_1() {
+    gives(&[(4, 40, b" 0000")], (5, 4, 40));
+    gives(&[(4, 40, b"    0")], (6, 4, 40));
+    gives(&[(4, 30, b" 0000")], (5, 4, 30));
+    gives(&[(6, 5, b" 0000")], (5, 6, 5));
+    gives(&[(4, 3, b" 5"), (4, 40, b" 0000")], (8, 4, 3));
 }
 
 #[test]
@@ -234,6 +311,26 @@ fn number_fields() {
     assert_eq!(spelled(i32::MIN, 6), None);
 }
 
+/// As a code " 0000" is 0 with mark 1, in layer 5 alone. All other texts are what they are as a number, with mark 0.
+#[test]
+fn codes() {
+    let layers = [None, Some(0), Some(1), Some(4), Some(5), Some(6), Some(15), Some(55), Some(-5)];
+    for layer in layers {
+        for k in 0..5usize.pow(5) {
+            let field: [u8; 5] = std::array::from_fn(|place| b" 0-19"[k / 5usize.pow(place as u32) % 5]);
+            let land = layer == Some(5) && field == *b" 0000";
+            assert_eq!(code(&field, layer), if land { Some((0, 1)) } else { number(&field).map(|code| (code, 0)) });
+        }
+        for value in [0, 1, -1, 5, 88888, 99999, 100_000, i32::MIN] {
+            assert_eq!(code_spelled(value, 0, layer), spelled(value, 5));
+            for mark in [1, 2, 3, 256, 257, u32::MAX] {
+                let land = (value, mark, layer) == (0, 1, Some(5));
+                assert_eq!(code_spelled(value, mark, layer), land.then_some(*b" 0000   "));
+            }
+        }
+    }
+}
+
 #[test]
 fn every_text_of_width_three() {
     let bytes = *b" -0129/:";
@@ -285,6 +382,80 @@ fn single_records() {
     assert_eq!(read(Kind::H, &h1), refused(2, 74));
     assert_eq!(record(&s, 0), &[]);
     assert_eq!(record(&s[..517], 7), &[]);
+}
+
+/// Both ways, with marks: an L has two, an A one, and a refused reading has none.
+#[test]
+fn marks_are_read_and_written() {
+    let cases: [(Kind, &[(usize, usize, &[u8])], [u32; 2]); 7] = [
+        (Kind::L, &[], [0, 1]),
+        (Kind::L, &[(4, 30, b" 0000")], [1, 1]),
+        (Kind::L, &[(4, 30, b" 0000"), (4, 40, b"    0")], [1, 0]),
+        (Kind::L, &[(4, 30, b"    0"), (4, 40, b"    0")], [0, 0]),
+        (Kind::A, &[], [0, 0]),
+        (Kind::A, &[(6, 5, b" 0000")], [1, 0]),
+        (Kind::Loop, &[], [0, 0]),
+    ];
+    for (kind, changes, marks) in cases {
+        let file = land_with(changes);
+        let bytes = record(&file, kind as usize);
+        let value = read(kind, bytes).unwrap();
+        assert_eq!(value.marks, marks);
+        assert_eq!(bytes_of(&value).unwrap(), *bytes);
+    }
+    let refused = |column| Err(Refusal { number: 5, record: 1, column });
+    let read_l = |changes| read(Kind::L, record(&land_with(changes), 4));
+    assert_eq!(read_l(&[(4, 3, b" 1")]), refused(40));
+    assert_eq!(read_l(&[(4, 3, b" 1"), (4, 30, b" 0000")]), refused(30));
+    assert_eq!(read_l(&[(4, 3, b"15")]), refused(40));
+    assert_eq!(read_l(&[(4, 3, b"-5")]), refused(40));
+    assert_eq!(read_l(&[(4, 3, b"05")]), refused(3));
+    assert_eq!(read_l(&[(4, 3, b"5 ")]), refused(3));
+    assert_eq!(read_l(&[(4, 45, b" 0000")]), refused(45));
+    assert_eq!(read(Kind::A, record(&land_with(&[(6, 5, b"00000")]), 6)), refused(5));
+    let (_, value) = Second.read_record(4, record(&land_with(&[(4, 61, b"x")]), 4));
+    assert_eq!(value, Value::empty(Kind::L).into());
+}
+
+#[test]
+fn marks_that_do_not_fit() {
+    let file = land_s().bytes();
+    let value = |kind: Kind| read(kind, record(&file, kind as usize)).unwrap();
+    let number = |value: Value, length: usize| {
+        let mut buffer = [b'#'; 80];
+        let number = write(&value, &mut buffer[..length]);
+        assert!(number == 0 || buffer == [b'#'; 80]);
+        number
+    };
+    for mark in [2, 3, 256, 257, 0x1_0001, u32::MAX] {
+        for marks in [[mark, 0], [0, mark], [mark, mark], [1, mark]] {
+            for kind in KINDS {
+                assert_eq!(number(Value { marks, ..value(kind) }, 80), 20);
+                assert_eq!(number(Value { marks, ..value(kind) }, 73), 21);
+            }
+        }
+    }
+    // A mark of 1 stands beside code 0, in layer 5, in a place that the kind has.
+    let mut l = value(Kind::L);
+    assert_eq!((l.numbers[8], l.numbers[10], l.marks), (88888, 0, [0, 1]));
+    assert_eq!(number(l, 74), 0);
+    assert_eq!(number(Value { marks: [1, 0], ..l }, 74), 20);
+    assert_eq!(number(Value { marks: [1, 1], ..l }, 74), 20);
+    l.numbers[0] = 1;
+    assert_eq!(number(l, 74), 20);
+    assert_eq!(number(l, 73), 21);
+    assert_eq!(number(Value { marks: [0, 0], ..l }, 74), 0);
+    let mut a = value(Kind::A);
+    assert_eq!(number(Value { marks: [1, 0], ..a }, 74), 0);
+    assert_eq!(number(Value { marks: [0, 1], ..a }, 74), 20);
+    assert_eq!(number(Value { marks: [1, 1], ..a }, 74), 20);
+    a.numbers[1] = 1;
+    assert_eq!(number(Value { marks: [1, 0], ..a }, 74), 20);
+    for kind in [Kind::M, Kind::H, Kind::N, Kind::Coordinates, Kind::Loop] {
+        assert_eq!(number(value(kind), 74), 0);
+        assert_eq!(number(Value { marks: [1, 0], ..value(kind) }, 74), 20);
+        assert_eq!(number(Value { marks: [0, 1], ..value(kind) }, 74), 20);
+    }
 }
 
 #[test]

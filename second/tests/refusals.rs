@@ -50,7 +50,7 @@ fn every_refusal_is_reached() {
     assert!(missing.is_empty(), "{missing:?}");
 }
 
-/// Where the refusals 10 to 18 can stand.
+/// Where the refusals 10 to 18 can stand, and 5 and 6 about codes.
 fn expected() -> Vec<(u32, Option<Kind>, u32)> {
     let mut places = Vec::new();
     let mut add = |number: u32, kind: Kind, columns: &[u32]| {
@@ -59,6 +59,10 @@ fn expected() -> Vec<(u32, Option<Kind>, u32)> {
     let node_slots: Vec<u32> = (0..9).map(|slot| 26 + 5 * slot).collect();
     let loop_slots: Vec<u32> = (0..12).map(|slot| 10 + 5 * slot).collect();
     let point_columns: Vec<u32> = (0..7).map(|point| 1 + 10 * point).collect();
+    add(5, Kind::L, &[30, 40]);
+    add(5, Kind::A, &[5]);
+    add(6, Kind::L, &[30, 35, 40, 45]);
+    add(6, Kind::A, &[5]);
     add(10, Kind::M, &[32, 37, 42, 52]);
     add(10, Kind::H, &[25]);
     add(10, Kind::A, &[29]);

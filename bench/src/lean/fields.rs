@@ -64,6 +64,16 @@ pub fn number(record: &Record, start: usize, end: usize) -> Kept<i32> {
     }
 }
 
+/// The code of a field of five columns, and its mark: " 0000" is 0 with mark 1 in a record of layer 5.
+#[inline(always)]
+pub fn code(record: &Record, start: usize) -> Kept<(i32, u32)> {
+    match number(record, start, start + 4) {
+        Ok(code) => Ok((code, 0)),
+        Err(_) if &record[start - 1..start + 4] == b" 0000" && &record[2..4] == b" 5" => Ok((0, 1)),
+        Err(fault) => Err(fault),
+    }
+}
+
 /// A number below 0: spaces, "-", and digits without a leading zero.
 #[inline]
 fn below_zero(field: u64, blanks: u32) -> Option<i32> {

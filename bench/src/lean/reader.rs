@@ -1,12 +1,12 @@
 //! One record, read by the kind that the caller names.
 
-use super::fields::{blank, letters, name, number, rule, Kept, Record, RECORD};
+use super::fields::{blank, code, letters, name, number, rule, Kept, Record, RECORD};
 use second::product::RawValue;
 use second::records::Refusal;
 
 /// Reads a single record. Refused, its value is the named kind with all else 0.
 pub fn read_record(kind: u32, bytes: &[u8]) -> (Refusal, RawValue) {
-    let empty = RawValue { kind, numbers: [0; 16], name: [0; 40] };
+    let empty = RawValue { kind, numbers: [0; 16], name: [0; 40], marks: [0; 2] };
     let refused = |number, column| (Refusal { number, record: 1, column }, empty);
     let Ok(record) = <&Record>::try_from(bytes) else {
         return refused(1, 1);
@@ -23,9 +23,9 @@ pub fn read_record(kind: u32, bytes: &[u8]) -> (Refusal, RawValue) {
     }
 }
 
-/// The numbers and the name of a record, in column order.
+/// The numbers, the name and the marks of a record, in column order.
 fn fill(value: &mut RawValue, record: &Record) -> Kept<()> {
-    let mut numbers = Numbers { numbers: &mut value.numbers, next: 0, record };
+    let mut numbers = Numbers { numbers: &mut value.numbers, next: 0, marks: &mut value.marks, next_mark: 0, record };
     match value.kind {
         1 => {
             letters(record, b"M ")?;
@@ -53,7 +53,10 @@ fn fill(value: &mut RawValue, record: &Record) -> Kept<()> {
         4 => {
             letters(record, b"L ")?;
             numbers.read([(3, 4), (5, 6), (7, 11), (12, 17), (18, 22), (23, 23), (24, 28), (29, 29)])?;
-            numbers.read([(30, 34), (35, 39), (40, 44), (45, 49), (50, 55), (56, 57), (58, 60)])?;
+            numbers.code(30)?;
+            numbers.read([(35, 39)])?;
+            numbers.code(40)?;
+            numbers.read([(45, 49), (50, 55), (56, 57), (58, 60)])?;
             blank(record, 61, 72)
         }
         5 => {
@@ -62,7 +65,9 @@ fn fill(value: &mut RawValue, record: &Record) -> Kept<()> {
         }
         6 => {
             letters(record, b"A ")?;
-            numbers.read([(3, 4), (5, 9), (10, 14), (15, 19), (20, 24), (25, 28), (29, 32)])?;
+            numbers.read([(3, 4)])?;
+            numbers.code(5)?;
+            numbers.read([(10, 14), (15, 19), (20, 24), (25, 28), (29, 32)])?;
             name(record, 33, 72)?;
             value.name.copy_from_slice(&record[32..72]);
             Ok(())
@@ -76,10 +81,12 @@ fn fill(value: &mut RawValue, record: &Record) -> Kept<()> {
     }
 }
 
-/// The numbers of a value, filled one after another.
+/// The numbers and the marks of a value, filled one after another.
 struct Numbers<'a> {
     numbers: &'a mut [i32; 16],
     next: usize,
+    marks: &'a mut [u32; 2],
+    next_mark: usize,
     record: &'a Record,
 }
 
@@ -91,6 +98,17 @@ impl Numbers<'_> {
             self.numbers[self.next] = number(self.record, start, end)?;
             self.next += 1;
         }
+        Ok(())
+    }
+
+    /// The code that starts at a column, with its mark.
+    #[inline(always)]
+    fn code(&mut self, start: usize) -> Kept<()> {
+        let (code, mark) = code(self.record, start)?;
+        self.numbers[self.next] = code;
+        self.marks[self.next_mark] = mark;
+        self.next += 1;
+        self.next_mark += 1;
         Ok(())
     }
 

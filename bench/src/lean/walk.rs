@@ -1,6 +1,6 @@
 //! Stages 1 and 2: the walk over the file, a layer at a time.
 
-use super::fields::{blank, in_step, letters, name, number, permit, Fault, Kept, Record, RECORD};
+use super::fields::{blank, code, in_step, letters, name, number, permit, Fault, Kept, Record, RECORD};
 use second::records::Refusal;
 
 /// A file has at most so many records.
@@ -444,7 +444,7 @@ fn link(record: &Record, column: usize) -> Kept<u8> {
 /// One side: the code, and the area five columns on. The area is 0 exactly if the code is 88888.
 #[inline(always)]
 fn side(record: &Record, layer: i32, column: usize) -> Kept<(i32, i32)> {
-    let code = number(record, column, column + 4)?;
+    let (code, _) = code(record, column)?;
     permit(column, code_permitted(layer, code))?;
     let area = number(record, column + 5, column + 9)?;
     permit(column + 5, area >= 0 && (area == 0) == (code == 88888))?;
@@ -472,7 +472,7 @@ fn coordinates_record(record: &Record, count: usize) -> Kept<[(i64, i64); 7]> {
 fn area_record(record: &Record, layer: i32, serial: i32) -> Kept<Area> {
     letters(record, b"A ")?;
     belongs(record, layer)?;
-    let code = number(record, 5, 9)?;
+    let (code, _) = code(record, 5)?;
     permit(5, code_permitted(layer, code) && code != 88888)?;
     let told = number(record, 10, 14)?;
     in_step(10, told == serial)?;

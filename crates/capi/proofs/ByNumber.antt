@@ -87,7 +87,12 @@ module _ (n : ℕ) (s : List ℕ) {m : Meant} (e : m ≡ meantBy n) where
   found-none z = rw (← e, z)
 
   pub found-a : (k : Kind) {r : Reading} {j : ℕ} → m ≡ A k → r ≡ readingOf k s → j ≡ kindNumber (r .value .kind)
-      → record { number = r .number; place = r .place; column = r .column; value = record { kind = j; numbers = r .value .numbers; name = r .value .name } }
+      → record {
+        number = r .number;
+        place = r .place;
+        column = r .column;
+        value = record { kind = j; numbers = r .value .numbers; name = r .value .name; marks = r .value .marks };
+      }
       ≡ foundOf n s
   unfolding foundOf
   found-a k z q p = rw (← e, z, p, q)

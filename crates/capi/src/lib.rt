@@ -24,12 +24,14 @@ pub enum Meant {
     Nothing,
 }
 
-// A record's value with its kind as a number: 1 M, 2 H, 3 N, 4 L, 5 coordinates, 6 A, 7 loop.
+// A record's value with its kind as a number: 1 M, 2 H, 3 N, 4 L, 5 coordinates, 6 A, 7 loop. The marks stand
+// behind the name, as in the header.
 #[repr(C)]
 pub struct Value {
     pub kind: u32,
     pub numbers: [i32; 16],
     pub name: [u8; 40],
+    pub marks: [u32; 2],
 }
 
 // What reading finds: a refusal's number with its place, record and column, or 0 at 0, 0; and the
@@ -137,6 +139,7 @@ fn no_kind() -> Found
 {
     let numbers = [0i32; 16];
     let name = [0u8; 40];
+    let marks = [0u32; 2];
     Found {
         number: 3,
         place: 1,
@@ -145,6 +148,7 @@ fn no_kind() -> Found
             kind: 0,
             numbers,
             name,
+            marks,
         },
     }
 }
@@ -163,6 +167,7 @@ pub extern "C" fn stragumella_read_record(kind: u32, bytes: &[u8]) -> Found
     let same = value.kind;
     let numbers = value.numbers;
     let name = value.name;
+    let marks = value.marks;
     Found {
         number: reading.number,
         place: reading.place,
@@ -171,6 +176,7 @@ pub extern "C" fn stragumella_read_record(kind: u32, bytes: &[u8]) -> Found
             kind: number_of(same),
             numbers,
             name,
+            marks,
         },
     }
 }
@@ -189,12 +195,14 @@ pub extern "C" fn stragumella_write_record(value: Value, buffer: &mut [u8]) -> u
     };
     let numbers = value.numbers;
     let name = value.name;
+    let marks = value.marks;
     record_writer::write_record(
         buffer,
         Record {
             kind,
             numbers,
             name,
+            marks,
         },
     )
 }

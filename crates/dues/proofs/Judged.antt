@@ -13,6 +13,9 @@ use borrow.Author.Tests.{eq-eqb}
 use Rattle.fields.specs.Number.{numberAt}
 use Rattle.fields.specs.Text.{isName, isBlanks, textAt}
 use Rattle.fields.specs.Answer.{numberRefusal, textRefusal}
+use Rattle.codes.specs.Code.{codeRefusal}
+use Rattle.codes.specs.declared.Code.{Code}
+use Rattle.codes.specs.declared.Code.the-variants as code
 use Rattle.fields.specs.declared.Number.{Number}
 use Rattle.fields.specs.declared.Number.the-variants as number
 use Rattle.fields.specs.declared.Text.{Text}
@@ -22,7 +25,7 @@ use Rattle.records.specs.declared.Field.the-variants as field
 use Rattle.records.specs.declared.Kind.{Kind}
 use Rattle.records.specs.declared.Kind.the-variants as kind
 use Rattle.records.specs.Layout.{layoutOf}
-use Rattle.records.specs.Reading.{faultOf, firstFault, noFault, zeros, fieldsOf, readingOf}
+use Rattle.records.specs.Reading.{codeIn, faultOf, firstFault, noFault, zeros, fieldsOf, readingOf}
 use Rattle.records.specs.View.{recordOf}
 use Rattle.records.proofs.Numbers.{record-length}
 use Rattle.verdict.specs.declared.Verdict.the-variants.{Fine, Broken}
@@ -32,7 +35,7 @@ use Rattle.verdict.proofs.Holding.{Holding, all-hold, both-hold, row-fine}
 use Rattle.asks.specs.Asks.{Ask}
 use Rattle.rules.specs.declared.Due.{Due}
 use Rattle.rules.specs.declared.Due.the-variants as due
-use Rattle.rules.specs.Checks.{kindOf, askedOf, formChecks, valueChecks, withNumber, along, checksOf}
+use Rattle.rules.specs.Checks.{kindOf, askedOf, formChecks, valueChecks, withNumber, withCode, along, checksOf}
 use Rattle.walk.specs.States.{dueOf, stateAt}
 use Rattle.walk.specs.Stages.{recordsOf, endChecks, stageOne, lastChecks, stageTwo, mayEnd, walkedOf}
 use Rattle.walk.proofs.Judging.{endsOf, stageTwoRules, two-holds, whole, walked-verdict}
@@ -63,6 +66,10 @@ number-free : (x : Number) → not (eqb (numberRefusal x) 5) ≡ true → number
 number-free (number.Value v) h = refl
 number-free number.Refused h = absurd (false≢true h)
 
+code-free : (x : Code) → not (eqb (codeRefusal x) 5) ≡ true → codeRefusal x ≡ 0
+code-free (code.Value v m) h = refl
+code-free code.Refused h = absurd (false≢true h)
+
 letters-free : (p q : Bool) → not (eqb (cond p 0 (cond q 7 3)) 3) ≡ true → not (eqb (cond p 0 (cond q 7 3)) 7) ≡ true
     → _≡_ {A = ℕ} (cond p 0 (cond q 7 3)) 0
 letters-free true q h g = refl
@@ -77,6 +84,7 @@ module _ (t : List ℕ) where
   formed (field.Letters a b) h =
       letters-free (eqb (getD t 0 0) a && eqb (getD t 1 0) b) (eqb a 72 && (eqb (getD t 0 0) 72 && eqb (getD t 1 0) 49)) (h .0) (h .1 .0)
   formed (field.Number c w) h = number-free (numberAt t c w) (h .0)
+  formed (field.Code c w) h = code-free (codeIn t c w) (h .0)
   formed (field.Name c w) h = text-free (textAt isName t c w) (h .0)
   formed (field.Blank c w) h = text-free (textAt isBlanks t c w) (h .0)
 
@@ -96,6 +104,10 @@ module _ (t : List ℕ) where
       let b = both-hold (formChecks (field.Number c w) t) _ h in
       let v = both-hold (valueChecks c (a i (withNumber ns i t c w))) _ (b .1) in
       rw (formed (field.Number c w) (b .0)) (no-fault a L (suc i) (withNumber ns i t c w) (v .1))
+  no-fault a (field.Code c w ∷ L) i ns h =
+      let b = both-hold (formChecks (field.Code c w) t) _ h in
+      let v = both-hold (valueChecks c (a i (withCode ns i t c w))) _ (b .1) in
+      rw (formed (field.Code c w) (b .0)) (no-fault a L (suc i) (withCode ns i t c w) (v .1))
   no-fault a (field.Name c w ∷ L) i ns h =
       let b = both-hold (formChecks (field.Name c w) t) _ h in
       rw (formed (field.Name c w) (b .0)) (no-fault a L i ns (b .1))

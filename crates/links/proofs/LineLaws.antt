@@ -9,9 +9,10 @@ use lib.Signed.{mag}
 use mir.Syntax.{w32}
 use mir.Val.{toZ, ofZ, hbits}
 use borrow.Author.Tests.{not-true, not-false, lt-ltb, le-ltb, le-leb, lt-leb, eq-eqb, ne-eqb}
-use Rattle.records.specs.Columns.{Row, rowSpanOf, slotStart, Span, numberOn, valueAt, slotColumn, slotAt}
+use Rattle.records.specs.Columns.{Row, rowSpanOf, slotStart, Span, spanOf, numberOn, valueAt, codeOn, slotColumn, slotAt}
 use Rattle.records.specs.Columns as column
 use Rattle.records.proofs.Named.{start-there}
+use Rattle.records.proofs.Codes.{code-on}
 use Rattle.verdict.specs.declared.Verdict.{Verdict}
 use Rattle.verdict.specs.declared.Verdict.the-variants.{Fine, Broken}
 use Rattle.verdict.specs.Rules.{Check, check, firstBroken, block, rows}
@@ -149,7 +150,7 @@ module _ (file : List ℕ) (l : Layer) (r : ℕ) (c k : Span) (back : Bool) (row
 module _ (file t : List ℕ) (l : Layer) (r : ℕ) (c a : Span) (row : ℕ) {z : ℤ} {b : Bool}
     (ok : InWord z) (e : z ≡ numberOn file r a) (n : b ≡ names (l .areas) (handedOn z)) where
   unnamed : not b ≡ true
-      → (not (names (l .areas) (numberOn file r a)) || equal (numberOn file r c) (valueAt file (areaOf t l (numberOn file r a)) column.areaCode)) ≡ true
+      → (not (names (l .areas) (numberOn file r a)) || equal (codeOn file r c) (codeOn file (areaOf t l (numberOn file r a)) (spanOf column.areaCode))) ≡ true
   unnamed h = rw (answer-is (names (l .areas)) ok e n ∙ not-true b h)
 
   area : not b ≡ false → names (l .areas) (numberOn file r a) ≡ true
@@ -169,8 +170,10 @@ module _ (file t : List ℕ) (l : Layer) (r : ℕ) (c a : Span) (row : ℕ) {z :
   -- m is the area's record, y the line's code, w the area's, and d says whether they are equal
   module _ {m : ℕ} {y w : ℤ} {d : Bool} (f : m ≡ areaOf t l (handedOn z)) (oky : InWord y) (ey : y ≡ numberOn file r c)
       (okw : InWord w) (ew : w ≡ valueAt file m column.areaCode) (q : d ≡ equal (handedOn y) (handedOn w)) where
-    alike : equal (numberOn file r c) (valueAt file (areaOf t l (numberOn file r a)) column.areaCode) ≡ d
-    alike = told-both equal oky ey okw (ew ∙ ap (λ m. valueAt file m column.areaCode) (sym (answer-is (areaOf t l) ok e f))) q
+    alike : equal (codeOn file r c) (codeOn file (areaOf t l (numberOn file r a)) (spanOf column.areaCode)) ≡ d
+    alike =
+        rw (code-on file r c, code-on file (areaOf t l (numberOn file r a)) (spanOf column.areaCode))
+        (told-both equal oky ey okw (ew ∙ ap (λ m. valueAt file m column.areaCode) (sym (answer-is (areaOf t l) ok e f))) q)
 
     pub side-unlike : {x : Verdict} → not b ≡ false → not d ≡ true → x ≡ Broken 12 row (c .start)
         → x ≡ firstBroken (block fifth row (sideChecks file t l r c a))

@@ -14,7 +14,7 @@ use lib.Dec.{eqb, leb, ltb}
 use lib.IntN.{ℤ}
 use lib.ListN.{getD}
 use Rattle.records.specs.View.{numberIn}
-use Rattle.records.specs.Columns.{Column, Span, spanOf, numberOn, valueAt, slotColumn, slotAt}
+use Rattle.records.specs.Columns.{Column, Span, spanOf, numberOn, valueAt, codeOn, slotColumn, slotAt}
 use Rattle.records.specs.Columns as column
 use Rattle.verdict.specs.Rules.{Rule, Check, check, spread}
 use Rattle.permitted.specs.Permitted.{natural, size, isZero, same}
@@ -114,12 +114,12 @@ lineEndChecks file l r c k back =
     ∷ []
 
 -- RULES 6.7, 12, 11: the side whose code stands in the columns c and whose area number stands in the columns a: the code is that of its
--- area; the area number names an area or is 0
+-- area, by value whatever the marks (RULES 5.7); the area number names an area or is 0
 unfoldable pub sideChecks : List ℕ → List ℕ → layers.Layer → ℕ → Span → Span → List Check
 sideChecks file t l r c a =
     check (c .start) 12
     (not (names (l .areas) (numberOn file r a))
-    || equal (numberOn file r c) (valueAt file (areaOf t l (numberOn file r a)) column.areaCode))
+    || equal (codeOn file r c) (codeOn file (areaOf t l (numberOn file r a)) (spanOf column.areaCode)))
     ∷ check (a .start) 11 (isZero (numberOn file r a) || names (l .areas) (numberOn file r a))
     ∷ []
 

@@ -2,6 +2,7 @@
 // The one public function takes every input.
 //
 // The contracts cite `Reading` of `records`.
+use codes::Code;
 use fields::Number;
 use fields::Text;
 use records::Field;
@@ -20,6 +21,7 @@ fn refused(kind: Kind, number: u32, column: usize) -> Reading
 {
     let numbers = [0i32; 16];
     let name = [0u8; 40];
+    let marks = [0u32; 2];
     Reading {
         number,
         place: 1,
@@ -28,13 +30,14 @@ fn refused(kind: Kind, number: u32, column: usize) -> Reading
             kind,
             numbers,
             name,
+            marks,
         },
     }
 }
 
 // Acceptance with a value.
-fn taken(kind: Kind, numbers: [i32; 16], name: [u8; 40]) -> Reading
-    ensures { λ r. ⌜ r ≡ accepted (record { kind = kind; numbers = numbers; name = name }) ⌝ }
+fn taken(kind: Kind, numbers: [i32; 16], name: [u8; 40], marks: [u32; 2]) -> Reading
+    ensures { λ r. ⌜ r ≡ accepted (record { kind = kind; numbers = numbers; name = name; marks = marks }) ⌝ }
 {
     Reading {
         number: 0,
@@ -44,6 +47,7 @@ fn taken(kind: Kind, numbers: [i32; 16], name: [u8; 40]) -> Reading
             kind,
             numbers,
             name,
+            marks,
         },
     }
 }
@@ -69,14 +73,16 @@ fn read_fields(kind: Kind, s: &[u8]) -> Reading
 {
     let mut numbers = [0i32; 16];
     let mut name = [0u8; 40];
+    let mut marks = [0u32; 2];
     let mut n: usize = 0;
     let mut m: usize = 0;
+    let mut q: usize = 0;
     let mut j: usize = 0;
     loop {
         let f = records::field_of(kind, j);
         match f {
             Field::End => {
-                return taken(kind, numbers, name);
+                return taken(kind, numbers, name, marks);
             }
             Field::Letters(a, b) => {
                 let fault = records::letters_fault(a, b, s[0], s[1]);
@@ -110,6 +116,17 @@ fn read_fields(kind: Kind, s: &[u8]) -> Reading
                 let Text::WellFormed = answer else {
                     return refused(kind, 5, c);
                 };
+                j += 1;
+            }
+            Field::Code(c, w) => {
+                let answer = records::read_code(s, c, w);
+                let Code::Value(v, mark) = answer else {
+                    return refused(kind, 5, c);
+                };
+                numbers[n] = v;
+                marks[q] = mark;
+                n += 1;
+                q += 1;
                 j += 1;
             }
         }

@@ -1,5 +1,5 @@
 -- Writing along a layout, one field at a time: what the loop of `spell_record` keeps, over any layout. Assumes nothing.
-use mathlib.Core.Bool.{true, false, _&&_}
+use mathlib.Core.Bool.{Bool, true, false, _&&_}
 use mathlib.Core.List.{List, [], _∷_, _++_, append-assoc, append-nil}
 use mathlib.Core.Path.{_≡_, refl, sym, ap, _∙_}
 use Prim.Native.Nat.{ℕ, _+_, _-_, _≤_, _<_}
@@ -12,11 +12,12 @@ use borrow.Author.Tests.{le-leb, lt-leb, eq-eqb, eqb-true}
 use Rattle.fields.specs.Answer.{numberFits, nameFits, Wrote}
 use Rattle.fields.specs.Place.{isInside, put}
 use Rattle.fields.specs.Spelling.{spell}
+use Rattle.codes.specs.Code.{codeHolds, spellCode, codeFits}
 use Rattle.fields.specs.declared.Writing as writings
 use Rattle.fields.specs.declared.Writing.the-variants as writing
-use Rattle.records.specs.Layout.{layoutOf, startOf, widthOf, numbersOf, bytesOf}
-use Rattle.records.specs.Writing.{fieldText, fieldFits, textOf, noNumbers, noBytes, fits, fitsAll, recordBytes, SpelledAs, Written}
-use Rattle.records.specs.declared.Field.the-variants.{End, Letters, Number, Name, Blank}
+use Rattle.records.specs.Layout.{layoutOf, startOf, widthOf, numbersOf, bytesOf, marksOf}
+use Rattle.records.specs.Writing.{fieldText, markFits, fieldFits, textOf, noNumbers, noBytes, fits, ofLayerFive, fitsAll, recordBytes, SpelledAs, Written}
+use Rattle.records.specs.declared.Field.the-variants.{End, Letters, Number, Code, Name, Blank}
 use Rattle.records.specs.declared.Field.{Field}
 use Rattle.records.specs.declared.Kind.{Kind}
 use Rattle.records.specs.declared.Record.{Record}
@@ -26,22 +27,25 @@ use Rattle.records.proofs.Layouts.{Ahead, ahead, Room, split, total-split, room
 use Rattle.records.proofs.RoundTrips.{field-length}
 
 -- the columns up to `at` are written, and what is left decides and gives the rest
-pub record Lines (L : List Field) (ns : List ℤ) (nm out : List ℕ) (n m j : ℕ) : Type 0 where
-  pub left : Ahead L n m j
+pub record Lines (L : List Field) (ns : List ℤ) (nm ms out : List ℕ) (n m q j : ℕ) : Type 0 where
+  pub left : Ahead L n m q j
   pub long : length out ≡ 74
   pub many : length ns ≡ 16
   pub wide : length nm ≡ 40
+  pub marked : length ms ≡ 2
   pub at : ℕ
   pub tiled : tiles (at + 1) (drop j L) ≡ true
-  pub whole : fits L ns nm ≡ fits (drop j L) (drop n ns) (drop m nm)
-  pub text : take at out ++ textOf (drop j L) (drop n ns) (drop m nm) ≡ textOf L ns nm
+  pub whole : fits (ofLayerFive ns) L ns nm ms ≡ fits (ofLayerFive ns) (drop j L) (drop n ns) (drop m nm) (drop q ms)
+  pub text : take at out ++ textOf (drop j L) (drop n ns) (drop m nm) (drop q ms) ≡ textOf L ns nm ms
 
-pub start : (k : Kind) (ns : List ℤ) (nm out : List ℕ) → length ns ≡ 16 → length nm ≡ 40 → length out ≡ 74 → Lines (layoutOf k) ns nm out 0 0 0
-start k ns nm out l w o = record {
+pub start : (k : Kind) (ns : List ℤ) (nm ms out : List ℕ) → length ns ≡ 16 → length nm ≡ 40 → length ms ≡ 2 → length out ≡ 74
+    → Lines (layoutOf k) ns nm ms out 0 0 0 0
+start k ns nm ms out l w x o = record {
   left = ahead k;
   long = o;
   many = l;
   wide = w;
+  marked = x;
   at = 0;
   tiled = fitting k .tiled;
   whole = refl;
@@ -81,9 +85,9 @@ ended s l =
     ∙ rw (← e, append-assoc)
     (ap (λ x. take 72 s ++ (13 ∷ 10 ∷ x)) (drop-of-length-le (set s 72 13) {i = 74} (rw length-set (omega arith))))
 
-module _ {L : List Field} {ns : List ℤ} {nm out : List ℕ} {n m j : ℕ} (g : Lines L ns nm out n m j) where
+module _ {L : List Field} {ns : List ℤ} {nm ms out : List ℕ} {n m q j : ℕ} (g : Lines L ns nm ms out n m q j) where
   module _ (f : Field) (e : f ≡ getD L j End) (i : isField f ≡ true) where
-    pub room : Room L f n m j
+    pub room : Room L f n m q j
     room = room-ahead L j f e i (g .left)
 
     here : Tile (g .at + 1) f (drop (j + 1) L)
@@ -96,74 +100,119 @@ module _ {L : List Field} {ns : List ℤ} {nm out : List ℕ} {n m j : ℕ} (g :
     inside = inside-fits out (startOf f) (widthOf f) (omega (arith, here .start)) (omega (arith, here .start, width, g .long))
 
     -- a field that fits is written: the loop goes on behind it
-    pub next : (n′ m′ : ℕ) → n′ ≡ n + numbersOf f → m′ ≡ m + bytesOf f → (out′ : List ℕ) → fieldFits f (drop n ns) (drop m nm) ≡ true
-        → out′ ≡ put out (startOf f) (fieldText f (drop n ns) (drop m nm)) → Lines L ns nm out′ n′ m′ (j + 1)
+    pub next : (n′ m′ q′ : ℕ) → n′ ≡ n + numbersOf f → m′ ≡ m + bytesOf f → q′ ≡ q + marksOf f → (out′ : List ℕ)
+        → fieldFits (ofLayerFive ns) f (drop n ns) (drop m nm) (drop q ms) ≡ true
+        → out′ ≡ put out (startOf f) (fieldText f (drop n ns) (drop m nm) (drop q ms)) → Lines L ns nm ms out′ n′ m′ q′ (j + 1)
     unfolding fits textOf
-    next n′ m′ p q out′ y o =
-        let t = fieldText f (drop n ns) (drop m nm) in
-        let l = field-length f (drop n ns) (drop m nm) y in
+    next n′ m′ q′ p r x out′ y o =
+        let t = fieldText f (drop n ns) (drop m nm) (drop q ms) in
+        let l = field-length (ofLayerFive ns) f (drop n ns) (drop m nm) (drop q ms) y in
         let c : g .at + 1 + widthOf f ≡ g .at + widthOf f + 1 = omega arith in
         record {
-          left = next-ahead L j f e i (g .left) n′ m′ p q;
+          left = next-ahead L j f e i (g .left) n′ m′ q′ p r x;
           long = rw o (put-length out (startOf f) (widthOf f) t inside l ∙ g .long);
           many = g .many;
           wide = g .wide;
+          marked = g .marked;
           at = g .at + widthOf f;
           tiled = rw (← c) (here .rest);
-          whole = g .whole ∙ rw (split L j f e i, y, drop-drop, drop-drop, p, q);
+          whole = g .whole ∙ rw (split L j f e i, y, drop-drop, drop-drop, drop-drop, p, r, x);
           text =
               rw (
                 o,
                 put-front out t (startOf f) (g .at) (widthOf f) (here .start) l (omega (arith, width, g .long)),
                 append-assoc,
                 p,
-                q,
+                r,
+                x,
                 ← drop-drop (numbersOf f) n ns,
                 ← drop-drop (bytesOf f) m nm,
+                ← drop-drop (marksOf f) q ms,
               )
               (rw (split L j f e i) at (g .text));
         }
 
     -- one that does not fit makes the whole not fit
-    pub unfit : fieldFits f (drop n ns) (drop m nm) ≡ false → fits L ns nm ≡ false
+    pub unfit : fieldFits (ofLayerFive ns) f (drop n ns) (drop m nm) (drop q ms) ≡ false → fits (ofLayerFive ns) L ns nm ms ≡ false
     unfolding fits
     unfit y = g .whole ∙ rw (split L j f e i, y)
 
   -- no field is left: the unused entries decide, and the line ends
-  pub ends : End ≡ getD L j End → (fits L ns nm ≡ noNumbers (drop n ns) && noBytes (drop m nm)) × (set (set out 72 13) 73 10 ≡ textOf L ns nm ++ (13 ∷ 10 ∷ []))
+  pub ends : End ≡ getD L j End
+      → (fits (ofLayerFive ns) L ns nm ms ≡ noNumbers (drop n ns) && (noBytes (drop m nm) && noBytes (drop q ms)))
+      × (set (set out 72 13) 73 10 ≡ textOf L ns nm ms ++ (13 ∷ 10 ∷ []))
   unfolding fits textOf tiles
   ends e =
       let d : drop j L ≡ [] = drop-of-length-le L (off-layout L j (g .left .fits .tiled) e) in
       let a : g .at ≡ 72 = end-column (g .at) (rw d at (g .tiled)) in
-      let t : take (g .at) out ++ [] ≡ textOf L ns nm = rw d at (g .text) in
+      let t : take (g .at) out ++ [] ≡ textOf L ns nm ms = rw d at (g .text) in
       (g .whole ∙ rw d, ended out (g .long) ∙ rw (← t, a, append-nil))
 
   -- ---- by the sort of the field
 
   module _ (a b : ℕ) (e : Letters a b ≡ getD L j End) where
-    pub letters-next : Lines L ns nm (set (set out 0 a) 1 b) n m (j + 1)
+    pub letters-next : Lines L ns nm ms (set (set out 0 a) 1 b) n m q (j + 1)
     unfolding fieldFits fieldText
-    letters-next = next (Letters a b) e refl n m (omega arith) (omega arith) (set (set out 0 a) 1 b) refl (two-put out a b (g .long))
+    letters-next = next (Letters a b) e refl n m q (omega arith) (omega arith) (omega arith) (set (set out 0 a) 1 b) refl (two-put out a b (g .long))
 
-  module _ (c w : ℕ) (e : Number c w ≡ getD L j End) {v : ℤ} (q : v ≡ getD ns n (pos 0))
+  number-first : {v : ℤ} → v ≡ getD ns n (pos 0) → getD (drop n ns) 0 (pos 0) ≡ v
+  number-first p = getD-drop n ns 0 (pos 0) ∙ rw (add-zero, p)
+
+  module _ (c w : ℕ) (e : Number c w ≡ getD L j End) {v : ℤ} (p : v ≡ getD ns n (pos 0))
       {r : writings.Writing} {out′ : List ℕ} (h : Wrote (numberFits out c w v) out c (spell w v) r out′) where
-    number-first : getD (drop n ns) 0 (pos 0) ≡ v
-    number-first = getD-drop n ns 0 (pos 0) ∙ rw (add-zero, q)
-
-    number-fit : fieldFits (Number c w) (drop n ns) (drop m nm) ≡ numberFits out c w v
+    number-fit : fieldFits (ofLayerFive ns) (Number c w) (drop n ns) (drop m nm) (drop q ms) ≡ numberFits out c w v
     unfolding fieldFits numberFits
     number-fit =
         let l : 1 ≤ length (drop n ns) = rw length-drop (omega (arith, room (Number c w) e refl .numbers, g .many)) in
-        rw (le-leb 1 (length (drop n ns)) l, number-first, inside (Number c w) e refl)
+        rw (le-leb 1 (length (drop n ns)) l, number-first p, inside (Number c w) e refl)
 
-    pub number-next : r ≡ writing.Done → Lines L ns nm out′ (n + 1) m (j + 1)
+    pub number-next : r ≡ writing.Done → Lines L ns nm ms out′ (n + 1) m q (j + 1)
     unfolding fieldText
     number-next z =
         let d = wrote-done h z in
-        next (Number c w) e refl (n + 1) m refl (omega arith) out′ (number-fit ∙ d .0) (d .1 ∙ rw number-first)
+        next (Number c w) e refl (n + 1) m q refl (omega arith) (omega arith) out′ (number-fit ∙ d .0) (d .1 ∙ rw (number-first p))
 
-    pub number-unfit : r ≡ writing.Refused → fits L ns nm ≡ false
+    pub number-unfit : r ≡ writing.Refused → fits (ofLayerFive ns) L ns nm ms ≡ false
     number-unfit z = unfit (Number c w) e refl (number-fit ∙ wrote-refused h z .0)
+
+  -- a code: its value v, its mark x, and whether that may stand
+  module _ (c w : ℕ) (e : Code c w ≡ getD L j End) {x : ℕ} (s : x ≡ getD ms q 0) {t : Bool} (f : t ≡ markFits (ofLayerFive ns) x) where
+    mark-first : getD (drop q ms) 0 0 ≡ x
+    mark-first = getD-drop q ms 0 0 ∙ rw (add-zero, s)
+
+    code-fit : {v : ℤ} → v ≡ getD ns n (pos 0) → fieldFits (ofLayerFive ns) (Code c w) (drop n ns) (drop m nm) (drop q ms) ≡ (codeHolds w v x && t)
+    unfolding fieldFits
+    code-fit p =
+        let a = room (Code c w) e refl in
+        let l : 1 ≤ length (drop n ns) = rw length-drop (omega (arith, a .numbers, g .many)) in
+        let o : 1 ≤ length (drop q ms) = rw length-drop (omega (arith, a .marks, g .marked)) in
+        rw (le-leb 1 (length (drop n ns)) l, le-leb 1 (length (drop q ms)) o, number-first p, mark-first, ← f)
+
+    no-way : (b : Bool) → (b && false) ≡ false
+    no-way true = refl
+    no-way false = refl
+
+    pub mark-unfit : t ≡ false → fits (ofLayerFive ns) L ns nm ms ≡ false
+    mark-unfit z = unfit (Code c w) e refl (code-fit refl ∙ rw z (no-way (codeHolds w (getD ns n (pos 0)) x)))
+
+    module _ (y : t ≡ true) {v : ℤ} (p : v ≡ getD ns n (pos 0)) {r : writings.Writing} {out′ : List ℕ}
+        (h : Wrote (codeFits out c w v x) out c (spellCode w v x) r out′) where
+      code-whole : fieldFits (ofLayerFive ns) (Code c w) (drop n ns) (drop m nm) (drop q ms) ≡ codeFits out c w v x
+      unfolding codeFits
+      code-whole = code-fit p ∙ rw (y, inside (Code c w) e refl) (and-true (codeHolds w v x))
+        where
+          and-true : (b : Bool) → (b && true) ≡ b
+          and-true true = refl
+          and-true false = refl
+
+      pub code-next : r ≡ writing.Done → Lines L ns nm ms out′ (n + 1) m (q + 1) (j + 1)
+      unfolding fieldText
+      code-next z =
+          let d = wrote-done h z in
+          next (Code c w) e refl (n + 1) m (q + 1) refl (omega arith) refl out′ (code-whole ∙ d .0) (d .1 ∙ rw (number-first p, mark-first))
+
+      pub code-unfit : r ≡ writing.Refused → fits (ofLayerFive ns) L ns nm ms ≡ false
+      code-unfit z = unfit (Code c w) e refl (code-whole ∙ wrote-refused h z .0)
 
   module _ (c w : ℕ) (e : Name c w ≡ getD L j End) {r : writings.Writing} {out′ : List ℕ}
       (h : Wrote (nameFits out c w (take (m + w - m) (drop m nm))) out c (take (m + w - m) (drop m nm)) r out′) where
@@ -172,25 +221,25 @@ module _ {L : List Field} {ns : List ℤ} {nm out : List ℕ} {n m j : ℕ} (g :
         let z : m + w - m ≡ w = omega arith in
         rw z
 
-    name-fit : fieldFits (Name c w) (drop n ns) (drop m nm) ≡ nameFits out c w (take w (drop m nm))
+    name-fit : fieldFits (ofLayerFive ns) (Name c w) (drop n ns) (drop m nm) (drop q ms) ≡ nameFits out c w (take w (drop m nm))
     unfolding fieldFits nameFits
     name-fit =
         let l : w ≤ length (drop m nm) = rw length-drop (omega (arith, room (Name c w) e refl .names, g .wide)) in
         rw (le-leb w (length (drop m nm)) l, inside (Name c w) e refl, eq-eqb _ w (length-take-le w (drop m nm) l))
 
-    pub name-next : r ≡ writing.Done → Lines L ns nm out′ n (m + w) (j + 1)
+    pub name-next : r ≡ writing.Done → Lines L ns nm ms out′ n (m + w) q (j + 1)
     unfolding fieldText
     name-next z =
         let d = wrote-done (rw name-part at h) z in
-        next (Name c w) e refl n (m + w) (omega arith) refl out′ (name-fit ∙ d .0) (d .1)
+        next (Name c w) e refl n (m + w) q (omega arith) refl (omega arith) out′ (name-fit ∙ d .0) (d .1)
 
-    pub name-unfit : r ≡ writing.Refused → fits L ns nm ≡ false
+    pub name-unfit : r ≡ writing.Refused → fits (ofLayerFive ns) L ns nm ms ≡ false
     name-unfit z = unfit (Name c w) e refl (name-fit ∙ wrote-refused (rw name-part at h) z .0)
 
   module _ (c w : ℕ) (e : Blank c w ≡ getD L j End) {r : writings.Writing} {out′ : List ℕ} (h : Wrote (isInside out c w) out c (replicate w 32) r out′) where
-    pub blank-next : Lines L ns nm out′ n m (j + 1)
+    pub blank-next : Lines L ns nm ms out′ n m q (j + 1)
     unfolding fieldFits fieldText
-    blank-next = next (Blank c w) e refl n m (omega arith) (omega arith) out′ refl (h .buffer ∙ rw (inside (Blank c w) e refl))
+    blank-next = next (Blank c w) e refl n m q (omega arith) (omega arith) (omega arith) out′ refl (h .buffer ∙ rw (inside (Blank c w) e refl))
 
 -- a value that does not fit has no line
 pub refused-line : (r : Record) (line : List ℕ) → fitsAll r ≡ false → SpelledAs r false line

@@ -1,8 +1,8 @@
--- One step of `every` at an index of a list, and what the machine makes of a number that is 0. Assumes nothing.
+-- One step of `every` at an index of a list, what the machine makes of a number that is 0, and where a mark may stand. Assumes nothing.
 use mathlib.Core.Bool.{Bool, true, false}
 use mathlib.Core.List.{List}
-use mathlib.Core.Path.{_≡_}
-use Prim.Native.Nat.{ℕ, suc, _+_, _≤_, _<_, _-_}
+use mathlib.Core.Path.{_≡_, refl}
+use Prim.Native.Nat.{ℕ, zero, suc, _+_, _≤_, _<_, _-_}
 use native.Mathlib.Numerals.{add-one}
 use native.Mathlib.Omega.{arith}
 use lib.IntN.{ℤ, pos, negsuc}
@@ -11,7 +11,7 @@ use lib.Seq.{drop-cons}
 use mir.Syntax.{w32}
 use mir.Val.{SFits, ofZ}
 use borrow.Author.Tests.{eq-eqb, ne-eqb}
-use Rattle.records.specs.Writing.{every}
+use Rattle.records.specs.Writing.{every, markFits}
 use Rattle.permitted.specs.Permitted.{isZero}
 
 module _ {A : Type 0} (p : A → Bool) (l : List A) (i : ℕ) (d : A) where
@@ -35,3 +35,11 @@ zero-bits (negsuc n) f e = absurd (omega (arith, f .sfits, e))
 pub some-bits : (z : ℤ) → (ofZ w32 z ≡ 0 → ⊥) → isZero z ≡ false
 some-bits (pos n) e = ne-eqb n 0 e
 some-bits (negsuc n) e = ne-eqb (suc n) 0 (λ p. omega arith)
+
+-- a mark that is 0 may stand anywhere, and any other in layer 5
+pub mark-none : (five : Bool) (m : ℕ) → m ≡ 0 → true ≡ markFits five m
+mark-none five m e = rw e
+
+pub mark-some : (five : Bool) (m : ℕ) → (m ≡ 0 → ⊥) → five ≡ markFits five m
+mark-some five zero h = absurd (h refl)
+mark-some five (suc m) h = refl

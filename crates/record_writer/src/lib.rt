@@ -7,7 +7,7 @@ use records::Field;
 use records::Record;
 ghost use mathlib.Core.Path.{_≡_};
 ghost use lib.ListN.{drop};
-ghost use Rattle.records.specs.Writing.{noNumbers, noBytes, SpelledAs, Written};
+ghost use Rattle.records.specs.Writing.{noNumbers, noBytes, markFits, SpelledAs, Written};
 
 // A record's 74 bytes, where its value fits.
 struct Spelled {
@@ -43,6 +43,30 @@ fn no_bytes(name: &[u8], from: usize) -> bool
     true
 }
 
+// Whether the marks from index `from` on are 0.
+fn no_marks(marks: &[u32], from: usize) -> bool
+    ensures { λ r. ⌜ r ≡ noBytes (drop from (now (marks .entry))) ⌝ }
+{
+    let mut i = from;
+    while i < marks.len() {
+        if marks[i] != 0 {
+            return false;
+        }
+        i += 1;
+    }
+    true
+}
+
+// Whether a code may have that mark: a mark stands in layer 5 alone.
+fn may_mark(five: bool, mark: u32) -> bool
+    ensures { λ r. ⌜ r ≡ markFits five mark ⌝ }
+{
+    if mark == 0 {
+        return true;
+    }
+    five
+}
+
 // The record's bytes along the layout of its kind.
 fn spell_record(r: Record) -> Spelled
     ensures { λ x. ⌜ SpelledAs r (x .ok) (x .line) ⌝ }
@@ -50,9 +74,11 @@ fn spell_record(r: Record) -> Spelled
     let kind = r.kind;
     let numbers = r.numbers;
     let name = r.name;
+    let marks = r.marks;
     let mut line = [32u8; 74];
     let mut n: usize = 0;
     let mut m: usize = 0;
+    let mut q: usize = 0;
     let mut j: usize = 0;
     loop {
         let f = records::field_of(kind, j);
@@ -60,7 +86,7 @@ fn spell_record(r: Record) -> Spelled
             Field::End => {
                 line[72] = 13;
                 line[73] = 10;
-                let ok = no_numbers(&numbers, n) & no_bytes(&name, m);
+                let ok = no_numbers(&numbers, n) & (no_bytes(&name, m) & no_marks(&marks, q));
                 return Spelled { ok, line };
             }
             Field::Letters(a, b) => {
@@ -87,6 +113,19 @@ fn spell_record(r: Record) -> Spelled
             }
             Field::Blank(c, w) => {
                 writers::write_blank(&mut line, c, w);
+                j += 1;
+            }
+            Field::Code(c, w) => {
+                let mark = marks[q];
+                if !may_mark(permitted::is(numbers[0], 5), mark) {
+                    return Spelled { ok: false, line };
+                }
+                let answer = codes::write_code(&mut line, c, w, numbers[n], mark);
+                let Writing::Done = answer else {
+                    return Spelled { ok: false, line };
+                };
+                n += 1;
+                q += 1;
                 j += 1;
             }
         }

@@ -12,8 +12,8 @@ use lib.ListN.{length, getD, drop, List·getD-eq-default}
 use lib.Seq.{drop-cons, getD-drop}
 use borrow.Author.Tests.{ltb-true, ltb-false, eqb-true}
 use types.Run.{OneOf}
-use Rattle.records.specs.Layout.{row, coordinatesLayout, layoutOf, startOf, widthOf, numbersOf, bytesOf, total}
-use Rattle.records.specs.declared.Field.the-variants.{End, Letters, Number, Name, Blank}
+use Rattle.records.specs.Layout.{row, coordinatesLayout, layoutOf, startOf, widthOf, numbersOf, bytesOf, marksOf, total}
+use Rattle.records.specs.declared.Field.the-variants.{End, Letters, Number, Code, Name, Blank}
 use Rattle.records.specs.declared.Field.{Field}
 use Rattle.records.specs.declared.Kind.the-variants.{Mesh, Layer, Node, Line, Coordinates, Area, Loop}
 use Rattle.records.specs.declared.Kind.{Kind}
@@ -59,6 +59,7 @@ abbrev pub isField : Field → Bool
 isField End = false
 isField (Letters a b) = true
 isField (Number c w) = true
+isField (Code c w) = true
 isField (Name c w) = true
 isField (Blank c w) = true
 
@@ -117,16 +118,17 @@ pub record Fitting (L : List Field) : Type 0 where
   pub few : length L ≤ 18
   pub numbers : total numbersOf L ≤ 16
   pub names : total bytesOf L ≤ 40
+  pub marks : total marksOf L ≤ 2
 
 pub fitting : (k : Kind) → Fitting (layoutOf k)
 unfolding layoutOf total
-fitting Mesh = record { tiled = tiled Mesh; few = omega arith; numbers = omega arith; names = omega arith }
-fitting Layer = record { tiled = tiled Layer; few = omega arith; numbers = omega arith; names = omega arith }
-fitting Node = record { tiled = tiled Node; few = omega arith; numbers = omega arith; names = omega arith }
-fitting Line = record { tiled = tiled Line; few = omega arith; numbers = omega arith; names = omega arith }
-fitting Coordinates = record { tiled = tiled Coordinates; few = omega arith; numbers = omega arith; names = omega arith }
-fitting Area = record { tiled = tiled Area; few = omega arith; numbers = omega arith; names = omega arith }
-fitting Loop = record { tiled = tiled Loop; few = omega arith; numbers = omega arith; names = omega arith }
+fitting Mesh = record { tiled = tiled Mesh; few = omega arith; numbers = omega arith; names = omega arith; marks = omega arith }
+fitting Layer = record { tiled = tiled Layer; few = omega arith; numbers = omega arith; names = omega arith; marks = omega arith }
+fitting Node = record { tiled = tiled Node; few = omega arith; numbers = omega arith; names = omega arith; marks = omega arith }
+fitting Line = record { tiled = tiled Line; few = omega arith; numbers = omega arith; names = omega arith; marks = omega arith }
+fitting Coordinates = record { tiled = tiled Coordinates; few = omega arith; numbers = omega arith; names = omega arith; marks = omega arith }
+fitting Area = record { tiled = tiled Area; few = omega arith; numbers = omega arith; names = omega arith; marks = omega arith }
+fitting Loop = record { tiled = tiled Loop; few = omega arith; numbers = omega arith; names = omega arith; marks = omega arith }
 
 -- ---- a field at an index
 
@@ -160,21 +162,28 @@ off-layout L j a e = off L j (ltb j (length L)) refl a e
 
 -- ---- along a layout, field by field
 
--- at field j, with n numbers and m name bytes taken, there is room for the rest
-pub record Ahead (L : List Field) (n m j : ℕ) : Type 0 where
+-- at field j, with n numbers, m name bytes and q marks taken, there is room for the rest
+pub record Ahead (L : List Field) (n m q j : ℕ) : Type 0 where
   pub fits : Fitting L
   pub numbers : n + total numbersOf (drop j L) ≤ 16
   pub names : m + total bytesOf (drop j L) ≤ 40
+  pub marks : q + total marksOf (drop j L) ≤ 2
 
-pub ahead : (k : Kind) → Ahead (layoutOf k) 0 0 0
-ahead k = record { fits = fitting k; numbers = omega (arith, fitting k .numbers); names = omega (arith, fitting k .names) }
+pub ahead : (k : Kind) → Ahead (layoutOf k) 0 0 0 0
+ahead k = record {
+  fits = fitting k;
+  numbers = omega (arith, fitting k .numbers);
+  names = omega (arith, fitting k .names);
+  marks = omega (arith, fitting k .marks);
+}
 
 -- there is room for the field f at j and what it gives
-pub record Room (L : List Field) (f : Field) (n m j : ℕ) : Type 0 where
+pub record Room (L : List Field) (f : Field) (n m q j : ℕ) : Type 0 where
   pub inside : j < length L
   pub step : j < 18
   pub numbers : n + numbersOf f ≤ 16
   pub names : m + bytesOf f ≤ 40
+  pub marks : q + marksOf f ≤ 2
 
 module _ (L : List Field) (j : ℕ) (f : Field) (e : f ≡ getD L j End) (i : isField f ≡ true) where
   pub split : drop j L ≡ f ∷ drop (j + 1) L
@@ -184,18 +193,20 @@ module _ (L : List Field) (j : ℕ) (f : Field) (e : f ≡ getD L j End) (i : is
   unfolding total
   total-split h = rw split
 
-  module _ {n m : ℕ} (a : Ahead L n m j) where
-    pub room-ahead : Room L f n m j
+  module _ {n m q : ℕ} (a : Ahead L n m q j) where
+    pub room-ahead : Room L f n m q j
     room-ahead = record {
       inside = on-layout L j f e i;
       step = omega (arith, on-layout L j f e i, a .fits .few);
       numbers = omega (arith, total-split numbersOf, a .numbers);
       names = omega (arith, total-split bytesOf, a .names);
+      marks = omega (arith, total-split marksOf, a .marks);
     }
 
-    pub next-ahead : (n′ m′ : ℕ) → n′ ≡ n + numbersOf f → m′ ≡ m + bytesOf f → Ahead L n′ m′ (j + 1)
-    next-ahead n′ m′ p q = record {
+    pub next-ahead : (n′ m′ q′ : ℕ) → n′ ≡ n + numbersOf f → m′ ≡ m + bytesOf f → q′ ≡ q + marksOf f → Ahead L n′ m′ q′ (j + 1)
+    next-ahead n′ m′ q′ x y z = record {
       fits = a .fits;
       numbers = omega (arith, total-split numbersOf, a .numbers);
       names = omega (arith, total-split bytesOf, a .names);
+      marks = omega (arith, total-split marksOf, a .marks);
     }

@@ -5,3 +5,4 @@ pub mod Layouts
 pub mod Stores
 pub mod Numbers
 pub mod Named
+pub mod Codes

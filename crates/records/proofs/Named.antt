@@ -1,4 +1,4 @@
--- The fields and slots that are read alone: each is a number field of its kind's layout, which antt looks up; and a slot by its number.
+-- The fields and slots that are read alone: each is a field of its kind's layout that gives a number, which antt looks up; and a slot by its number.
 -- Assumes nothing.
 use mathlib.Core.Bool.{Bool, true, false, _&&_, _||_}
 use mathlib.Core.List.{List, [], _∷_}
@@ -11,54 +11,47 @@ use lib.Dec.{eqb}
 use lib.ListN.{getD}
 use borrow.Author.Tests.{eqb-true, lt-ltb, le-ltb}
 use Rattle.fields.proofs.Places.{both}
-use Rattle.records.specs.Layout.{layoutOf}
+use Rattle.records.specs.Layout.{layoutOf, startOf, widthOf, numbersOf}
 use Rattle.records.specs.Columns.{Column, columnKind, spanOf, Row, rowKind, rowSpanOf, slotWidth, slotColumn, slotStart}
 use Rattle.records.specs.Columns as name
 use Rattle.records.specs.declared.Field.{Field}
-use Rattle.records.specs.declared.Field.the-variants.{End, Letters, Number, Name, Blank}
+use Rattle.records.specs.declared.Field.the-variants.{End}
 
 -- ---- a field of a layout
 
--- the field is a number of width w at column c
-abbrev isNumber : ℕ → ℕ → Field → Bool
-isNumber c w End = false
-isNumber c w (Letters a b) = false
-isNumber c w (Number d v) = eqb d c && eqb v w
-isNumber c w (Name d v) = false
-isNumber c w (Blank d v) = false
+-- the field starts at column c, is w columns wide, and gives a number to the record's value: it is a number or a code
+abbrev gives : ℕ → ℕ → Field → Bool
+gives c w f = eqb (startOf f) c && (eqb (widthOf f) w && eqb (numbersOf f) 1)
 
--- one of the fields is
+-- one of the fields does
 unfoldable has : ℕ → ℕ → List Field → Bool
 has c w [] = false
-has c w (f ∷ fs) = isNumber c w f || has c w fs
+has c w (f ∷ fs) = gives c w f || has c w fs
 
 -- where it stands in the layout
 pub record Laid (L : List Field) (c w : ℕ) : Type 0 where
   pub place : ℕ
-  pub is : getD L place End ≡ Number c w
+  pub start : startOf (getD L place End) ≡ c
+  pub width : widthOf (getD L place End) ≡ w
+  pub number : numbersOf (getD L place End) ≡ 1
 
-number-is : (c w : ℕ) (f : Field) → isNumber c w f ≡ true → f ≡ Number c w
-number-is c w End e = let z : _≡_ {A = ℕ} 0 1 = cc in absurd (omega arith)
-number-is c w (Letters a b) e = let z : _≡_ {A = ℕ} 0 1 = cc in absurd (omega arith)
-number-is c w (Number d v) e =
-    let h = both (eqb d c) (eqb v w) e in
-    let p = eqb-true d c (h .0) in
-    let q = eqb-true v w (h .1) in
-    cc
-number-is c w (Name d v) e = let z : _≡_ {A = ℕ} 0 1 = cc in absurd (omega arith)
-number-is c w (Blank d v) e = let z : _≡_ {A = ℕ} 0 1 = cc in absurd (omega arith)
+here : (c w : ℕ) (f : Field) (fs : List Field) → gives c w f ≡ true → Laid (f ∷ fs) c w
+here c w f fs e =
+    let h = both (eqb (startOf f) c) (eqb (widthOf f) w && eqb (numbersOf f) 1) e in
+    let k = both (eqb (widthOf f) w) (eqb (numbersOf f) 1) (h .1) in
+    record { place = 0; start = eqb-true _ _ (h .0); width = eqb-true _ _ (k .0); number = eqb-true _ _ (k .1) }
 
-laid-by : (c w : ℕ) (f : Field) (fs : List Field) (b : Bool) → isNumber c w f ≡ b → (b || has c w fs) ≡ true
+laid-by : (c w : ℕ) (f : Field) (fs : List Field) (b : Bool) → gives c w f ≡ b → (b || has c w fs) ≡ true
     → (has c w fs ≡ true → Laid fs c w) → Laid (f ∷ fs) c w
-laid-by c w f fs true e h g = record { place = 0; is = number-is c w f e }
-laid-by c w f fs false e h g = let l = g h in record { place = suc (l .place); is = l .is }
+laid-by c w f fs true e h g = here c w f fs e
+laid-by c w f fs false e h g = let l = g h in record { place = suc (l .place); start = l .start; width = l .width; number = l .number }
 
 laid : (c w : ℕ) (L : List Field) → has c w L ≡ true → Laid L c w
 unfolding has
 laid c w [] h = let z : _≡_ {A = ℕ} 0 1 = cc in absurd (omega arith)
-laid c w (f ∷ fs) h = laid-by c w f fs (isNumber c w f) refl h (laid c w fs)
+laid c w (f ∷ fs) h = laid-by c w f fs (gives c w f) refl h (laid c w fs)
 
--- RULES 4.1 to 4.7: every field that is read alone is a number field of its kind's layout
+-- RULES 4.1 to 4.7: every field that is read alone is a field of its kind's layout, a number or a code
 pub column-laid : (c : Column) → Laid (layoutOf (columnKind c)) (spanOf c .start) (spanOf c .width)
 unfolding has layoutOf
 column-laid c = laid _ _ (layoutOf (columnKind c)) (found c)

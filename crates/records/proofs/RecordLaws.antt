@@ -1,7 +1,7 @@
 -- THE LAWS OF RECORDS, over all kinds at once. docs/PROMISES.md leads here. Assumes nothing.
-use mathlib.Core.Bool.{Bool, true, false, cond}
+use mathlib.Core.Bool.{Bool, true, false, cond, false≢true}
 use mathlib.Core.List.{List, [], _∷_, _++_}
-use mathlib.Core.Path.{_≡_, refl, _∙_}
+use mathlib.Core.Path.{_≡_, refl, sym, ap, _∙_}
 use Prim.Native.Nat.{ℕ, zero, suc, _+_, _-_}
 use native.Mathlib.Omega.{arith}
 use lib.Dec.{eqb}
@@ -9,21 +9,26 @@ use lib.IntN.{ℤ, pos}
 use lib.ListN.{length, getD, take, drop, replicate, length-append, take-append-drop, drop-of-length-le}
 use lib.Seq.{length-sets, getD-at, getD-append-add, drop-cons}
 use borrow.Author.Tests.{eq-eqb, eqb-true}
-use Rattle.records.specs.Layout.{layoutOf, numbersOf, bytesOf, total}
-use Rattle.records.specs.Reading.{numbersIn, nameIn, over, firstFault, zeros, noName, accepted, refusedAt, valueIn, fieldsBy, fieldsOf, readingOf}
-use Rattle.records.specs.Writing.{textOf, fits, recordBytes, fitsAll}
-use Rattle.permitted.specs.Permitted.{isZero}
+use Rattle.records.specs.Layout.{layoutOf, numbersOf, bytesOf, marksOf, total}
+use Rattle.records.specs.Reading.{inLayerFive, numbersIn, nameIn, marksIn, over, firstFault, zeros, noName, unmarked}
+use Rattle.records.specs.Reading.{accepted, refusedAt, valueIn, fieldsBy, fieldsOf, readingOf}
+use Rattle.records.specs.Writing.{textOf, fits, recordBytes, ofLayerFive, fitsAll}
+use Rattle.permitted.specs.Permitted.{isZero, is}
 use Rattle.records.specs.declared.Kind.{Kind}
+use Rattle.records.specs.declared.Kind.the-variants.{Mesh, Layer, Node, Line, Coordinates, Area, Loop}
+use Rattle.fields.specs.Answer.{valueOf}
 use Rattle.records.specs.declared.Reading.{Reading}
 use Rattle.records.specs.declared.Record.{Record}
 use Rattle.records.proofs.Layouts.{tiled, tiles-width, fitting}
 use Rattle.records.proofs.RoundTrips.{text-length, read-written, written-read, fits-rest, zero-number}
-use Rattle.records.proofs.RoundTrips.{every-same, every-row, laid, padded, over-short, numbers-short, name-short}
+use Rattle.records.proofs.RoundTrips.{every-same, every-row, laid, padded, over-short, numbers-short, name-short, marks-short}
+use Rattle.records.proofs.RoundTrips.{codes, same-fits, layer-written}
 
 -- a record's value has all its entries
 pub record Sized (r : Record) : Type 0 where
   pub numbers : length (r .numbers) ≡ 16
   pub name : length (r .name) ≡ 40
+  pub marks : length (r .marks) ≡ 2
 
 -- the answer by its tests and by the number and the column of the first fault
 abbrev answer : Kind → List ℕ → Bool → Bool → Bool → ℕ → ℕ → Reading
@@ -33,11 +38,12 @@ sized-by : (k : Kind) (s : List ℕ) (t u v : Bool) (n c : ℕ) → Sized (answe
 sized-by k s true true true zero c = record {
   numbers = length-sets zeros 0 (over numbersIn (layoutOf k) s);
   name = length-sets noName 0 (over nameIn (layoutOf k) s);
+  marks = length-sets unmarked 0 (over marksIn (layoutOf k) s);
 }
-sized-by k s true true true (suc n) c = record { numbers = refl; name = refl }
-sized-by k s true true false n c = record { numbers = refl; name = refl }
-sized-by k s true false v n c = record { numbers = refl; name = refl }
-sized-by k s false u v n c = record { numbers = refl; name = refl }
+sized-by k s true true true (suc n) c = record { numbers = refl; name = refl; marks = refl }
+sized-by k s true true false n c = record { numbers = refl; name = refl; marks = refl }
+sized-by k s true false v n c = record { numbers = refl; name = refl; marks = refl }
+sized-by k s false u v n c = record { numbers = refl; name = refl; marks = refl }
 
 -- what is read has all its entries
 pub value-sized : (k : Kind) (s : List ℕ) → Sized (readingOf k s .value)
@@ -46,30 +52,60 @@ value-sized k s =
     sized-by k s (eqb (length s) 74) (eqb (getD s 72 0) 13) (eqb (getD s 73 0) 10) (firstFault (layoutOf k) s .number) (firstFault (layoutOf k) s .column)
 
 -- what fits is 72 columns
-pub columns-length : (k : Kind) (ns : List ℤ) (nm : List ℕ) → fits (layoutOf k) ns nm ≡ true → length (textOf (layoutOf k) ns nm) ≡ 72
-columns-length k ns nm h = text-length (layoutOf k) ns nm h ∙ tiles-width (layoutOf k) 1 (tiled k)
+pub columns-length : (five : Bool) (k : Kind) (ns : List ℤ) (nm ms : List ℕ) → fits five (layoutOf k) ns nm ms ≡ true
+    → length (textOf (layoutOf k) ns nm ms) ≡ 72
+columns-length five k ns nm ms h = text-length five (layoutOf k) ns nm ms h ∙ tiles-width (layoutOf k) 1 (tiled k)
+
+-- ---- layer 5: a kind that has codes has its layer code in columns 3-4, and it is the first of its numbers
+
+-- what is written is of layer 5 exactly if the value is
+written-layer : (five : Bool) (k : Kind) (ns : List ℤ) (nm ms z : List ℕ) → fits five (layoutOf k) ns nm ms ≡ true
+    → codes (layoutOf k) ≡ true → inLayerFive (textOf (layoutOf k) ns nm ms ++ z) ≡ ofLayerFive ns
+unfolding layoutOf codes inLayerFive
+written-layer five Mesh ns nm ms z h e = absurd (false≢true e)
+written-layer five Layer ns nm ms z h e = absurd (false≢true e)
+written-layer five Node ns nm ms z h e = absurd (false≢true e)
+written-layer five Line ns nm ms z h e = ap (λ r. is 5 (valueOf r)) (layer-written five 76 32 _ ns nm ms z h)
+written-layer five Coordinates ns nm ms z h e = absurd (false≢true e)
+written-layer five Area ns nm ms z h e = ap (λ r. is 5 (valueOf r)) (layer-written five 65 32 _ ns nm ms z h)
+written-layer five Loop ns nm ms z h e = absurd (false≢true e)
+
+-- what is read is of layer 5 exactly if the bytes are
+read-layer : (k : Kind) (s : List ℕ) (us : List ℤ) → codes (layoutOf k) ≡ true → ofLayerFive (over numbersIn (layoutOf k) s ++ us) ≡ inLayerFive s
+unfolding layoutOf codes inLayerFive over numbersIn
+read-layer Mesh s us e = absurd (false≢true e)
+read-layer Layer s us e = absurd (false≢true e)
+read-layer Node s us e = absurd (false≢true e)
+read-layer Line s us e = refl
+read-layer Coordinates s us e = absurd (false≢true e)
+read-layer Area s us e = refl
+read-layer Loop s us e = absurd (false≢true e)
 
 -- written then read, of a record's parts
-read-back : (k : Kind) (ns : List ℤ) (nm : List ℕ) → length ns ≡ 16 → length nm ≡ 40 → fits (layoutOf k) ns nm ≡ true
-    → readingOf k (textOf (layoutOf k) ns nm ++ (13 ∷ 10 ∷ [])) ≡ accepted (record { kind = k; numbers = ns; name = nm })
+read-back : (k : Kind) (ns : List ℤ) (nm ms : List ℕ) → length ns ≡ 16 → length nm ≡ 40 → length ms ≡ 2 → fits (ofLayerFive ns) (layoutOf k) ns nm ms ≡ true
+    → readingOf k (textOf (layoutOf k) ns nm ms ++ (13 ∷ 10 ∷ [])) ≡ accepted (record { kind = k; numbers = ns; name = nm; marks = ms })
 unfolding readingOf fieldsOf
-read-back k ns nm i j h =
-    let t = textOf (layoutOf k) ns nm in
-    let l : length (textOf (layoutOf k) ns nm) ≡ 72 = columns-length k ns nm h in
-    let n : length (textOf (layoutOf k) ns nm ++ (13 ∷ 10 ∷ [])) ≡ 74 = length-append t (13 ∷ 10 ∷ []) ∙ rw l in
-    let r : getD (textOf (layoutOf k) ns nm ++ (13 ∷ 10 ∷ [])) 72 0 ≡ 13 = getD-at t 13 (10 ∷ []) 0 72 l in
-    let m : length (textOf (layoutOf k) ns nm) + 1 ≡ 73 = omega arith in
-    let f : getD (textOf (layoutOf k) ns nm ++ (13 ∷ 10 ∷ [])) 73 0 ≡ 10 = rw (← m) (getD-append-add t (13 ∷ 10 ∷ []) 1 0) in
-    let b = read-written (layoutOf k) 1 (tiled k) ns nm h [] (13 ∷ 10 ∷ []) refl in
-    let z = fits-rest (layoutOf k) ns nm h in
+read-back k ns nm ms i j o g =
+    let t = textOf (layoutOf k) ns nm ms in
+    let five = inLayerFive (textOf (layoutOf k) ns nm ms ++ (13 ∷ 10 ∷ [])) in
+    let h : fits (inLayerFive (textOf (layoutOf k) ns nm ms ++ (13 ∷ 10 ∷ []))) (layoutOf k) ns nm ms ≡ true =
+    same-fits five (ofLayerFive ns) (layoutOf k) ns nm ms (written-layer (ofLayerFive ns) k ns nm ms (13 ∷ 10 ∷ []) g) ∙ g in
+    let l : length (textOf (layoutOf k) ns nm ms) ≡ 72 = columns-length five k ns nm ms h in
+    let n : length (textOf (layoutOf k) ns nm ms ++ (13 ∷ 10 ∷ [])) ≡ 74 = length-append t (13 ∷ 10 ∷ []) ∙ rw l in
+    let r : getD (textOf (layoutOf k) ns nm ms ++ (13 ∷ 10 ∷ [])) 72 0 ≡ 13 = getD-at t 13 (10 ∷ []) 0 72 l in
+    let m : length (textOf (layoutOf k) ns nm ms) + 1 ≡ 73 = omega arith in
+    let f : getD (textOf (layoutOf k) ns nm ms ++ (13 ∷ 10 ∷ [])) 73 0 ≡ 10 = rw (← m) (getD-append-add t (13 ∷ 10 ∷ []) 1 0) in
+    let b = read-written five (layoutOf k) 1 (tiled k) ns nm ms h [] (13 ∷ 10 ∷ []) refl refl in
+    let z = fits-rest five (layoutOf k) ns nm ms h in
     let u = padded (pos 0) 16 (total numbersOf (layoutOf k)) ns i (fitting k .numbers) (every-same isZero (pos 0) zero-number _ (z .0)) in
     let v = padded 0 40 (total bytesOf (layoutOf k)) nm j (fitting k .names) (every-same (λ b. eqb b 0) 0 (λ b e. eqb-true b 0 e) _ (z .1)) in
-    rw (eq-eqb _ 74 n, eq-eqb _ 13 r, eq-eqb _ 10 f, b .sound, b .numbers, b .name, u, v)
+    let w = padded 0 2 (total marksOf (layoutOf k)) ms o (fitting k .marks) (every-same (λ b. eqb b 0) 0 (λ b e. eqb-true b 0 e) _ (z .2)) in
+    rw (eq-eqb _ 74 n, eq-eqb _ 13 r, eq-eqb _ 10 f, b .sound, b .numbers, b .name, b .marks, u, v, w)
 
 -- WRITTEN THEN READ: a value that fits is read back from its bytes
 pub written-then-read : (r : Record) → Sized r → fitsAll r ≡ true → readingOf (r .kind) (recordBytes r) ≡ accepted r
 unfolding fitsAll recordBytes
-written-then-read r z h = read-back (r .kind) (r .numbers) (r .name) (z .numbers) (z .name) h
+written-then-read r z h = read-back (r .kind) (r .numbers) (r .name) (r .marks) (z .numbers) (z .name) (z .marks) h
 
 -- what acceptance says of the bytes
 record Accepted (k : Kind) (s : List ℕ) : Type 0 where
@@ -110,14 +146,19 @@ unfolding fitsAll recordBytes
 kept-value k s a =
     let ns = over numbersIn (layoutOf k) s in
     let nm = over nameIn (layoutOf k) s in
+    let ks = over marksIn (layoutOf k) s in
     let i = over-short numbersIn numbersOf s (numbers-short s) (layoutOf k) in
     let j = over-short nameIn bytesOf s (name-short s) (layoutOf k) in
+    let o = over-short marksIn marksOf s (marks-short s) (layoutOf k) in
     let r = fitting k in
-    let w = written-read (layoutOf k) 1 (tiled k) s (a .sound) (a .long) (replicate (16 - length ns) (pos 0)) (replicate (40 - length nm) 0) in
+    let us = replicate (16 - length ns) (pos 0) in
+    let w = written-read (layoutOf k) 1 (tiled k) s (a .sound) (a .long) us (replicate (40 - length nm) 0) (replicate (2 - length ks) 0) in
     let u = laid (pos 0) 16 (over numbersIn (layoutOf k) s) (omega arith) in
-    let v = laid 0 40 (over nameIn (layoutOf k) s) (omega arith) in (
-      rw (u, v, w .fit, every-row isZero (pos 0) refl, every-row (λ b. eqb b 0) 0 refl),
-      rw (u, v, w .bytes, tiles-width (layoutOf k) 1 (tiled k)) (line-is s (a .long) (a .return) (a .feed)),
+    let v = laid 0 40 (over nameIn (layoutOf k) s) (omega arith) in
+    let x = laid 0 2 (over marksIn (layoutOf k) s) (omega arith) in (
+      rw (u, v, x) (same-fits _ (inLayerFive s) (layoutOf k) _ _ _ (read-layer k s us)
+          ∙ rw (w .fit, every-row isZero (pos 0) refl, every-row (λ b. eqb b 0) 0 refl, every-row (λ b. eqb b 0) 0 refl)),
+      rw (u, v, x, w .bytes, tiles-width (layoutOf k) 1 (tiled k)) (line-is s (a .long) (a .return) (a .feed)),
     )
 
 -- READ THEN WRITTEN: the value that was read fits, is of the kind that was asked for, and is written as the bytes that were read

@@ -1,6 +1,6 @@
 -- Along any layout reading and writing undo each other: the fields stand one after another, so the bytes of one field are no other's, and
 -- of one field the laws of `fields` say it. Assumes nothing.
-use mathlib.Core.Bool.{Bool, true, false, cond, _&&_}
+use mathlib.Core.Bool.{Bool, true, false, cond, _&&_, _||_}
 use mathlib.Core.List.{List, [], _∷_, _++_, append-assoc}
 use mathlib.Core.Path.{_≡_, refl, sym, ap, _∙_}
 use Prim.Native.Nat.{ℕ, zero, suc, _+_, _-_, _≤_}
@@ -17,26 +17,31 @@ use Rattle.fields.specs.Number.{numberAt, holds}
 use Rattle.fields.specs.Place.{isInside, bytesAt}
 use Rattle.fields.specs.Spelling.{spell, Says}
 use Rattle.fields.specs.Text.{isName, isBlanks, textAt}
+use Rattle.codes.specs.Code.{codeAt, codeRefusal, codeValue, codeMark, codeHolds, spellCode, CodeSays}
+use Rattle.codes.specs.declared.Code as codes-code
+use Rattle.codes.specs.declared.Code.the-variants as code
 use Rattle.fields.specs.declared.Number as fields-number
 use Rattle.fields.specs.declared.Number.the-variants as number
 use Rattle.fields.specs.declared.Text as fields-text
 use Rattle.fields.specs.declared.Text.the-variants as text
-use Rattle.records.specs.Layout.{startOf, widthOf, numbersOf, bytesOf, total}
-use Rattle.records.specs.Reading.{lettersFault, faultOf, numbersIn, nameIn, over, Fault, noFault, faultAt, firstFault}
-use Rattle.records.specs.Writing.{every, fieldText, fieldFits, textOf, noNumbers, noBytes, fits}
+use Rattle.records.specs.Layout.{startOf, widthOf, numbersOf, bytesOf, marksOf, total}
+use Rattle.records.specs.Reading.{lettersFault, inLayerFive, landed, codeIn, faultOf, numbersIn, nameIn, marksIn, over}
+use Rattle.records.specs.Reading.{Fault, noFault, faultAt, firstFault}
+use Rattle.records.specs.Writing.{every, fieldText, markFits, fieldFits, textOf, noNumbers, noBytes, fits}
 use Rattle.permitted.specs.Permitted.{isZero}
-use Rattle.records.specs.declared.Field.the-variants.{End, Letters, Number, Name, Blank}
+use Rattle.records.specs.declared.Field.the-variants.{End, Letters, Number, Code, Name, Blank}
 use Rattle.records.specs.declared.Field.{Field}
 use Rattle.fields.proofs.Columns.{spell-length}
 use Rattle.fields.proofs.FieldLaws.{number-says, number-read, text-formed, text-read, blank-bytes, spaces-blank}
 use Rattle.fields.proofs.Places.{both, inside-fits, inside-bounds, bytes-length}
+use Rattle.codes.proofs.CodeLaws.{code-says, code-read, spell-code-length}
 use Rattle.records.proofs.Layouts.{isField, tiles, tile}
 
 -- ---- one field: reading what was written
 
-first-of : (ns : List ℤ) → 1 ≤ length ns → getD ns 0 (pos 0) ∷ [] ≡ take 1 ns
-first-of [] h = absurd (omega arith)
-first-of (n ∷ ns) h = refl
+first-of : {A : Type 0} (d : A) (l : List A) → 1 ≤ length l → getD l 0 d ∷ [] ≡ take 1 l
+first-of d [] h = absurd (omega arith)
+first-of d (x ∷ l) h = refl
 
 right-letters : (a b : ℕ) → lettersFault a b a b ≡ 0
 right-letters a b = rw (eq-eqb a a refl, eq-eqb b b refl)
@@ -49,81 +54,123 @@ placed p t z c w e l =
     let d : drop (c - 1) (p ++ (t ++ z)) ≡ t ++ z = drop-at p (t ++ z) (c - 1) (omega arith) in
     (inside-fits (p ++ (t ++ z)) c w (omega arith) (omega arith), rw d (take-at t z w l))
 
+-- what a code that fits comes to
+record CodeFit (five : Bool) (w : ℕ) (ns : List ℤ) (ms : List ℕ) : Type 0 where
+  some : 1 ≤ length ns
+  marked : 1 ≤ length ms
+  held : codeHolds w (getD ns 0 (pos 0)) (getD ms 0 0) ≡ true
+  allowed : markFits five (getD ms 0 0) ≡ true
+
+code-fit : (five : Bool) (c w : ℕ) (ns : List ℤ) (nm ms : List ℕ) → fieldFits five (Code c w) ns nm ms ≡ true → CodeFit five w ns ms
+unfolding fieldFits
+code-fit five c w ns nm ms h =
+    let a = both (leb 1 (length ns) && leb 1 (length ms)) (codeHolds w (getD ns 0 (pos 0)) (getD ms 0 0) && markFits five (getD ms 0 0)) h in
+    let l = both (leb 1 (length ns)) (leb 1 (length ms)) (a .0) in
+    let q = both (codeHolds w (getD ns 0 (pos 0)) (getD ms 0 0)) (markFits five (getD ms 0 0)) (a .1) in
+    record { some = leb-true _ _ (l .0); marked = leb-true _ _ (l .1); held = q .0; allowed = q .1 }
+
 -- what fits a field fills it
-pub field-length : (f : Field) (ns : List ℤ) (nm : List ℕ) → fieldFits f ns nm ≡ true → length (fieldText f ns nm) ≡ widthOf f
+pub field-length : (five : Bool) (f : Field) (ns : List ℤ) (nm ms : List ℕ) → fieldFits five f ns nm ms ≡ true → length (fieldText f ns nm ms) ≡ widthOf f
 unfolding fieldText fieldFits
-field-length End ns nm h = refl
-field-length (Letters a b) ns nm h = refl
-field-length (Number c w) ns nm h = spell-length w _
-field-length (Name c w) ns nm h = length-take-le w nm (leb-true _ _ (both (leb w (length nm)) (isName (take w nm)) h .0))
-field-length (Blank c w) ns nm h = length-replicate w 32
+field-length five End ns nm ms h = refl
+field-length five (Letters a b) ns nm ms h = refl
+field-length five (Number c w) ns nm ms h = spell-length w _
+field-length five (Code c w) ns nm ms h = spell-code-length w _ _ (code-fit five c w ns nm ms h .held)
+field-length five (Name c w) ns nm ms h = length-take-le w nm (leb-true _ _ (both (leb w (length nm)) (isName (take w nm)) h .0))
+field-length five (Blank c w) ns nm ms h = length-replicate w 32
 
 -- what reading finds in a field of the record s that holds what it is given
-record Good (f : Field) (ns : List ℤ) (nm s : List ℕ) : Type 0 where
+record Good (f : Field) (ns : List ℤ) (nm ms s : List ℕ) : Type 0 where
   sound : faultOf f s ≡ 0
   numbers : numbersIn f s ≡ take (numbersOf f) ns
   name : nameIn f s ≡ take (bytesOf f) nm
+  marks : marksIn f s ≡ take (marksOf f) ms
 
-good : (f : Field) (ns : List ℤ) (nm : List ℕ) → fieldFits f ns nm ≡ true → (p z : List ℕ)
-    → startOf f ≡ length p + 1 → Good f ns nm (p ++ (fieldText f ns nm ++ z))
-unfolding fieldText fieldFits faultOf numbersIn nameIn
-good End ns nm h p z e = absurd (omega arith)
-good (Letters a b) ns nm h [] z e = record { sound = right-letters a b; numbers = refl; name = refl }
-good (Letters a b) ns nm h (x ∷ p) z e = absurd (omega arith)
-good (Number c w) ns nm h p z e =
+-- a code that a record's columns say is read, where its mark may stand
+landed-read : (s : List ℕ) (c w : ℕ) (v : ℤ) (m : ℕ) (five : Bool) → inLayerFive s ≡ five → CodeSays s c w v m → markFits five m ≡ true
+    → codeIn s c w ≡ code.Value v m
+unfolding codeIn
+landed-read s c w v zero five y h a = rw (code-read s c w v 0 h)
+landed-read s c w v (suc m) five y h a = rw (code-read s c w v (suc m) h, y, a)
+
+good : (five : Bool) (f : Field) (ns : List ℤ) (nm ms : List ℕ) → fieldFits five f ns nm ms ≡ true → (p z : List ℕ)
+    → startOf f ≡ length p + 1 → inLayerFive (p ++ (fieldText f ns nm ms ++ z)) ≡ five → Good f ns nm ms (p ++ (fieldText f ns nm ms ++ z))
+unfolding fieldText fieldFits faultOf numbersIn nameIn marksIn
+good five End ns nm ms h p z e y = absurd (omega arith)
+good five (Letters a b) ns nm ms h [] z e y = record { sound = right-letters a b; numbers = refl; name = refl; marks = refl }
+good five (Letters a b) ns nm ms h (x ∷ p) z e y = absurd (omega arith)
+good five (Code c w) ns nm ms h p z e y =
+    let v = getD ns 0 (pos 0) in
+    let m = getD ms 0 0 in
+    let q = code-fit five c w ns nm ms h in
+    let i = placed p (spellCode w v m) z c w e (spell-code-length w v m (q .held)) in
+    let r : codeIn (p ++ (spellCode w v m ++ z)) c w ≡ code.Value v m =
+    landed-read _ c w v m five y (record { there = i .0; held = q .held; spelled = i .1 }) (q .allowed) in
+    record { sound = rw r; numbers = rw r (first-of (pos 0) ns (q .some)); name = refl; marks = rw r (first-of 0 ms (q .marked)) }
+good five (Number c w) ns nm ms h p z e y =
     let v = getD ns 0 (pos 0) in
     let q = both (leb 1 (length ns)) (holds w v) h in
     let i = placed p (spell w v) z c w e (spell-length w v) in
     let r : numberAt (p ++ (spell w v ++ z)) c w ≡ number.Value v = number-read _ c w v (record { there = i .0; held = q .1; spelled = i .1 }) in
-    record { sound = rw r; numbers = rw r (first-of ns (leb-true _ _ (q .0))); name = refl }
-good (Name c w) ns nm h p z e =
-    let i = placed p (take w nm) z c w e (field-length (Name c w) ns nm h) in
+    record { sound = rw r; numbers = rw r (first-of (pos 0) ns (leb-true _ _ (q .0))); name = refl; marks = refl }
+good five (Name c w) ns nm ms h p z e y =
+    let i = placed p (take w nm) z c w e (field-length five (Name c w) ns nm ms h) in
     let r : textAt isName (p ++ (take w nm ++ z)) c w ≡ text.WellFormed =
     text-read isName _ c w (i .0) (rw (i .1) (both (leb w (length nm)) (isName (take w nm)) h .1)) in
-    record { sound = rw r; numbers = refl; name = i .1 }
-good (Blank c w) ns nm h p z e =
+    record { sound = rw r; numbers = refl; name = i .1; marks = refl }
+good five (Blank c w) ns nm ms h p z e y =
     let i = placed p (replicate w 32) z c w e (length-replicate w 32) in
     let r : textAt isBlanks (p ++ (replicate w 32 ++ z)) c w ≡ text.WellFormed = text-read isBlanks _ c w (i .0) (rw (i .1) (spaces-blank w)) in
-    record { sound = rw r; numbers = refl; name = refl }
+    record { sound = rw r; numbers = refl; name = refl; marks = refl }
 
 -- ---- any layout: reading what was written
 
 -- what fits fills the layout's columns
-pub text-length : (L : List Field) (ns : List ℤ) (nm : List ℕ) → fits L ns nm ≡ true → length (textOf L ns nm) ≡ total widthOf L
+pub text-length : (five : Bool) (L : List Field) (ns : List ℤ) (nm ms : List ℕ) → fits five L ns nm ms ≡ true → length (textOf L ns nm ms) ≡ total widthOf L
 unfolding textOf fits total
-text-length [] ns nm h = refl
-text-length (f ∷ fs) ns nm h =
-    let q = both (fieldFits f ns nm) (fits fs (drop (numbersOf f) ns) (drop (bytesOf f) nm)) h in
-    rw (length-append, field-length f ns nm (q .0), text-length fs (drop (numbersOf f) ns) (drop (bytesOf f) nm) (q .1))
+text-length five [] ns nm ms h = refl
+text-length five (f ∷ fs) ns nm ms h =
+    let q = both (fieldFits five f ns nm ms) (fits five fs (drop (numbersOf f) ns) (drop (bytesOf f) nm) (drop (marksOf f) ms)) h in
+    rw (length-append, field-length five f ns nm ms (q .0), text-length five fs (drop (numbersOf f) ns) (drop (bytesOf f) nm) (drop (marksOf f) ms) (q .1))
 
--- the record s has no fault, and reading it finds what L takes of the numbers ns and of the name bytes nm
-pub record Back (L : List Field) (ns : List ℤ) (nm s : List ℕ) : Type 0 where
+-- the record s has no fault, and reading it finds what L takes of the numbers ns, of the name bytes nm and of the marks ms
+pub record Back (L : List Field) (ns : List ℤ) (nm ms s : List ℕ) : Type 0 where
   pub sound : firstFault L s ≡ noFault
   pub numbers : over numbersIn L s ≡ take (total numbersOf L) ns
   pub name : over nameIn L s ≡ take (total bytesOf L) nm
+  pub marks : over marksIn L s ≡ take (total marksOf L) ms
 
-one-more : (f : Field) (fs : List Field) (ns : List ℤ) (nm s : List ℕ) → Good f ns nm s
-    → Back fs (drop (numbersOf f) ns) (drop (bytesOf f) nm) s → Back (f ∷ fs) ns nm s
+one-more : (f : Field) (fs : List Field) (ns : List ℤ) (nm ms s : List ℕ) → Good f ns nm ms s
+    → Back fs (drop (numbersOf f) ns) (drop (bytesOf f) nm) (drop (marksOf f) ms) s → Back (f ∷ fs) ns nm ms s
 unfolding firstFault over total
-one-more f fs ns nm s g b = record {
+one-more f fs ns nm ms s g b = record {
   sound = rw (g .sound) (b .sound);
   numbers = rw (g .numbers, b .numbers) (sym (take-add (numbersOf f) (total numbersOf fs) ns));
   name = rw (g .name, b .name) (sym (take-add (bytesOf f) (total bytesOf fs) nm));
+  marks = rw (g .marks, b .marks) (sym (take-add (marksOf f) (total marksOf fs) ms));
 }
 
--- what was written from column c on is read back, whatever stands before and behind it
-pub read-written : (L : List Field) (c : ℕ) → tiles c L ≡ true → (ns : List ℤ) (nm : List ℕ)
-    → fits L ns nm ≡ true → (p z : List ℕ) → length p + 1 ≡ c → Back L ns nm (p ++ (textOf L ns nm ++ z))
+-- what was written from column c on is read back, whatever stands before and behind it; the record is of layer 5 as `five` says
+pub read-written : (five : Bool) (L : List Field) (c : ℕ) → tiles c L ≡ true → (ns : List ℤ) (nm ms : List ℕ)
+    → fits five L ns nm ms ≡ true → (p z : List ℕ) → length p + 1 ≡ c → inLayerFive (p ++ (textOf L ns nm ms ++ z)) ≡ five
+    → Back L ns nm ms (p ++ (textOf L ns nm ms ++ z))
 unfolding firstFault over total fits textOf
-read-written [] c t ns nm h p z e = record { sound = refl; numbers = refl; name = refl }
-read-written (f ∷ fs) c t ns nm h p z e =
+read-written five [] c t ns nm ms h p z e k = record { sound = refl; numbers = refl; name = refl; marks = refl }
+read-written five (f ∷ fs) c t ns nm ms h p z e k =
     let i = tile c f fs t in
-    let x = fieldText f ns nm in
-    let y = textOf fs (drop (numbersOf f) ns) (drop (bytesOf f) nm) in
-    let q = both (fieldFits f ns nm) (fits fs (drop (numbersOf f) ns) (drop (bytesOf f) nm)) h in
-    let l : length (p ++ fieldText f ns nm) ≡ length p + widthOf f = rw (length-append, field-length f ns nm (q .0)) in
-    let b = read-written fs (c + widthOf f) (i .rest) (drop (numbersOf f) ns) (drop (bytesOf f) nm) (q .1) (p ++ fieldText f ns nm) z (omega arith) in
-    rw append-assoc (one-more f fs ns nm (p ++ (x ++ (y ++ z))) (good f ns nm (q .0) p (y ++ z) (i .start ∙ sym e)) (rw append-assoc at b))
+    let ns′ = drop (numbersOf f) ns in
+    let nm′ = drop (bytesOf f) nm in
+    let ms′ = drop (marksOf f) ms in
+    let x = fieldText f ns nm ms in
+    let y = textOf fs (drop (numbersOf f) ns) (drop (bytesOf f) nm) (drop (marksOf f) ms) in
+    let q = both (fieldFits five f ns nm ms) (fits five fs (drop (numbersOf f) ns) (drop (bytesOf f) nm) (drop (marksOf f) ms)) h in
+    let l : length (p ++ fieldText f ns nm ms) ≡ length p + widthOf f = rw (length-append, field-length five f ns nm ms (q .0)) in
+    let a : p ++ (x ++ (y ++ z)) ≡ p ++ ((x ++ y) ++ z) = sym (ap (λ r. p ++ r) (append-assoc x y z)) in
+    let b =
+    read-written five fs (c + widthOf f) (i .rest) ns′ nm′ ms′ (q .1) (p ++ fieldText f ns nm ms) z (omega arith)
+    (ap inLayerFive (append-assoc p x (y ++ z) ∙ a) ∙ k) in
+    let g = good five f ns nm ms (q .0) p (y ++ z) (i .start ∙ sym e) (ap inLayerFive a ∙ k) in
+    rw append-assoc (one-more f fs ns nm ms (p ++ (x ++ (y ++ z))) g (rw append-assoc at b))
 
 -- ---- one field: writing what was read
 
@@ -150,34 +197,67 @@ text-by : (r : fields-text.Text) → textRefusal r ≡ 0 → r ≡ text.WellForm
 text-by text.WellFormed q = refl
 text-by text.Refused q = absurd (omega arith)
 
--- a field without fault, read and written with any numbers ns and name bytes nm behind its own
-record Kept (f : Field) (s : List ℕ) (ns : List ℤ) (nm : List ℕ) : Type 0 where
+-- a code without fault says what is read, and its mark may stand
+code-by : (s : List ℕ) (c w : ℕ) (five : Bool) (r : codes-code.Code) → codeAt s c w ≡ r → codeRefusal (landed five r) ≡ 0
+    → CodeSays s c w (codeValue (landed five r)) (codeMark (landed five r)) × (markFits five (codeMark (landed five r)) ≡ true)
+code-by s c w five (code.Value v zero) e q = (code-says s c w v 0 e, refl)
+code-by s c w true (code.Value v (suc m)) e q = (code-says s c w v (suc m) e, refl)
+code-by s c w false (code.Value v (suc m)) e q = absurd (omega arith)
+code-by s c w five code.Refused e q = absurd (omega arith)
+
+-- a field without fault, read and written with any numbers ns, name bytes nm and marks ms behind its own
+record Kept (f : Field) (s : List ℕ) (ns : List ℤ) (nm ms : List ℕ) : Type 0 where
   there : isInside s (startOf f) (widthOf f) ≡ true
-  bytes : fieldText f (numbersIn f s ++ ns) (nameIn f s ++ nm) ≡ bytesAt s (startOf f) (widthOf f)
-  fit : fieldFits f (numbersIn f s ++ ns) (nameIn f s ++ nm) ≡ true
+  bytes : fieldText f (numbersIn f s ++ ns) (nameIn f s ++ nm) (marksIn f s ++ ms) ≡ bytesAt s (startOf f) (widthOf f)
+  fit : fieldFits (inLayerFive s) f (numbersIn f s ++ ns) (nameIn f s ++ nm) (marksIn f s ++ ms) ≡ true
   numbers : drop (numbersOf f) (numbersIn f s ++ ns) ≡ ns
   name : drop (bytesOf f) (nameIn f s ++ nm) ≡ nm
+  marks : drop (marksOf f) (marksIn f s ++ ms) ≡ ms
 
-kept : (f : Field) (s : List ℕ) → isField f ≡ true → 2 ≤ length s → faultOf f s ≡ 0 → (ns : List ℤ) (nm : List ℕ) → Kept f s ns nm
-unfolding fieldText fieldFits faultOf numbersIn nameIn bytesAt
-kept End s i l q ns nm =
+kept : (f : Field) (s : List ℕ) → isField f ≡ true → 2 ≤ length s → faultOf f s ≡ 0 → (ns : List ℤ) (nm ms : List ℕ) → Kept f s ns nm ms
+unfolding fieldText fieldFits codeIn faultOf numbersIn nameIn marksIn bytesAt
+kept End s i l q ns nm ms =
     let z : _≡_ {A = ℕ} 0 1 = cc in
     absurd (omega arith)
-kept (Letters a b) s i l q ns nm =
+kept (Letters a b) s i l q ns nm ms =
     let h = letters a b (getD s 0 0) (getD s 1 0) q in
-    record { there = inside-fits s 1 2 (omega arith) (omega arith); bytes = rw (← h .0, ← h .1) (two s l); fit = refl; numbers = refl; name = refl }
-kept (Number c w) s i l q ns nm =
+    record {
+      there = inside-fits s 1 2 (omega arith) (omega arith);
+      bytes = rw (← h .0, ← h .1) (two s l);
+      fit = refl;
+      numbers = refl;
+      name = refl;
+      marks = refl;
+    }
+kept (Number c w) s i l q ns nm ms =
     let h = number-by s c w (numberAt s c w) refl q in
-    record { there = h .there; bytes = sym (h .spelled); fit = rw (le-leb 1 (suc (length ns)) (omega arith)) (h .held); numbers = refl; name = refl }
-kept (Name c w) s i l q ns nm =
+    record {
+      there = h .there;
+      bytes = sym (h .spelled);
+      fit = rw (le-leb 1 (suc (length ns)) (omega arith)) (h .held);
+      numbers = refl;
+      name = refl;
+      marks = refl;
+    }
+kept (Code c w) s i l q ns nm ms =
+    let h = code-by s c w (inLayerFive s) (codeAt s c w) refl q in
+    record {
+      there = h .0 .there;
+      bytes = sym (h .0 .spelled);
+      fit = rw (le-leb 1 (suc (length ns)) (omega arith), le-leb 1 (suc (length ms)) (omega arith), h .0 .held, h .1);
+      numbers = refl;
+      name = refl;
+      marks = refl;
+    }
+kept (Name c w) s i l q ns nm ms =
     let h = text-formed isName s c w (text-by (textAt isName s c w) q) in
     let n : length (bytesAt s c w) ≡ w = bytes-length s c w (h .0) in
     let m : take w (bytesAt s c w ++ nm) ≡ bytesAt s c w = take-at (bytesAt s c w) nm w n in
     let r : w ≤ length (bytesAt s c w ++ nm) = rw length-append (omega arith) in
-    record { there = h .0; bytes = m; fit = rw (le-leb w _ r, m) (h .1); numbers = refl; name = drop-at (bytesAt s c w) nm w n }
-kept (Blank c w) s i l q ns nm =
+    record { there = h .0; bytes = m; fit = rw (le-leb w _ r, m) (h .1); numbers = refl; name = drop-at (bytesAt s c w) nm w n; marks = refl }
+kept (Blank c w) s i l q ns nm ms =
     let h = text-by (textAt isBlanks s c w) q in
-    record { there = text-formed isBlanks s c w h .0; bytes = sym (blank-bytes s c w h); fit = refl; numbers = refl; name = refl }
+    record { there = text-formed isBlanks s c w h .0; bytes = sym (blank-bytes s c w h); fit = refl; numbers = refl; name = refl; marks = refl }
 
 -- ---- any layout: writing what was read
 
@@ -186,41 +266,96 @@ no-fault : (x c : ℕ) (q : Fault) → faultAt x c q .number ≡ 0 → (x ≡ 0)
 no-fault zero c q e = (refl, e)
 no-fault (suc x) c q e = absurd (omega arith)
 
--- what L reads of s, with the numbers ms and the name bytes bs behind it, is written as it stood, and fits where those are 0
-pub record Again (L : List Field) (c : ℕ) (s : List ℕ) (ms : List ℤ) (bs : List ℕ) : Type 0 where
-  pub bytes : textOf L (over numbersIn L s ++ ms) (over nameIn L s ++ bs) ≡ take (total widthOf L) (drop (c - 1) s)
-  pub fit : fits L (over numbersIn L s ++ ms) (over nameIn L s ++ bs) ≡ noNumbers ms && noBytes bs
+-- what L reads of s, with the numbers us, the name bytes bs and the marks ks behind it, is written as it stood, and fits where those are 0
+pub record Again (L : List Field) (c : ℕ) (s : List ℕ) (us : List ℤ) (bs ks : List ℕ) : Type 0 where
+  pub bytes : textOf L (over numbersIn L s ++ us) (over nameIn L s ++ bs) (over marksIn L s ++ ks) ≡ take (total widthOf L) (drop (c - 1) s)
+  pub fit : fits (inLayerFive s) L (over numbersIn L s ++ us) (over nameIn L s ++ bs) (over marksIn L s ++ ks) ≡ noNumbers us && (noBytes bs && noBytes ks)
 
 -- what was read without fault from column c on is written as it stood, whatever stands behind it
 pub written-read : (L : List Field) (c : ℕ) → tiles c L ≡ true → (s : List ℕ)
-    → firstFault L s .number ≡ 0 → length s ≡ 74 → (ms : List ℤ) (bs : List ℕ) → Again L c s ms bs
+    → firstFault L s .number ≡ 0 → length s ≡ 74 → (us : List ℤ) (bs ks : List ℕ) → Again L c s us bs ks
 unfolding firstFault over total textOf fits bytesAt
-written-read [] c t s h l ms bs = record { bytes = refl; fit = refl }
-written-read (f ∷ fs) c t s h l ms bs =
+written-read [] c t s h l us bs ks = record { bytes = refl; fit = refl }
+written-read (f ∷ fs) c t s h l us bs ks =
     let i = tile c f fs t in
     let n = no-fault (faultOf f s) (startOf f) (firstFault fs s) h in
-    let k = kept f s (i .field) (omega arith) (n .0) (over numbersIn fs s ++ ms) (over nameIn fs s ++ bs) in
-    let a = written-read fs (c + widthOf f) (i .rest) s (n .1) l ms bs in
+    let k = kept f s (i .field) (omega arith) (n .0) (over numbersIn fs s ++ us) (over nameIn fs s ++ bs) (over marksIn fs s ++ ks) in
+    let a = written-read fs (c + widthOf f) (i .rest) s (n .1) l us bs ks in
     let b = inside-bounds s (startOf f) (widthOf f) (k .there) in
     let e : c + widthOf f - 1 ≡ c - 1 + widthOf f = omega arith in
     record {
       bytes = simp append-assoc
-          (rw (k .bytes, k .numbers, k .name, a .bytes, i .start, e, ← drop-drop (widthOf f) (c - 1) s)
+          (rw (k .bytes, k .numbers, k .name, k .marks, a .bytes, i .start, e, ← drop-drop (widthOf f) (c - 1) s)
           (sym (take-add (widthOf f) (total widthOf fs) (drop (c - 1) s))));
-      fit = simp append-assoc (rw (k .fit, k .numbers, k .name) (a .fit));
+      fit = simp append-assoc (rw (k .fit, k .numbers, k .name, k .marks) (a .fit));
     }
 
 -- ---- entries that the kind lacks
 
 -- what a layout leaves over is 0 where all fits
-pub fits-rest : (L : List Field) (ns : List ℤ) (nm : List ℕ) → fits L ns nm ≡ true
-    → (noNumbers (drop (total numbersOf L) ns) ≡ true) × (noBytes (drop (total bytesOf L) nm) ≡ true)
+pub fits-rest : (five : Bool) (L : List Field) (ns : List ℤ) (nm ms : List ℕ) → fits five L ns nm ms ≡ true
+    → (noNumbers (drop (total numbersOf L) ns) ≡ true) × (noBytes (drop (total bytesOf L) nm) ≡ true) × (noBytes (drop (total marksOf L) ms) ≡ true)
 unfolding fits total
-fits-rest [] ns nm h = both (noNumbers ns) (noBytes nm) h
-fits-rest (f ∷ fs) ns nm h =
-    let q = both (fieldFits f ns nm) (fits fs (drop (numbersOf f) ns) (drop (bytesOf f) nm)) h in
-    let r = fits-rest fs (drop (numbersOf f) ns) (drop (bytesOf f) nm) (q .1) in
-    (rw (← drop-drop (total numbersOf fs) (numbersOf f) ns) (r .0), rw (← drop-drop (total bytesOf fs) (bytesOf f) nm) (r .1))
+fits-rest five [] ns nm ms h =
+    let q = both (noNumbers ns) (noBytes nm && noBytes ms) h in
+    let r = both (noBytes nm) (noBytes ms) (q .1) in
+    (q .0, r .0, r .1)
+fits-rest five (f ∷ fs) ns nm ms h =
+    let q = both (fieldFits five f ns nm ms) (fits five fs (drop (numbersOf f) ns) (drop (bytesOf f) nm) (drop (marksOf f) ms)) h in
+    let r = fits-rest five fs (drop (numbersOf f) ns) (drop (bytesOf f) nm) (drop (marksOf f) ms) (q .1) in (
+      rw (← drop-drop (total numbersOf fs) (numbersOf f) ns) (r .0),
+      rw (← drop-drop (total bytesOf fs) (bytesOf f) nm) (r .1),
+      rw (← drop-drop (total marksOf fs) (marksOf f) ms) (r .2),
+    )
+
+-- ---- layer 5, which matters to codes alone
+
+abbrev isCode : Field → Bool
+isCode End = false
+isCode (Letters a b) = false
+isCode (Number c w) = false
+isCode (Code c w) = true
+isCode (Name c w) = false
+isCode (Blank c w) = false
+
+unfoldable pub codes : List Field → Bool
+codes [] = false
+codes (f ∷ fs) = isCode f || codes fs
+
+module _ (a b : Bool) where
+  same-field : (f : Field) (ns : List ℤ) (nm ms : List ℕ) → (isCode f ≡ true → a ≡ b) → fieldFits a f ns nm ms ≡ fieldFits b f ns nm ms
+  unfolding fieldFits
+  same-field End ns nm ms e = refl
+  same-field (Letters x y) ns nm ms e = refl
+  same-field (Number c w) ns nm ms e = refl
+  same-field (Code c w) ns nm ms e = rw (e refl)
+  same-field (Name c w) ns nm ms e = refl
+  same-field (Blank c w) ns nm ms e = refl
+
+  or-right : (x y : Bool) → y ≡ true → (x || y) ≡ true
+  or-right true y e = refl
+  or-right false y e = e
+
+  -- a layout fits the same, whatever is said of layer 5, unless it has codes
+  pub same-fits : (L : List Field) (ns : List ℤ) (nm ms : List ℕ) → (codes L ≡ true → a ≡ b) → fits a L ns nm ms ≡ fits b L ns nm ms
+  unfolding fits codes
+  same-fits [] ns nm ms e = refl
+  same-fits (f ∷ fs) ns nm ms e =
+      let p = same-field f ns nm ms (λ h. e (rw h)) in
+      let q = same-fits fs (drop (numbersOf f) ns) (drop (bytesOf f) nm) (drop (marksOf f) ms) (λ h. e (or-right (isCode f) (codes fs) h)) in
+      rw (p, q)
+
+-- a layout that begins with letters and the layer code: what is written of it is of layer 5 exactly if its first number is 5
+pub layer-written : (five : Bool) (a b : ℕ) (fs : List Field) (ns : List ℤ) (nm ms z : List ℕ) → fits five (Letters a b ∷ Number 3 2 ∷ fs) ns nm ms ≡ true
+    → numberAt (textOf (Letters a b ∷ Number 3 2 ∷ fs) ns nm ms ++ z) 3 2 ≡ number.Value (getD ns 0 (pos 0))
+unfolding fits fieldFits textOf fieldText
+layer-written five a b fs ns nm ms z h =
+    let v = getD ns 0 (pos 0) in
+    let y = textOf fs (drop 1 ns) nm ms in
+    let q = both (leb 1 (length ns) && holds 2 v) (fits five fs (drop 1 ns) nm ms) h in
+    let r = both (leb 1 (length ns)) (holds 2 v) (q .0) in
+    let i = placed (a ∷ b ∷ []) (spell 2 v) (y ++ z) 3 2 refl (spell-length 2 v) in
+    simp append-assoc (number-read _ 3 2 v (record { there = i .0; held = r .1; spelled = i .1 }))
 
 pub zero-number : (z : ℤ) → isZero z ≡ true → z ≡ pos 0
 zero-number (pos n) h = ap pos (eqb-true n 0 h)
@@ -279,6 +414,7 @@ unfolding numbersIn
 numbers-short s End = omega arith
 numbers-short s (Letters a b) = omega arith
 numbers-short s (Number c w) = omega arith
+numbers-short s (Code c w) = omega arith
 numbers-short s (Name c w) = omega arith
 numbers-short s (Blank c w) = omega arith
 
@@ -287,5 +423,15 @@ unfolding nameIn bytesAt
 name-short s End = omega arith
 name-short s (Letters a b) = omega arith
 name-short s (Number c w) = omega arith
+name-short s (Code c w) = omega arith
 name-short s (Name c w) = rw length-take (omega arith)
 name-short s (Blank c w) = omega arith
+
+pub marks-short : (s : List ℕ) (f : Field) → length (marksIn f s) ≤ marksOf f
+unfolding marksIn
+marks-short s End = omega arith
+marks-short s (Letters a b) = omega arith
+marks-short s (Number c w) = omega arith
+marks-short s (Code c w) = omega arith
+marks-short s (Name c w) = omega arith
+marks-short s (Blank c w) = omega arith

@@ -4,6 +4,7 @@
 --   columnKind, spanOf   the kind of record that a field is of; its first column and its width
 --   columnOf c        its first column, which is its place in a refusal (RULES 1.4)
 --   valueAt file k c  the number in the field c of record k of a file; 0 where there is none
+--   codeOn file k s   the value of the code in these columns of record k (RULES 3.6, 5.7); 0 where there is none
 --   rowKind, rowSpanOf   the same of a row: its kind, and where its slots stand
 --   slotColumn r i    the first column of slot i of the row r, counted from 0
 --   slotAt file k r i the number in slot i of the row r of record k; 0 where there is none
@@ -14,7 +15,9 @@ use lib.Dec.{ltb}
 use lib.IntN.{ℤ}
 use Rattle.records.specs.declared.Kind.{Kind}
 use Rattle.records.specs.declared.Kind.the-variants.{Mesh, Layer, Node, Line, Coordinates, Area, Loop}
-use Rattle.records.specs.View.{numberIn}
+use Rattle.codes.specs.Code.{codeValue}
+use Rattle.records.specs.Reading.{codeIn}
+use Rattle.records.specs.View.{recordOf, numberIn}
 
 -- ---- fields
 
@@ -138,6 +141,10 @@ numberOn file k s = numberIn file k (s .start) (s .width)
 
 abbrev pub valueAt : List ℕ → ℕ → Column → ℤ
 valueAt file k c = numberOn file k (spanOf c)
+
+-- RULES 5.7: a code is its value, whatever its mark
+abbrev pub codeOn : List ℕ → ℕ → Span → ℤ
+codeOn file k s = codeValue (codeIn (recordOf file k) (s .start) (s .width))
 
 -- the columns from c on, w of them
 abbrev pub spanFrom : ℕ → ℕ → Span

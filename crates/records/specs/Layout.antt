@@ -2,13 +2,13 @@
 -- RULES 3.4: each run of columns up to 72 that no other field has is one blank field. Assumes nothing.
 --   layoutOf k       the fields of kind k
 --   startOf, widthOf a field's first column, and how many columns it takes
---   numbersOf, bytesOf   how many numbers and how many name bytes it gives to the record's value
+--   numbersOf, bytesOf, marksOf   how many numbers, name bytes and marks it gives to the record's value
 use mathlib.Core.List.{List, [], _∷_, _++_}
 use Prim.Native.Nat.{ℕ, zero, suc, _+_}
 use Rattle.records.specs.declared.Kind.{Kind}
 use Rattle.records.specs.declared.Kind.the-variants.{Mesh, Layer, Node, Line, Coordinates, Area, Loop}
 use Rattle.records.specs.declared.Field.{Field}
-use Rattle.records.specs.declared.Field.the-variants.{End, Letters, Number, Name, Blank}
+use Rattle.records.specs.declared.Field.the-variants.{End, Letters, Number, Code, Name, Blank}
 
 -- n numbers of width w in a row, from column c on
 abbrev pub row : ℕ → ℕ → ℕ → List Field
@@ -75,9 +75,9 @@ lineLayout =
     ∷ Number 23 1
     ∷ Number 24 5
     ∷ Number 29 1
-    ∷ Number 30 5
+    ∷ Code 30 5
     ∷ Number 35 5
-    ∷ Number 40 5
+    ∷ Code 40 5
     ∷ Number 45 5
     ∷ Number 50 6
     ∷ Number 56 2
@@ -94,7 +94,7 @@ abbrev pub areaLayout : List Field
 areaLayout =
     Letters 65 32
     ∷ Number 3 2
-    ∷ Number 5 5
+    ∷ Code 5 5
     ∷ Number 10 5
     ∷ Number 15 5
     ∷ Number 20 5
@@ -121,6 +121,7 @@ abbrev pub startOf : Field → ℕ
 startOf End = 0
 startOf (Letters a b) = 1
 startOf (Number c w) = c
+startOf (Code c w) = c
 startOf (Name c w) = c
 startOf (Blank c w) = c
 
@@ -128,6 +129,7 @@ abbrev pub widthOf : Field → ℕ
 widthOf End = 0
 widthOf (Letters a b) = 2
 widthOf (Number c w) = w
+widthOf (Code c w) = w
 widthOf (Name c w) = w
 widthOf (Blank c w) = w
 
@@ -135,6 +137,7 @@ abbrev pub numbersOf : Field → ℕ
 numbersOf End = 0
 numbersOf (Letters a b) = 0
 numbersOf (Number c w) = 1
+numbersOf (Code c w) = 1
 numbersOf (Name c w) = 0
 numbersOf (Blank c w) = 0
 
@@ -142,8 +145,18 @@ abbrev pub bytesOf : Field → ℕ
 bytesOf End = 0
 bytesOf (Letters a b) = 0
 bytesOf (Number c w) = 0
+bytesOf (Code c w) = 0
 bytesOf (Name c w) = w
 bytesOf (Blank c w) = 0
+
+-- RULES 4.8: a code gives its mark
+abbrev pub marksOf : Field → ℕ
+marksOf End = 0
+marksOf (Letters a b) = 0
+marksOf (Number c w) = 0
+marksOf (Code c w) = 1
+marksOf (Name c w) = 0
+marksOf (Blank c w) = 0
 
 -- over a whole layout
 unfoldable pub total : (Field → ℕ) → List Field → ℕ

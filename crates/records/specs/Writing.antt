@@ -1,48 +1,57 @@
 -- How a record's value is written (RULES 9.5, the writer), over any layout. Assumes nothing.
---   textOf L ns nm   the columns of the layout L for the numbers ns and the name bytes nm
---   fits L ns nm     whether each field holds its own and the unused entries are 0
+--   textOf L ns nm ms   the columns of the layout L for the numbers ns, the name bytes nm and the marks ms
+--   fits five L ns nm ms   whether each field holds its own and the unused entries are 0; five says that the record is of layer 5
 --   recordBytes r    the record's 74 bytes
 --   Written          the writer's answer and its buffer afterwards
 use mathlib.Core.Path.{_≡_}
 use mathlib.Core.Bool.{Bool, true, cond, _&&_}
 use mathlib.Core.List.{List, [], _∷_, _++_}
-use Prim.Native.Nat.{ℕ}
+use Prim.Native.Nat.{ℕ, zero, suc}
 use lib.Dec.{leb, eqb}
 use lib.IntN.{ℤ, pos}
 use lib.ListN.{length, getD, take, drop, replicate}
-use Rattle.permitted.specs.Permitted.{isZero}
+use Rattle.permitted.specs.Permitted.{isZero, is}
 use Rattle.fields.specs.Number.{holds}
 use Rattle.fields.specs.Spelling.{spell}
 use Rattle.fields.specs.Text.{isName}
+use Rattle.codes.specs.Code.{codeHolds, spellCode}
 use Rattle.records.specs.declared.Field.{Field}
-use Rattle.records.specs.declared.Field.the-variants.{End, Letters, Number, Name, Blank}
+use Rattle.records.specs.declared.Field.the-variants.{End, Letters, Number, Code, Name, Blank}
 use Rattle.records.specs.declared.Record.{Record}
-use Rattle.records.specs.Layout.{layoutOf, numbersOf, bytesOf}
+use Rattle.records.specs.Layout.{layoutOf, numbersOf, bytesOf, marksOf}
 
--- ---- one field, of the numbers and the name bytes that are left
+-- ---- one field, of the numbers, the name bytes and the marks that are left
 
-unfoldable pub fieldText : Field → List ℤ → List ℕ → List ℕ
-fieldText End ns nm = []
-fieldText (Letters a b) ns nm = a ∷ b ∷ []
-fieldText (Number c w) ns nm = spell w (getD ns 0 (pos 0))
-fieldText (Name c w) ns nm = take w nm
-fieldText (Blank c w) ns nm = replicate w 32
+unfoldable pub fieldText : Field → List ℤ → List ℕ → List ℕ → List ℕ
+fieldText End ns nm ms = []
+fieldText (Letters a b) ns nm ms = a ∷ b ∷ []
+fieldText (Number c w) ns nm ms = spell w (getD ns 0 (pos 0))
+fieldText (Code c w) ns nm ms = spellCode w (getD ns 0 (pos 0)) (getD ms 0 0)
+fieldText (Name c w) ns nm ms = take w nm
+fieldText (Blank c w) ns nm ms = replicate w 32
+
+-- RULES 3.6, 9.5: a mark stands in layer 5 alone
+abbrev pub markFits : Bool → ℕ → Bool
+markFits five zero = true
+markFits five (suc m) = five
 
 -- RULES 9.5: a value fits its field, a name is two-byte characters
-unfoldable pub fieldFits : Field → List ℤ → List ℕ → Bool
-fieldFits End ns nm = true
-fieldFits (Letters a b) ns nm = true
-fieldFits (Number c w) ns nm = leb 1 (length ns) && holds w (getD ns 0 (pos 0))
-fieldFits (Name c w) ns nm = leb w (length nm) && isName (take w nm)
-fieldFits (Blank c w) ns nm = true
+unfoldable pub fieldFits : Bool → Field → List ℤ → List ℕ → List ℕ → Bool
+fieldFits five End ns nm ms = true
+fieldFits five (Letters a b) ns nm ms = true
+fieldFits five (Number c w) ns nm ms = leb 1 (length ns) && holds w (getD ns 0 (pos 0))
+fieldFits five (Code c w) ns nm ms =
+    (leb 1 (length ns) && leb 1 (length ms)) && (codeHolds w (getD ns 0 (pos 0)) (getD ms 0 0) && markFits five (getD ms 0 0))
+fieldFits five (Name c w) ns nm ms = leb w (length nm) && isName (take w nm)
+fieldFits five (Blank c w) ns nm ms = true
 
 -- ---- all fields of a layout
 
-unfoldable pub textOf : List Field → List ℤ → List ℕ → List ℕ
-textOf [] ns nm = []
-textOf (f ∷ fs) ns nm = fieldText f ns nm ++ textOf fs (drop (numbersOf f) ns) (drop (bytesOf f) nm)
+unfoldable pub textOf : List Field → List ℤ → List ℕ → List ℕ → List ℕ
+textOf [] ns nm ms = []
+textOf (f ∷ fs) ns nm ms = fieldText f ns nm ms ++ textOf fs (drop (numbersOf f) ns) (drop (bytesOf f) nm) (drop (marksOf f) ms)
 
--- RULES 9.5: an entry that the kind lacks is 0
+-- RULES 9.5: an entry that the kind lacks is 0; name bytes and marks alike
 unfoldable pub every : {A : Type 0} → (A → Bool) → List A → Bool
 every p [] = true
 every p (x ∷ xs) = p x && every p xs
@@ -53,18 +62,23 @@ noNumbers ns = every isZero ns
 abbrev pub noBytes : List ℕ → Bool
 noBytes bs = every (λ b. eqb b 0) bs
 
-unfoldable pub fits : List Field → List ℤ → List ℕ → Bool
-fits [] ns nm = noNumbers ns && noBytes nm
-fits (f ∷ fs) ns nm = fieldFits f ns nm && fits fs (drop (numbersOf f) ns) (drop (bytesOf f) nm)
+unfoldable pub fits : Bool → List Field → List ℤ → List ℕ → List ℕ → Bool
+fits five [] ns nm ms = noNumbers ns && (noBytes nm && noBytes ms)
+fits five (f ∷ fs) ns nm ms =
+    fieldFits five f ns nm ms && fits five fs (drop (numbersOf f) ns) (drop (bytesOf f) nm) (drop (marksOf f) ms)
 
 -- ---- a record's 74 bytes
 
 -- RULES 2.1: 72 columns, then CR and LF
 unfoldable pub recordBytes : Record → List ℕ
-recordBytes r = textOf (layoutOf (r .kind)) (r .numbers) (r .name) ++ (13 ∷ 10 ∷ [])
+recordBytes r = textOf (layoutOf (r .kind)) (r .numbers) (r .name) (r .marks) ++ (13 ∷ 10 ∷ [])
+
+-- RULES 4.4, 4.6: the first number of an L and of an A, which have codes, is the layer code
+abbrev pub ofLayerFive : List ℤ → Bool
+ofLayerFive ns = is 5 (getD ns 0 (pos 0))
 
 unfoldable pub fitsAll : Record → Bool
-fitsAll r = fits (layoutOf (r .kind)) (r .numbers) (r .name)
+fitsAll r = fits (ofLayerFive (r .numbers)) (layoutOf (r .kind)) (r .numbers) (r .name) (r .marks)
 
 -- whether its values fit, and then its bytes
 pub record SpelledAs (r : Record) (ok : Bool) (bytes : List ℕ) : Type 0 where

@@ -4,11 +4,13 @@
 //
 // The contracts cite `specs/`: `Layout` has the layouts, `Reading` and `Writing` say what a record's
 // bytes and a record's value are to each other, `View` is a record of a file.
+use codes::Code;
+use fields::Number;
 ghost use mathlib.Core.Path.{_≡_};
 ghost use Prim.Native.Nat.{_≤_};
 ghost use lib.ListN.{getD};
 ghost use Rattle.records.specs.Layout.{meshLayout, layerLayout, nodeLayout, lineLayout, coordinatesLayout, areaLayout, loopLayout, layoutOf};
-ghost use Rattle.records.specs.Reading.{lettersFault};
+ghost use Rattle.records.specs.Reading.{lettersFault, inLayerFive, codeIn};
 ghost use Rattle.records.specs.View.{recordOf, numberIn};
 ghost use Rattle.records.specs.Columns.{slotStart, slotIn};
 
@@ -23,12 +25,13 @@ pub enum Kind {
     Loop,
 }
 
-// A field of a layout, with its first column and its width: type letters, a number, a name, or
-// blanks; or no field.
+// A field of a layout, with its first column and its width: type letters, a number, a code, a name,
+// or blanks; or no field.
 pub enum Field {
     End,
     Letters(u8, u8),
     Number(usize, usize),
+    Code(usize, usize),
     Name(usize, usize),
     Blank(usize, usize),
 }
@@ -114,12 +117,13 @@ pub const LOOP_ENTRIES: Slots = Slots(10, 5, 12);
 
 pub const SLOT_WIDTH: usize = 5;
 
-// A record's value (RULES 4.8): its kind, its numbers in column order and its name bytes. What the
-// kind lacks is 0.
+// A record's value (RULES 4.8): its kind, its numbers in column order, its name bytes and the marks of
+// its codes. What the kind lacks is 0.
 pub struct Record {
     pub kind: Kind,
     pub numbers: [i32; 16],
     pub name: [u8; 40],
+    pub marks: [u32; 2],
 }
 
 // What reading finds: a refusal's number with its place, record and column, or 0 at 0, 0; and the
@@ -206,9 +210,9 @@ fn line_field(j: usize) -> Field
         6 => Field::Number(23, 1), // its link
         7 => Field::Number(24, 5), // end node
         8 => Field::Number(29, 1), // its link
-        9 => Field::Number(30, 5), // left code
+        9 => Field::Code(30, 5), // left code
         10 => Field::Number(35, 5), // left area
-        11 => Field::Number(40, 5), // right code
+        11 => Field::Code(40, 5), // right code
         12 => Field::Number(45, 5), // right area
         13 => Field::Number(50, 6), // points
         14 => Field::Number(56, 2),
@@ -236,7 +240,7 @@ fn area_field(j: usize) -> Field
     match j {
         0 => Field::Letters(b'A', b' '),
         1 => Field::Number(3, 2), // layer
-        2 => Field::Number(5, 5), // code
+        2 => Field::Code(5, 5), // code
         3 => Field::Number(10, 5), // serial
         4 => Field::Number(15, 5), // X
         5 => Field::Number(20, 5), // Y
@@ -289,6 +293,37 @@ pub fn letters_fault(a: u8, b: u8, x: u8, y: u8) -> u32
         return 7;
     }
     3
+}
+
+// ---- codes
+
+// Whether a record's layer code, in columns 3-4, reads 5.
+fn in_layer_five(s: &[u8]) -> bool
+    ensures { λ r. ⌜ r ≡ inLayerFive (now (s .entry)) ⌝ }
+{
+    let answer = numerals::read_number(s, 3, 2);
+    let Number::Value(v) = answer else {
+        return false;
+    };
+    permitted::is(v, 5)
+}
+
+// Reads the code of `width` columns from `column` on of a record. " 0000", which has a mark, is taken in
+// layer 5 and refused in any other.
+pub fn read_code(s: &[u8], column: usize, width: usize) -> Code
+    ensures { λ r. ⌜ r ≡ codeIn (now (s .entry)) column width ⌝ }
+{
+    let answer = codes::read_code(s, column, width);
+    let Code::Value(v, mark) = answer else {
+        return Code::Refused;
+    };
+    if mark == 0 {
+        return Code::Value(v, mark);
+    }
+    if !in_layer_five(s) {
+        return Code::Refused;
+    }
+    Code::Value(v, mark)
 }
 
 // ---- a record of a file

@@ -6,7 +6,7 @@ use Prim.Native.Nat.{ℕ, suc, _+_, _<_}
 use lib.IntN.{pos}
 use lib.ListN.{getD}
 use Rattle.records.specs.View.{recordOf, numberIn}
-use Rattle.records.specs.Columns.{areaCode, areaSerial, valueAt}
+use Rattle.records.specs.Columns.{areaCode, areaSerial, spanOf, valueAt, codeOn}
 use Rattle.permitted.specs.Permitted.{size}
 use Rattle.rules.specs.declared.Due.the-variants.{Area}
 use Rattle.walk.specs.declared.State.{State}
@@ -24,8 +24,8 @@ pub serial-told : (file : List ℕ) (s : State) (k : ℕ) → shownIn s (recordO
 unfolding shownIn sizeIn numberIn
 serial-told file s k = refl
 
-pub code-told : (file : List ℕ) (s : State) (k : ℕ) → shownIn s (recordOf file k) .code ≡ size (valueAt file k areaCode)
-unfolding shownIn sizeIn numberIn
+pub code-told : (file : List ℕ) (s : State) (k : ℕ) → shownIn s (recordOf file k) .code ≡ size (codeOn file k (spanOf areaCode))
+unfolding shownIn
 code-told file s k = refl
 
 -- RULES 12.2: the line of the A that stands behind k records: the measure in it is that of this area

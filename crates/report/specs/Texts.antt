@@ -12,7 +12,10 @@ use lib.Dec.{eqb, ltb}
 use lib.IntN.{ℤ, pos, negsuc}
 use lib.ListN.{length, getD}
 use Rattle.records.specs.View.{recordOf}
-use Rattle.records.specs.Columns.{areaCode, areaSerial}
+use Rattle.records.specs.Columns.{Column, spanOf, areaCode, areaSerial}
+use Rattle.records.specs.Reading.{codeIn}
+use Rattle.codes.specs.Code.{codeValue}
+use Rattle.permitted.specs.Permitted.{size}
 use Rattle.rules.specs.declared.Due.{Due}
 use Rattle.rules.specs.declared.Due.the-variants.{Mesh, Layer, Node, Line, Coordinates, Area, Loop}
 use Rattle.walk.specs.declared.State.{State}
@@ -145,9 +148,13 @@ areaText x m =
     ++ (signed m
     ++ lineFeed)))))
 
+-- RULES 5.7: a code is its value, whatever its mark
+abbrev pub codeSize : List ℕ → Column → ℕ
+codeSize t c = size (codeValue (codeIn t (spanOf c .start) (spanOf c .width)))
+
 -- RULES 12.2: of the A record t, due in the state s: its code at 5, its serial at 10 (RULES 4.6); layer is the layer code
 unfoldable pub shownIn : State → List ℕ → Shown
-shownIn s t = record { mesh = s .mesh .code; layer = s .layer .code; area = sizeAt t areaSerial; code = sizeAt t areaCode }
+shownIn s t = record { mesh = s .mesh .code; layer = s .layer .code; area = sizeAt t areaSerial; code = codeSize t areaCode }
 
 -- RULES 12.2: of the record t, due as d, where m is the measure: only an A has a line
 unfoldable pub recordText : Due → State → List ℕ → ℤ → List ℕ

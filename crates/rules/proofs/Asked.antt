@@ -14,12 +14,12 @@ use Rattle.fields.specs.Number.{numberAt}
 use Rattle.records.specs.Layout.{row, layoutOf, numbersOf, total}
 use Rattle.records.specs.Reading.{zeros}
 use Rattle.records.specs.declared.Field.{Field}
-use Rattle.records.specs.declared.Field.the-variants.{End, Letters, Number, Name, Blank}
+use Rattle.records.specs.declared.Field.the-variants.{End, Letters, Number, Code, Name, Blank}
 use Rattle.records.proofs.Layouts.{fitting}
 use Rattle.verdict.proofs.Holding.{Holding, both-hold}
 use Rattle.rules.specs.declared.Due.{Due}
 use Rattle.asks.specs.Asks.{Ask, permitted, at}
-use Rattle.rules.specs.Checks.{kindOf, askedOf, free, formChecks, valueChecks, withNumber, along, checksOf}
+use Rattle.rules.specs.Checks.{kindOf, askedOf, free, formChecks, valueChecks, withNumber, withCode, along, checksOf}
 
 -- ---- the numbers of a layout
 
@@ -30,6 +30,8 @@ numberField (End ∷ L) i = numberField L i
 numberField (Letters x y ∷ L) i = numberField L i
 numberField (Number c w ∷ L) zero = Number c w
 numberField (Number c w ∷ L) (suc i) = numberField L i
+numberField (Code c w ∷ L) zero = Code c w
+numberField (Code c w ∷ L) (suc i) = numberField L i
 numberField (Name c w ∷ L) i = numberField L i
 numberField (Blank c w ∷ L) i = numberField L i
 
@@ -50,12 +52,19 @@ readTo (End ∷ L) n ns t i = readTo L n ns t i
 readTo (Letters x y ∷ L) n ns t i = readTo L n ns t i
 readTo (Number c w ∷ L) n ns t zero = withNumber ns n t c w
 readTo (Number c w ∷ L) n ns t (suc i) = readTo L (suc n) (withNumber ns n t c w) t i
+readTo (Code c w ∷ L) n ns t zero = withCode ns n t c w
+readTo (Code c w ∷ L) n ns t (suc i) = readTo L (suc n) (withCode ns n t c w) t i
 readTo (Name c w ∷ L) n ns t i = readTo L n ns t i
 readTo (Blank c w ∷ L) n ns t i = readTo L n ns t i
 
--- no number stands at the end
+-- no number stands at the end, and a code is none
 no-number : {A : Type 0} {c w : ℕ} → End ≡ Number c w → A
 no-number e =
+    let z : _≡_ {A = ℕ} 0 1 = cc in
+    absurd (omega arith)
+
+code-no-number : {A : Type 0} {c w d v : ℕ} → Code d v ≡ Number c w → A
+code-no-number e =
     let z : _≡_ {A = ℕ} 0 1 = cc in
     absurd (omega arith)
 
@@ -74,6 +83,10 @@ module _ (t : List ℕ) where
   number-read (Number c w ∷ L) n ns (suc i) e l =
       let p : n + suc i ≡ suc n + i = omega arith in
       rw p (number-read L (suc n) (withNumber ns n t c w) i e (rw length-set (omega arith)))
+  number-read (Code c w ∷ L) n ns zero e l = code-no-number e
+  number-read (Code c w ∷ L) n ns (suc i) e l =
+      let p : n + suc i ≡ suc n + i = omega arith in
+      rw p (number-read L (suc n) (withCode ns n t c w) i e (rw length-set (omega arith)))
   number-read (Name c w ∷ L) n ns i e l = number-read L n ns i e (omega arith)
   number-read (Blank c w ∷ L) n ns i e l = number-read L n ns i e (omega arith)
 
@@ -95,6 +108,12 @@ module _ (t : List ℕ) where
       let f = both-hold (formChecks (Number c w) t) _ h in
       let v = both-hold (valueChecks c (a n (withNumber ns n t c w))) _ (f .1) in
       rw p (number-holds a L (suc n) (withNumber ns n t c w) (v .1) i e)
+  number-holds a (Code c w ∷ L) n ns h zero e = code-no-number e
+  number-holds a (Code c w ∷ L) n ns h (suc i) e =
+      let p : n + suc i ≡ suc n + i = omega arith in
+      let f = both-hold (formChecks (Code c w) t) _ h in
+      let v = both-hold (valueChecks c (a n (withCode ns n t c w))) _ (f .1) in
+      rw p (number-holds a L (suc n) (withCode ns n t c w) (v .1) i e)
   number-holds a (Name c w ∷ L) n ns h i e = number-holds a L n ns (both-hold (formChecks (Name c w) t) _ h .1) i e
   number-holds a (Blank c w ∷ L) n ns h i e = number-holds a L n ns (both-hold (formChecks (Blank c w) t) _ h .1) i e
 

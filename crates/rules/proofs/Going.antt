@@ -10,14 +10,16 @@ use lib.IntN.{ℤ}
 use lib.ListN.{length, getD, drop, set, length-set, drop-of-length-le}
 use Rattle.fields.specs.Number.{numberAt}
 use Rattle.fields.specs.Text.{isBlanks, isName, textAt}
+use Rattle.codes.specs.declared.Code as codes
+use Rattle.codes.specs.declared.Code.the-variants as code
 use Rattle.fields.specs.declared.Number as numbers
 use Rattle.fields.specs.declared.Number.the-variants as number
 use Rattle.fields.specs.declared.Text as texts
 use Rattle.fields.specs.declared.Text.the-variants as text
 use Rattle.records.specs.Layout.{layoutOf, startOf, numbersOf, total}
-use Rattle.records.specs.Reading.{lettersFault, faultOf, zeros}
+use Rattle.records.specs.Reading.{lettersFault, codeIn, faultOf, zeros}
 use Rattle.records.specs.declared.Field.{Field}
-use Rattle.records.specs.declared.Field.the-variants.{End, Letters, Number, Name, Blank}
+use Rattle.records.specs.declared.Field.the-variants.{End, Letters, Number, Code, Name, Blank}
 use Rattle.records.proofs.Layouts.{isField, on-layout, off-layout, split, total-split, fitting, start-small}
 use Rattle.verdict.specs.declared.Verdict.the-variants.{Fine, Broken}
 use Rattle.verdict.specs.Rules.{Check, check, firstBroken, block}
@@ -113,28 +115,55 @@ module _ {d : Due} {t : List ℕ} {r : ℕ} {ns : List ℤ} {n j : ℕ} (g : Goi
       answer = sym (check-kept 2 r 1 3 _ _ (rw (← q, z)) ∙ check-kept 2 r 1 7 _ _ (rw (← q, z))) ∙ step (Letters a b) e refl;
     }
 
+  -- behind a well-formed number or code that starts at column c, what is asked of its value v comes next
+  abbrev Next : ℕ → ℤ → Type 0
+  Next c v =
+      firstBroken (block 2 r (valueChecks c (askedOf d n (set ns n v)) ++ along (askedOf d) (drop (j + 1) (layoutOf (kindOf d))) (suc n) (set ns n v) t))
+      ≡ firstBroken (block 2 r (checksOf d t))
+
+  module _ (f : Field) (e : f ≡ getD (layoutOf (kindOf d)) j End) (i : isField f ≡ true) (one : numbersOf f ≡ 1) (v : ℤ)
+      (a : Next (startOf f) v) {k : ℕ} (p : k ≡ firstAsked (askedOf d n (set ns n v))) where
+    value-broken : (k ≡ 0 → ⊥) → Broken k r (startOf f) ≡ firstBroken (block 2 r (checksOf d t))
+    value-broken h = sym (values-broken r (startOf f) _ (askedOf d n (set ns n v)) k (sym p) h) ∙ a
+
+    value-next : k ≡ 0 → Going d t r (set ns n v) (n + 1) (j + 1)
+    value-next h = record {
+      many = rw length-set (g .many);
+      room = next-room f e i (n + 1) (rw one);
+      answer = rw (add-one n) (sym (values-kept r (startOf f) _ (askedOf d n (set ns n v)) (sym p ∙ h)) ∙ a);
+    }
+
   module _ (c w : ℕ) (e : Number c w ≡ getD (layoutOf (kindOf d)) j End) {m : numbers.Number} (q : m ≡ numberAt t c w) where
     pub number-ill : m ≡ number.Refused → Broken 5 r c ≡ firstBroken (block 2 r (checksOf d t))
     unfolding along formChecks faultOf
     number-ill z = sym (check-broken 2 r c 5 _ _ (rw (← q, z))) ∙ step (Number c w) e refl
 
     module _ (v : ℤ) (z : m ≡ number.Value v) where
-      -- a well-formed number: what is asked of it comes next
-      asked : firstBroken
-          (block 2 r (valueChecks c (askedOf d n (set ns n v)) ++ along (askedOf d) (drop (j + 1) (layoutOf (kindOf d))) (suc n) (set ns n v) t))
-          ≡ firstBroken (block 2 r (checksOf d t))
+      number-asked : Next c v
       unfolding along formChecks faultOf
-      asked = rw (← q, z) at (sym (check-kept 2 r c 5 _ _ (rw (← q, z))) ∙ step (Number c w) e refl)
+      number-asked = rw (← q, z) at (sym (check-kept 2 r c 5 _ _ (rw (← q, z))) ∙ step (Number c w) e refl)
 
       pub number-broken : {k : ℕ} → k ≡ firstAsked (askedOf d n (set ns n v)) → (k ≡ 0 → ⊥) → Broken k r c ≡ firstBroken (block 2 r (checksOf d t))
-      number-broken {k} p h = sym (values-broken r c _ (askedOf d n (set ns n v)) k (sym p) h) ∙ asked
+      number-broken p h = value-broken (Number c w) e refl refl v number-asked p h
 
       pub number-next : {k : ℕ} → k ≡ firstAsked (askedOf d n (set ns n v)) → k ≡ 0 → Going d t r (set ns n v) (n + 1) (j + 1)
-      number-next {k} p h = record {
-        many = rw length-set (g .many);
-        room = next-room (Number c w) e refl (n + 1) refl;
-        answer = rw (add-one n) (sym (values-kept r c _ (askedOf d n (set ns n v)) (sym p ∙ h)) ∙ asked);
-      }
+      number-next p h = value-next (Number c w) e refl refl v number-asked p h
+
+  module _ (c w : ℕ) (e : Code c w ≡ getD (layoutOf (kindOf d)) j End) {m : codes.Code} (q : m ≡ codeIn t c w) where
+    pub code-ill : m ≡ code.Refused → Broken 5 r c ≡ firstBroken (block 2 r (checksOf d t))
+    unfolding along formChecks faultOf
+    code-ill z = sym (check-broken 2 r c 5 _ _ (rw (← q, z))) ∙ step (Code c w) e refl
+
+    module _ (v : ℤ) (x : ℕ) (z : m ≡ code.Value v x) where
+      code-asked : Next c v
+      unfolding along formChecks faultOf
+      code-asked = rw (← q, z) at (sym (check-kept 2 r c 5 _ _ (rw (← q, z))) ∙ step (Code c w) e refl)
+
+      pub code-broken : {k : ℕ} → k ≡ firstAsked (askedOf d n (set ns n v)) → (k ≡ 0 → ⊥) → Broken k r c ≡ firstBroken (block 2 r (checksOf d t))
+      code-broken p h = value-broken (Code c w) e refl refl v code-asked p h
+
+      pub code-next : {k : ℕ} → k ≡ firstAsked (askedOf d n (set ns n v)) → k ≡ 0 → Going d t r (set ns n v) (n + 1) (j + 1)
+      code-next p h = value-next (Code c w) e refl refl v code-asked p h
 
   module _ (c w : ℕ) (e : Name c w ≡ getD (layoutOf (kindOf d)) j End) {m : texts.Text} (q : m ≡ textAt isName t c w) where
     pub name-ill : m ≡ text.Refused → Broken 5 r c ≡ firstBroken (block 2 r (checksOf d t))

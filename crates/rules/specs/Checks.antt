@@ -13,12 +13,13 @@ use lib.IntN.{ℤ}
 use lib.ListN.{set, getD}
 use Rattle.fields.specs.Number.{numberAt}
 use Rattle.fields.specs.Answer.{valueOf}
+use Rattle.codes.specs.Code.{codeValue}
 use Rattle.records.specs.declared.Kind.{Kind}
 use Rattle.records.specs.declared.Kind.the-variants as kind
 use Rattle.records.specs.declared.Field.{Field}
-use Rattle.records.specs.declared.Field.the-variants.{End, Letters, Number, Name, Blank}
+use Rattle.records.specs.declared.Field.the-variants.{End, Letters, Number, Code, Name, Blank}
 use Rattle.records.specs.Layout.{layoutOf}
-use Rattle.records.specs.Reading.{faultOf, zeros}
+use Rattle.records.specs.Reading.{codeIn, faultOf, zeros}
 use Rattle.verdict.specs.Rules.{Check, check}
 use Rattle.asks.specs.Asks.{Ask, permitted, inStep, meshAsks, layerAsks, nodeAsks, lineAsks, coordinateAsks, areaAsks, loopAsks}
 use Rattle.rules.specs.declared.Due.{Due}
@@ -57,6 +58,7 @@ unfoldable pub formChecks : Field → List ℕ → List Check
 formChecks End t = []
 formChecks (Letters a b) t = check 1 3 (free 3 (Letters a b) t) ∷ check 1 7 (free 7 (Letters a b) t) ∷ []
 formChecks (Number c w) t = check c 5 (free 5 (Number c w) t) ∷ []
+formChecks (Code c w) t = check c 5 (free 5 (Code c w) t) ∷ []
 formChecks (Name c w) t = check c 5 (free 5 (Name c w) t) ∷ []
 formChecks (Blank c w) t = check c 5 (free 5 (Blank c w) t) ∷ []
 
@@ -70,6 +72,10 @@ valueChecks c (inStep b ∷ l) = check c 8 b ∷ valueChecks c l
 abbrev pub withNumber : List ℤ → ℕ → List ℕ → ℕ → ℕ → List ℤ
 withNumber ns i t c w = set ns i (valueOf (numberAt t c w))
 
+-- RULES 5.7: of a code its value is asked, whatever its mark
+abbrev pub withCode : List ℤ → ℕ → List ℕ → ℕ → ℕ → List ℤ
+withCode ns i t c w = set ns i (codeValue (codeIn t c w))
+
 -- RULES 6.4: field by field from the left, its form and then its value
 unfoldable pub along : (ℕ → List ℤ → List Ask) → List Field → ℕ → List ℤ → List ℕ → List Check
 along a [] i ns t = []
@@ -78,6 +84,9 @@ along a (Letters x y ∷ L) i ns t = formChecks (Letters x y) t ++ along a L i n
 along a (Number c w ∷ L) i ns t =
     formChecks (Number c w) t
     ++ (valueChecks c (a i (withNumber ns i t c w)) ++ along a L (suc i) (withNumber ns i t c w) t)
+along a (Code c w ∷ L) i ns t =
+    formChecks (Code c w) t
+    ++ (valueChecks c (a i (withCode ns i t c w)) ++ along a L (suc i) (withCode ns i t c w) t)
 along a (Name c w ∷ L) i ns t = formChecks (Name c w) t ++ along a L i ns t
 along a (Blank c w ∷ L) i ns t = formChecks (Blank c w) t ++ along a L i ns t
 

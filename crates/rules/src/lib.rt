@@ -3,6 +3,7 @@
 //
 // The contracts cite `specs/Checks`, the checks of a record in the order of judgement. What is asked of
 // each number stands in `asks`, and what a permitted value is in `permitted`.
+use codes::Code;
 use fields::Number;
 use fields::Text;
 use records::Field;
@@ -127,6 +128,19 @@ pub fn judge_record(due: Due, s: &[u8], row: u32) -> Verdict
                 let Text::WellFormed = answer else {
                     return broken(5, row, c);
                 };
+                j += 1;
+            }
+            Field::Code(c, w) => {
+                let answer = records::read_code(s, c, w);
+                let Code::Value(v, _) = answer else {
+                    return broken(5, row, c);
+                };
+                numbers[n] = v;
+                let fault = value_fault(due, n, &numbers);
+                if fault != 0 {
+                    return broken(fault, row, c);
+                }
+                n += 1;
                 j += 1;
             }
         }

@@ -9,7 +9,8 @@ use Rattle.fields.specs.Number.{afterBlanks, digitsOf, plainOf, signedOf, numbe
 use Rattle.fields.specs.Spelling.{columns, spell}
 use Rattle.fields.specs.Text.{isName, isBlanks, textAt}
 use Rattle.records.specs.Layout.{layoutOf}
-use Rattle.records.specs.Reading.{faultOf}
+use Rattle.codes.specs.Code.{landText, isLand, landAt, codeAt, spellCode}
+use Rattle.records.specs.Reading.{inLayerFive, codeIn, faultOf}
 use Rattle.records.specs.Writing.{fieldText, textOf, recordBytes}
 use Rattle.records.specs.View.{recordOf, numberIn}
 use Rattle.records.specs.Columns.{slotStart}
@@ -41,13 +42,15 @@ use Rattle.judge.specs.Outcomes.{outcomeBehind, tableBehind, outcomeOf, tableAf
 use Rattle.judge.specs.Outcomes.{outcomeOfAll, pairsTo, allSumsOf, sumsAfter}
 use Rattle.judge.specs.declared.Outcome.{Outcome}
 use Rattle.sheets.specs.Sheets.{written, mRecord, hRecord, nRecord, lRecord, points, aRecord, loopRecord, sheetS, changed, withMesh, Case, sheet}
-use Rattle.sheets.specs.Sheets.{field, cases, twoMeshes, node, line, coordinates, area, loop, heads, sheetT, shore, sheetU, withoutHole, further}
+use Rattle.sheets.specs.Sheets.{field, codeField, number, also, landSheet, cases}
+use Rattle.sheets.specs.Sheets.{twoMeshes, node, line, coordinates, area, loop, heads, sheetT, shore, sheetU, withoutHole, further}
 
 -- what has to compute, under four names: a line that names one of them opens all that its own line names
 
 -- how a sheet is written
 unfoldable pub writing : Unit {0}
-unfolding columns spell layoutOf fieldText textOf recordBytes written mRecord hRecord nRecord lRecord points aRecord loopRecord put sheetS changed
+unfolding columns spell spellCode layoutOf fieldText textOf recordBytes written mRecord hRecord nRecord lRecord points aRecord loopRecord put sheetS changed
+    also landSheet
 writing = tt
 
 -- how a file is walked
@@ -57,7 +60,8 @@ walking = tt
 
 -- the rules
 judging : Unit {0}
-unfolding walking isName isBlanks textAt layoutOf faultOf within isMeshCode followsMesh isLayerCode followsLayer isDate isNodeItem isFrame isLineItem
+unfolding walking isLand landAt codeAt inLayerFive codeIn isName isBlanks textAt layoutOf faultOf within isMeshCode followsMesh isLayerCode
+    followsLayer isDate isNodeItem isFrame isLineItem
     isLineKind isLink isCode isSide isAreaCode isSlot isPoint isNext isLoopSerial from meshAsks layerAsks nodeAsks lineAsks coordinateAsks
     areaAsks loopAsks asksOf askedOf formChecks valueChecks along checksOf firstBroken block rows endChecks lengthChecks stageOne lastChecks
     stageTwo wordsOf roomRule early sumsFrom sumsBehind meshTotals layerTotals areaTotals stageThree gather tableOf numberIn slotStart spread wordsBefore
@@ -82,15 +86,82 @@ refusedWith n need = record { number = n; place = 0; column = 0; meshes = 0; lay
 abbrev pub Holds : Case → Type 0
 Holds (sheet file v) = verdictOf file 6 1 ≡ v
 Holds (field text a) = numberAt text 1 5 ≡ a
+Holds (codeField text a) = codeAt text 1 5 ≡ a
 
 abbrev pub All : List Case → Type 0
 All [] = Unit {0}
 All (c ∷ cs) = Holds c × All cs
 
--- RULES 11.2: the cases
+-- RULES 11.2, 11.3: the cases
 pub cases-hold : All cases
 unfolding writing judging cases
-cases-hold = (refl, (refl, (refl, (refl, (refl, (refl, (refl, (refl, (refl, (refl, (refl, (refl, (refl, (refl, (refl, tt)))))))))))))))
+cases-hold = (
+  refl,
+  (
+    refl,
+    (
+      refl,
+      (
+        refl,
+        (
+          refl,
+          (
+            refl,
+            (
+              refl,
+              (
+                refl,
+                (
+                  refl,
+                  (
+                    refl,
+                    (
+                      refl,
+                      (
+                        refl,
+                        (
+                          refl,
+                          (
+                            refl,
+                            (
+                              refl,
+                              (
+                                refl,
+                                (
+                                  refl,
+                                  (
+                                    refl,
+                                    (
+                                      refl,
+                                      (
+                                        refl,
+                                        (
+                                          refl,
+                                          (
+                                            refl,
+                                            (refl, (refl, (refl, tt))),
+                                          ),
+                                        ),
+                                      ),
+                                    ),
+                                  ),
+                                ),
+                              ),
+                            ),
+                          ),
+                        ),
+                      ),
+                    ),
+                  ),
+                ),
+              ),
+            ),
+          ),
+        ),
+      ),
+    ),
+  ),
+)
 
 -- each further file has the verdict that stands beside it
 pub further-judged : map (λ (c : List ℕ × Verdict). verdictOf (c .0) 12 2) further ≡ map (λ (c : List ℕ × Verdict). c .1) further
@@ -141,6 +212,14 @@ pub sheet-sums :
     × (sumsOf (sheetU 2 (negsuc 1 ∷ []) (pos 2 ∷ [])) 8 1 ≡ record { number = 0; place = 0; column = 0; areas = pos 200000000; outside = pos 200000000 })
 unfolding writing judging measuring node line coordinates area loop heads shore sheetU
 sheet-sums = (refl, refl, refl, refl, refl)
+
+-- RULES 11.3: a sheet of land has the table, the measure and the sums of S
+pub land-figures :
+    (tableOf (landSheet (number 88888) landText (number 0)) ≡ tableOf sheetS)
+    × (measuresOf (landSheet (number 88888) landText (number 0)) ≡ measuresOf sheetS)
+    × (sumsOf (landSheet (number 88888) landText (number 0)) 6 1 ≡ sumsOf sheetS 6 1)
+unfolding writing judging measuring
+land-figures = (refl, refl, refl)
 
 -- RULES 11.1, 9.11, 8.5: all sums of S are its one layer's two; 48 with one place, and a refused call leaves the sums; two pairs of two meshes
 pub sheet-all-sums :

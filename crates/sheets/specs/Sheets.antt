@@ -2,7 +2,8 @@
 --   mRecord, .., loopRecord   a record of sheet S, as a function of what its neighbours change
 --   sheetS                    sheet S, 518 bytes
 --   changed k c bytes         S with these bytes in record k, from column c on; withMesh: with another M
---   cases                     the cases of RULES 11.2, each with its answer
+--   landSheet                 S as a sheet of layer 5 with land on its whole ground, by the texts of its codes (RULES 11.3)
+--   cases                     the cases of RULES 11.2 and 11.3, each with its answer
 --   further                   more files, of each refusal
 --   twoMeshes, sheetT, sheetU accepted files: two meshes; two lines round one area; a lake in an area, with a hole for it
 use mathlib.Core.List.{List, [], _∷_, _++_}
@@ -13,6 +14,9 @@ use Rattle.fields.specs.declared.Number.{Number}
 use Rattle.fields.specs.declared.Number.the-variants.{Value, Refused}
 use Rattle.fields.specs.Place.{put}
 use Rattle.fields.specs.Spelling.{spell}
+use Rattle.codes.specs.Code.{landText}
+use Rattle.codes.specs.declared.Code.{Code}
+use Rattle.codes.specs.declared.Code.the-variants as code
 use Rattle.records.specs.declared.Kind.{Kind}
 use Rattle.records.specs.declared.Kind.the-variants.{Mesh, Layer, Node, Line, Coordinates, Area, Loop}
 use Rattle.records.specs.Writing.{recordBytes}
@@ -26,9 +30,9 @@ abbrev pub wide : ℕ → List ℕ
 wide zero = []
 wide (suc n) = 0x81 ∷ 0x40 ∷ wide n
 
--- a record of kind k with the numbers ns; those that are not listed are 0
+-- a record of kind k with the numbers ns; those that are not listed, and the marks, are 0
 unfoldable pub written : Kind → List ℤ → List ℕ
-written k ns = recordBytes (record { kind = k; numbers = ns; name = wide 20 })
+written k ns = recordBytes (record { kind = k; numbers = ns; name = wide 20; marks = [] })
 
 -- RULES 11.1: record 1, M, by its mesh code, layers and records
 unfoldable pub mRecord : ℕ → ℕ → ℕ → List ℕ
@@ -87,12 +91,34 @@ number n = spell 5 (pos n)
 abbrev pub withMesh : ℕ → ℕ → ℕ → List ℕ
 withMesh code layers records = changed 1 1 (mRecord code layers records)
 
--- RULES 11.2: a sheet and the judge's verdict, where the lent buffers are long enough; or a field of width 5 and what it says
+-- RULES 11.3: the layer code 5
+abbrev pub five : List ℕ
+five = spell 2 (pos 5)
+
+-- a file with these bytes in record k too
+unfoldable pub also : List ℕ → ℕ → ℕ → List ℕ → List ℕ
+also file k c bytes = put file (74 * (k - 1) + c) bytes
+
+-- RULES 11.3: layer code 5 in records 2, 3, 4 and 6, node item 1, and the texts of left code, right code and A's code
+unfoldable pub landSheet : List ℕ → List ℕ → List ℕ → List ℕ
+landSheet left right own =
+    also (also (also (also (also (also (changed 2 3 five) 3 3 (five ++ spell 2 (pos 1))) 4 3 five) 4 30 left) 4 40 right) 6 3 five) 6 5 own
+
+-- five zeros, and three at the end
+abbrev pub fiveZeros : List ℕ
+fiveZeros = 48 ∷ 48 ∷ 48 ∷ 48 ∷ 48 ∷ []
+
+abbrev pub threeZeros : List ℕ
+threeZeros = 32 ∷ 32 ∷ 48 ∷ 48 ∷ 48 ∷ []
+
+-- RULES 11.2: a sheet and the judge's verdict, where the lent buffers are long enough; or a field of width 5 and what it says, as a number or
+-- as a code
 pub data Case : Type 0 where
   sheet : List ℕ → Verdict → Case
   field : List ℕ → Number → Case
+  codeField : List ℕ → Code → Case
 
--- RULES 11.2: S, then S changed in one place, then fields of five columns, in that order
+-- RULES 11.2, 11.3: S, then S changed in one place, then fields of five columns, in that order; then land
 unfoldable pub cases : List Case
 cases =
     sheet sheetS Fine  -- S is accepted
@@ -110,6 +136,16 @@ cases =
     ∷ field (48 ∷ 48 ∷ 48 ∷ 48 ∷ 49 ∷ []) Refused  -- "00001" is 5
     ∷ field (32 ∷ 32 ∷ 32 ∷ 45 ∷ 48 ∷ []) Refused  -- "   -0" is 5
     ∷ field (32 ∷ 32 ∷ 32 ∷ 32 ∷ 32 ∷ []) Refused  -- five spaces are 5
+    ∷ codeField landText (code.Value (pos 0) 1)  -- as a code " 0000" is 0 with mark 1
+    ∷ codeField (number 0) (code.Value (pos 0) 0)  -- "    0" is 0 with mark 0
+    ∷ codeField fiveZeros code.Refused  -- "00000" is 5
+    ∷ codeField threeZeros code.Refused  -- "  000" is 5
+    ∷ sheet (landSheet (number 88888) landText (number 0)) Fine  -- right code " 0000", A's code "    0"
+    ∷ sheet (landSheet (number 88888) (number 0) landText) Fine  -- the other way round
+    ∷ sheet (landSheet (number 88888) fiveZeros (number 0)) (Broken 5 4 40)  -- right code "00000": 5 at 4,40
+    ∷ sheet (landSheet (number 88888) landText threeZeros) (Broken 5 6 5)  -- A's code "  000": 5 at 6,5
+    ∷ sheet (landSheet landText landText (number 0)) (Broken 6 4 35)  -- left code " 0000", left area 0: 6 at 4,35
+    ∷ sheet (changed 4 40 landText) (Broken 5 4 40)  -- S itself, of layer 1, with right code " 0000": 5 at 4,40
     ∷ []
 
 -- ---- further files

@@ -1,7 +1,8 @@
 //! compare: the proved program against this one. Exit status 1 at the first disagreement.
 
-use second::compare::{damages, every_field, full_counts, large, odd_values, one_byte_changes, outside_sheet, positions};
-use second::compare::{numbers, walks_astray, Agreed, Compare, Disagreement, Reached, CALLS};
+use second::compare::{damages, every_code, every_field, full_counts, land_changes, large, odd_values, one_byte_changes};
+use second::compare::{numbers, outside_sheet, positions, walks_astray, Agreed, Compare, Disagreement, Reached};
+use second::compare::{CALLS, LAND_BECAME};
 use second::piped::Pipe;
 use second::product::{Product, Second};
 use second::random::Random;
@@ -107,9 +108,10 @@ fn main() -> ExitCode {
         }
     }
     let result = parts(&mut compares, &options).and_then(|()| each(&mut compares, |compare| compare.end()));
-    let (reached, due) = (reached(&compares), due(&compares));
+    let (reached, due, land) = (reached(&compares), due(&compares), land(&compares));
     print_reached(&reached);
     print_due(&due);
+    print_land(&land);
     match result {
         Ok(()) if options.parts == ALL && !every_number(&reached) => {
             println!("A number was not reached.");
@@ -117,6 +119,10 @@ fn main() -> ExitCode {
         }
         Ok(()) if options.parts == ALL && due.contains(&0) => {
             println!("A kind was never due.");
+            ExitCode::from(1)
+        }
+        Ok(()) if options.parts == ALL && land.contains(&0) => {
+            println!("Land spelled \" 0000\" was never accepted, refused, read or written back.");
             ExitCode::from(1)
         }
         Ok(()) => {
@@ -159,11 +165,13 @@ fn parts(compares: &mut [Compare], options: &Options) -> Agreed {
     }
     if runs('1') {
         each(compares, one_byte_changes)?;
-        told(compares, "every one-byte change of sheet S");
+        each(compares, land_changes)?;
+        told(compares, "every one-byte change of sheet S, and of codes in layer 5");
     }
     if runs('2') {
         each(compares, |compare| every_field(compare, options.seed..options.seed + few(2, 40)))?;
-        told(compares, "every field, each interesting value");
+        each(compares, every_code)?;
+        told(compares, "every field, each interesting value, and every mark");
     }
     for path in sheet_paths(options).into_iter().filter(|_| runs('4')) {
         let sheet = std::fs::read(&path).expect("a sheet can be read");
@@ -211,6 +219,11 @@ fn due(compares: &[Compare]) -> [u64; 8] {
     std::array::from_fn(|kind| compares.iter().map(|compare| compare.due[kind]).sum())
 }
 
+/// What became of land that is spelled " 0000", in all comparisons.
+fn land(compares: &[Compare]) -> [u64; 5] {
+    std::array::from_fn(|became| compares.iter().map(|compare| compare.land[became]).sum())
+}
+
 fn print_reached(reached: &Reached) {
     print!("number");
     for call in CALLS {
@@ -227,9 +240,16 @@ fn print_reached(reached: &Reached) {
 }
 
 fn print_due(due: &[u64; 8]) {
-    let names = ["nothing", "M", "H", "N", "L", "coordinates", "A", "loop"];
-    let told: Vec<String> = names.iter().zip(due).map(|(name, times)| format!("{name} {times}")).collect();
-    println!("due: {}", told.join(", "));
+    print_times("due", &["nothing", "M", "H", "N", "L", "coordinates", "A", "loop"], due);
+}
+
+fn print_land(land: &[u64; 5]) {
+    print_times("land as \" 0000\"", &LAND_BECAME, land);
+}
+
+fn print_times(of: &str, names: &[&str], times: &[u64]) {
+    let told: Vec<String> = names.iter().zip(times).map(|(name, times)| format!("{name} {times}")).collect();
+    println!("{of}: {}", told.join(", "));
 }
 
 /// Acceptance and every refusal was the answer of some call.

@@ -24,15 +24,15 @@ returns c = c .no-kind .ensures ∙ found-none _ _ (c .before .before .before .k
 read-record-requires : tie.Need-read-record-requires
 read-record-requires c κs = search needs
 
-cast-t10 : tie.Need-cast-t10
-cast-t10 c = let h = column-small _ _ (c .before .before .before .before .read-record .ensures) in omega arith
+cast-t11 : tie.Need-cast-t11
+cast-t11 c = let h = column-small _ _ (c .before .before .before .before .before .read-record .ensures) in omega arith
 
 number-of-requires : tie.Need-number-of-requires
 number-of-requires c κs = search needs
 
 returns-2 : tie.Need-returns-2
 returns-2 c =
-    let r = c .before .before .before .before .before in
+    let r = c .before .before .before .before .before .before in
     let k = r .before .before .before .before in
     found-a _ _ (k .kind-of .ensures) _ (r .before .before .meant .given .1) (r .read-record .ensures) (c .number-of .ensures)
 
@@ -46,6 +46,6 @@ stragumella-read-record-spec =
     no-kind-requires
     returns
     read-record-requires
-    cast-t10
+    cast-t11
     number-of-requires
     returns-2)

@@ -27,7 +27,7 @@ same-length c = search needs
 
 returns-3 : tie.Need-returns-3
 returns-3 c =
-    let m = c .before .before .before .before .before .before .before in
+    let m = c .before .before .before .before .before .before .before .before in
     written-a _ _ (m .before .before .kind-of .ensures) _ _ _ (m .meant .given .1) (c .before .before .write-record .ensures)
 
 pub stragumella-write-record-spec : {M : Type 1} → statement M

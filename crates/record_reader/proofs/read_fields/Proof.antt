@@ -9,19 +9,19 @@ use mir.Facts.{toZ-ofZ}
 use mir.Syntax.{w32}
 use borrow.Author.Needs.{needs}
 use Rattle.records.specs.Layout.{layoutOf}
-use Rattle.records.specs.declared.Field.the-variants.{End, Letters, Number, Name, Blank}
+use Rattle.records.specs.declared.Field.the-variants.{End, Letters, Number, Code, Name, Blank}
 use Rattle.fields.proofs.Places.{inside-bounds}
 use Rattle.records.proofs.Layouts.{Room}
 use Rattle.record_reader.proofs.Along.{Going, start, room, accept, letters-refused, letters-next, number-refused, number-next}
-use Rattle.record_reader.proofs.Along.{name-refused, name-inside, name-next, part-length, blank-refused, blank-next}
+use Rattle.record_reader.proofs.Along.{name-refused, name-inside, name-next, part-length, blank-refused, blank-next, code-refused, code-next}
 use Rattle.record_reader.proofs.read_fields.Statement.{statement}
 use Rattle.record_reader.proofs.read_fields.Tie as tie
 
 abbrev Inv-loop : tie.InvT-loop
-Inv-loop kind s numbers₀ name₀ n₀ m₀ j₀ numbers name n m j = Going (layoutOf kind) s numbers name n m j
+Inv-loop kind s numbers₀ name₀ marks₀ n₀ m₀ q₀ j₀ numbers name marks n m q j = Going (layoutOf kind) s numbers name marks n m q j
 
 abbrev μ-loop : tie.MeasureT-loop
-μ-loop kind s numbers₀ name₀ n₀ m₀ j₀ numbers name n m j = length (layoutOf kind) - j
+μ-loop kind s numbers₀ name₀ marks₀ n₀ m₀ q₀ j₀ numbers name marks n m q j = length (layoutOf kind) - j
 
 -- the field is type letters
 letters-is : (c : tie.After-f Inv-loop μ-loop)
@@ -31,7 +31,7 @@ letters-is c = sym (c .f .given .1) ∙ c .before .before .field-of .ensures
 
 letters-room : (c : tie.After-f Inv-loop μ-loop)
     → Room (layoutOf (c .before .before .before .before .before .args .kind)) (Letters (c .f .given .0 .0) (c .f .given .0 .1 .0))
-    (c .before .before .before .loop .n) (c .before .before .before .loop .m) (c .before .before .before .loop .j)
+    (c .before .before .before .loop .n) (c .before .before .before .loop .m) (c .before .before .before .loop .q) (c .before .before .before .loop .j)
 letters-room c = room (c .before .before .before .loop .inv) _ (letters-is c) refl
 
 -- the field is a number
@@ -42,7 +42,7 @@ number-is c = sym (c .f2 .given .1) ∙ c .before .before .field-of .ensures
 
 number-room : (c : tie.After-f2 Inv-loop μ-loop)
     → Room (layoutOf (c .before .before .before .before .before .args .kind)) (Number (c .f2 .given .0 .0) (c .f2 .given .0 .1 .0))
-    (c .before .before .before .loop .n) (c .before .before .before .loop .m) (c .before .before .before .loop .j)
+    (c .before .before .before .loop .n) (c .before .before .before .loop .m) (c .before .before .before .loop .q) (c .before .before .before .loop .j)
 number-room c = room (c .before .before .before .loop .inv) _ (number-is c) refl
 
 -- the field is a name
@@ -53,7 +53,7 @@ name-is c = sym (c .f3 .given .1) ∙ c .before .before .field-of .ensures
 
 name-room : (c : tie.After-f3 Inv-loop μ-loop)
     → Room (layoutOf (c .before .before .before .before .before .args .kind)) (Name (c .f3 .given .0 .0) (c .f3 .given .0 .1 .0))
-    (c .before .before .before .loop .n) (c .before .before .before .loop .m) (c .before .before .before .loop .j)
+    (c .before .before .before .loop .n) (c .before .before .before .loop .m) (c .before .before .before .loop .q) (c .before .before .before .loop .j)
 name-room c = room (c .before .before .before .loop .inv) _ (name-is c) refl
 
 -- the field is blanks
@@ -64,8 +64,19 @@ blank-is c = sym (c .f4 .given .1) ∙ c .before .before .field-of .ensures
 
 blank-room : (c : tie.After-f4 Inv-loop μ-loop)
     → Room (layoutOf (c .before .before .before .before .before .args .kind)) (Blank (c .f4 .given .0 .0) (c .f4 .given .0 .1 .0))
-    (c .before .before .before .loop .n) (c .before .before .before .loop .m) (c .before .before .before .loop .j)
+    (c .before .before .before .loop .n) (c .before .before .before .loop .m) (c .before .before .before .loop .q) (c .before .before .before .loop .j)
 blank-room c = room (c .before .before .before .loop .inv) _ (blank-is c) refl
+
+-- the field is a code
+code-is : (c : tie.After-f5 Inv-loop μ-loop)
+    → Code (c .f5 .given .0 .0) (c .f5 .given .0 .1 .0)
+    ≡ getD (layoutOf (c .before .before .before .before .before .args .kind)) (c .before .before .before .loop .j) End
+code-is c = sym (c .f5 .given .1) ∙ c .before .before .field-of .ensures
+
+code-room : (c : tie.After-f5 Inv-loop μ-loop)
+    → Room (layoutOf (c .before .before .before .before .before .args .kind)) (Code (c .f5 .given .0 .0) (c .f5 .given .0 .1 .0))
+    (c .before .before .before .loop .n) (c .before .before .before .loop .m) (c .before .before .before .loop .q) (c .before .before .before .loop .j)
+code-room c = room (c .before .before .before .loop .inv) _ (code-is c) refl
 
 -- a well-formed name lies inside
 name-bounds : (c : tie.After-enum-told3 Inv-loop μ-loop)
@@ -259,6 +270,58 @@ loop-again-4 c =
     let p = c .before .before .before .before in
     blank-next _ (p .before .before .before .loop .inv) _ _ (blank-is p) (c .before .before .read-blank .ensures) (c .enum-told5 .given .1)
 
+enum-known-f-5 : tie.Need-enum-known-f-5 Inv-loop μ-loop
+enum-known-f-5 c = search needs
+
+read-code-requires : tie.Need-read-code-requires Inv-loop μ-loop
+read-code-requires c κs = search needs
+
+enum-known-answer-2 : tie.Need-enum-known-answer-2 Inv-loop μ-loop
+enum-known-answer-2 c = search needs
+
+enum-told-7 : tie.Need-enum-told-7 Inv-loop μ-loop
+enum-told-7 c = search needs
+
+refused-requires-5 : tie.Need-refused-requires-5 Inv-loop μ-loop
+refused-requires-5 c κs = search needs
+
+returns-6 : tie.Need-returns-6 Inv-loop μ-loop
+returns-6 c =
+    let p = c .before .before .before .before .before in
+    c .refused5 .ensures
+    ∙ code-refused _ (p .before .before .before .loop .inv) _ _ (code-is p)
+    (c .before .before .before .read-code .ensures) (c .before .enum-told7 .given .1)
+
+mul-numbers-2 : tie.Need-mul-numbers-2 Inv-loop μ-loop
+mul-numbers-2 c = omega (arith, code-room (c .before .before .before .before .before))
+
+array-set-from-numbers-2 : tie.Need-array-set-from-numbers-2 Inv-loop μ-loop
+array-set-from-numbers-2 c = omega (arith, code-room (c .before .before .before .before .before))
+
+mul-marks : tie.Need-mul-marks Inv-loop μ-loop
+mul-marks c = omega (arith, code-room (c .before .before .before .before .before))
+
+array-write-marks : tie.Need-array-write-marks Inv-loop μ-loop
+array-write-marks c = omega (arith, code-room (c .before .before .before .before .before))
+
+add-n-2 : tie.Need-add-n-2 Inv-loop μ-loop
+add-n-2 c = omega (arith, code-room (c .before .before .before .before .before))
+
+add-q : tie.Need-add-q Inv-loop μ-loop
+add-q c = omega (arith, code-room (c .before .before .before .before .before))
+
+add-j-5 : tie.Need-add-j-5 Inv-loop μ-loop
+add-j-5 c = omega (arith, code-room (c .before .before .before .before .before))
+
+loop-less-5 : tie.Need-loop-less-5 Inv-loop μ-loop
+loop-less-5 c = omega (arith, code-room (c .before .before .before .before .before))
+
+loop-again-5 : tie.Need-loop-again-5 Inv-loop μ-loop
+loop-again-5 c =
+    let p = c .before .before .before .before .before in
+    rw (toZ-ofZ {w = w32} (record { sfits = c .known-told7 .given .0 .1 }))
+    (code-next _ (p .before .before .before .loop .inv) _ _ (code-is p) (c .before .before .before .read-code .ensures) _ _ (c .before .answer2 .given .1))
+
 pub read-fields-spec : {M : Type 1} → statement M
 read-fields-spec =
     tie.close
@@ -315,4 +378,19 @@ read-fields-spec =
     returns-5
     add-j-4
     loop-less-4
-    loop-again-4)
+    loop-again-4
+    enum-known-f-5
+    read-code-requires
+    enum-known-answer-2
+    enum-told-7
+    refused-requires-5
+    returns-6
+    mul-numbers-2
+    array-set-from-numbers-2
+    mul-marks
+    array-write-marks
+    add-n-2
+    add-q
+    add-j-5
+    loop-less-5
+    loop-again-5)

@@ -7,67 +7,86 @@ use lib.ListN.{length, getD}
 use mir.Facts.{toZ-ofZ}
 use mir.Syntax.{w32}
 use borrow.Author.Needs.{needs}
+use borrow.Author.Tests.{not-true, not-false}
 use Rattle.records.specs.Layout.{layoutOf}
-use Rattle.records.specs.Writing.{fitsAll, recordBytes}
-use Rattle.records.specs.declared.Field.the-variants.{End, Letters, Number, Name, Blank}
+use Rattle.records.specs.Writing.{markFits, ofLayerFive, fitsAll, recordBytes}
+use Rattle.records.specs.declared.Field.the-variants.{End, Letters, Number, Code, Name, Blank}
 use Rattle.records.proofs.Layouts.{Room}
 use Rattle.record_writer.proofs.Lines.{refused-line, Lines, start, room, ends, letters-next}
-use Rattle.record_writer.proofs.Lines.{number-next, number-unfit, name-next, name-unfit, blank-next}
+use Rattle.record_writer.proofs.Lines.{number-next, number-unfit, name-next, name-unfit, blank-next, mark-unfit, code-next, code-unfit}
 use Rattle.record_writer.proofs.spell_record.Statement.{statement}
 use Rattle.record_writer.proofs.spell_record.Tie as tie
 
 abbrev Inv-loop : tie.InvT-loop
-Inv-loop kind numbers name line₀ n₀ m₀ j₀ line n m j = Lines (layoutOf kind) numbers name line n m j
+Inv-loop kind numbers name marks line₀ n₀ m₀ q₀ j₀ line n m q j = Lines (layoutOf kind) numbers name marks line n m q j
 
 abbrev μ-loop : tie.MeasureT-loop
-μ-loop kind numbers name line₀ n₀ m₀ j₀ line n m j = length (layoutOf kind) - j
+μ-loop kind numbers name marks line₀ n₀ m₀ q₀ j₀ line n m q j = length (layoutOf kind) - j
 
 -- the field is type letters
 letters-is : (c : tie.After-f Inv-loop μ-loop)
     → Letters (c .f .given .0 .0) (c .f .given .0 .1 .0)
-    ≡ getD (layoutOf (c .before .before .before .before .before .before .args .r .kind)) (c .before .before .before .loop .j) End
+    ≡ getD (layoutOf (c .before .before .before .before .before .before .before .args .r .kind)) (c .before .before .before .loop .j) End
 letters-is c = sym (c .f .given .1) ∙ c .before .before .field-of .ensures
 
 letters-room : (c : tie.After-f Inv-loop μ-loop)
-    → Room (layoutOf (c .before .before .before .before .before .before .args .r .kind)) (Letters (c .f .given .0 .0) (c .f .given .0 .1 .0))
-    (c .before .before .before .loop .n) (c .before .before .before .loop .m) (c .before .before .before .loop .j)
+    → Room (layoutOf (c .before .before .before .before .before .before .before .args .r .kind)) (Letters (c .f .given .0 .0) (c .f .given .0 .1 .0))
+    (c .before .before .before .loop .n) (c .before .before .before .loop .m) (c .before .before .before .loop .q) (c .before .before .before .loop .j)
 letters-room c = room (c .before .before .before .loop .inv) _ (letters-is c) refl
 
 -- the field is a number
 number-is : (c : tie.After-f2 Inv-loop μ-loop)
     → Number (c .f2 .given .0 .0) (c .f2 .given .0 .1 .0)
-    ≡ getD (layoutOf (c .before .before .before .before .before .before .args .r .kind)) (c .before .before .before .loop .j) End
+    ≡ getD (layoutOf (c .before .before .before .before .before .before .before .args .r .kind)) (c .before .before .before .loop .j) End
 number-is c = sym (c .f2 .given .1) ∙ c .before .before .field-of .ensures
 
 number-room : (c : tie.After-f2 Inv-loop μ-loop)
-    → Room (layoutOf (c .before .before .before .before .before .before .args .r .kind)) (Number (c .f2 .given .0 .0) (c .f2 .given .0 .1 .0))
-    (c .before .before .before .loop .n) (c .before .before .before .loop .m) (c .before .before .before .loop .j)
+    → Room (layoutOf (c .before .before .before .before .before .before .before .args .r .kind)) (Number (c .f2 .given .0 .0) (c .f2 .given .0 .1 .0))
+    (c .before .before .before .loop .n) (c .before .before .before .loop .m) (c .before .before .before .loop .q) (c .before .before .before .loop .j)
 number-room c = room (c .before .before .before .loop .inv) _ (number-is c) refl
 
 -- the field is a name
 name-is : (c : tie.After-f3 Inv-loop μ-loop)
     → Name (c .f3 .given .0 .0) (c .f3 .given .0 .1 .0)
-    ≡ getD (layoutOf (c .before .before .before .before .before .before .args .r .kind)) (c .before .before .before .loop .j) End
+    ≡ getD (layoutOf (c .before .before .before .before .before .before .before .args .r .kind)) (c .before .before .before .loop .j) End
 name-is c = sym (c .f3 .given .1) ∙ c .before .before .field-of .ensures
 
 name-room : (c : tie.After-f3 Inv-loop μ-loop)
-    → Room (layoutOf (c .before .before .before .before .before .before .args .r .kind)) (Name (c .f3 .given .0 .0) (c .f3 .given .0 .1 .0))
-    (c .before .before .before .loop .n) (c .before .before .before .loop .m) (c .before .before .before .loop .j)
+    → Room (layoutOf (c .before .before .before .before .before .before .before .args .r .kind)) (Name (c .f3 .given .0 .0) (c .f3 .given .0 .1 .0))
+    (c .before .before .before .loop .n) (c .before .before .before .loop .m) (c .before .before .before .loop .q) (c .before .before .before .loop .j)
 name-room c = room (c .before .before .before .loop .inv) _ (name-is c) refl
 
 -- the field is blanks
 blank-is : (c : tie.After-f4 Inv-loop μ-loop)
     → Blank (c .f4 .given .0 .0) (c .f4 .given .0 .1 .0)
-    ≡ getD (layoutOf (c .before .before .before .before .before .before .args .r .kind)) (c .before .before .before .loop .j) End
+    ≡ getD (layoutOf (c .before .before .before .before .before .before .before .args .r .kind)) (c .before .before .before .loop .j) End
 blank-is c = sym (c .f4 .given .1) ∙ c .before .before .field-of .ensures
 
 blank-room : (c : tie.After-f4 Inv-loop μ-loop)
-    → Room (layoutOf (c .before .before .before .before .before .before .args .r .kind)) (Blank (c .f4 .given .0 .0) (c .f4 .given .0 .1 .0))
-    (c .before .before .before .loop .n) (c .before .before .before .loop .m) (c .before .before .before .loop .j)
+    → Room (layoutOf (c .before .before .before .before .before .before .before .args .r .kind)) (Blank (c .f4 .given .0 .0) (c .f4 .given .0 .1 .0))
+    (c .before .before .before .loop .n) (c .before .before .before .loop .m) (c .before .before .before .loop .q) (c .before .before .before .loop .j)
 blank-room c = room (c .before .before .before .loop .inv) _ (blank-is c) refl
 
+-- the field is a code
+code-is : (c : tie.After-f5 Inv-loop μ-loop)
+    → Code (c .f5 .given .0 .0) (c .f5 .given .0 .1 .0)
+    ≡ getD (layoutOf (c .before .before .before .before .before .before .before .args .r .kind)) (c .before .before .before .loop .j) End
+code-is c = sym (c .f5 .given .1) ∙ c .before .before .field-of .ensures
+
+code-room : (c : tie.After-f5 Inv-loop μ-loop)
+    → Room (layoutOf (c .before .before .before .before .before .before .before .args .r .kind)) (Code (c .f5 .given .0 .0) (c .f5 .given .0 .1 .0))
+    (c .before .before .before .loop .n) (c .before .before .before .loop .m) (c .before .before .before .loop .q) (c .before .before .before .loop .j)
+code-room c = room (c .before .before .before .loop .inv) _ (code-is c) refl
+
+-- whether its mark may stand
+mark-may : (c : tie.After-may-mark Inv-loop μ-loop)
+    → let l = c .before .before .before .before .before .before .before in
+    let r = l .before .before .before .before .args .r in
+    c .may-mark .result ≡ markFits (ofLayerFive (r .numbers)) (getD (r .marks) (l .loop .q) 0)
+mark-may c = rw (c .before .is .ensures, toZ-ofZ {w = w32} (record { sfits = c .before .before .is-arg .given })) at (c .may-mark .ensures)
+
 loop-holds : tie.Need-loop-holds Inv-loop μ-loop
-loop-holds c = start _ _ _ _ (search needs) (search needs) (search needs)
+loop-holds c = start _ _ _ _ _ (search needs) (search needs) (search needs) (search needs)
 
 field-of-requires : tie.Need-field-of-requires Inv-loop μ-loop
 field-of-requires c κs = search needs
@@ -93,12 +112,21 @@ slice-aggregate-no-bytes c = sym (c .before .before .before .before .before .bef
 no-bytes-requires : tie.Need-no-bytes-requires Inv-loop μ-loop
 no-bytes-requires c κs = search needs
 
+slice-aggregate-no-marks : tie.Need-slice-aggregate-no-marks Inv-loop μ-loop
+slice-aggregate-no-marks c = sym (c .before .before .before .before .before .before .before .before .loop .inv .marked)
+
+no-marks-requires : tie.Need-no-marks-requires Inv-loop μ-loop
+no-marks-requires c κs = search needs
+
 returns : tie.Need-returns Inv-loop μ-loop
 unfolding fitsAll recordBytes
 returns c =
-    let f = c .before .before .before .before .before .before in
-    let d = ends (f .before .loop .inv) (sym (c .before .before .before .before .enum-told .given .1) ∙ f .field-of .ensures) in
-    record { answer = rw (c .before .before .no-numbers .ensures, c .no-bytes .ensures) (sym (d .0)); text = λ y. d .1 }
+    let f = c .before .before .before .before .before .before .before .before in
+    let d = ends (f .before .loop .inv) (sym (c .before .before .before .before .before .before .enum-told .given .1) ∙ f .field-of .ensures) in
+    record {
+      answer = rw (c .before .before .before .before .no-numbers .ensures, c .before .before .no-bytes .ensures, c .no-marks .ensures) (sym (d .0));
+      text = λ y. d .1;
+    }
 
 enum-known-f : tie.Need-enum-known-f Inv-loop μ-loop
 enum-known-f c = search needs
@@ -231,6 +259,80 @@ loop-again-4 c =
     let p = c .before .before .before .before in
     blank-next (p .before .before .before .loop .inv) _ _ (blank-is p) (c .before .write-blank .ensures)
 
+enum-known-f-5 : tie.Need-enum-known-f-5 Inv-loop μ-loop
+enum-known-f-5 c = search needs
+
+mul-mark : tie.Need-mul-mark Inv-loop μ-loop
+mul-mark c = omega (arith, code-room (c .before))
+
+array-read-mark : tie.Need-array-read-mark Inv-loop μ-loop
+array-read-mark c = omega (arith, code-room (c .before), c .before .before .before .before .loop .inv .marked)
+
+array-copy-out-is : tie.Need-array-copy-out-is Inv-loop μ-loop
+array-copy-out-is c = omega (arith, c .before .before .before .before .loop .inv .many)
+
+is-requires : tie.Need-is-requires Inv-loop μ-loop
+is-requires c κs = search needs
+
+may-mark-requires : tie.Need-may-mark-requires Inv-loop μ-loop
+may-mark-requires c κs = search needs
+
+returns-4 : tie.Need-returns-4 Inv-loop μ-loop
+unfolding fitsAll
+returns-4 c =
+    let d = c .before .before .before .before .before in
+    refused-line _ _ (mark-unfit (d .before .before .before .loop .inv) _ _ (code-is d) refl (mark-may (c .before)) (not-true _ (c .if1 .taken)))
+
+slice-aggregate-write-code : tie.Need-slice-aggregate-write-code Inv-loop μ-loop
+slice-aggregate-write-code c = sym (c .before .before .before .before .before .before .before .before .before .loop .inv .long)
+
+mul-write-code : tie.Need-mul-write-code Inv-loop μ-loop
+mul-write-code c = omega (arith, code-room (c .before .before .before .before .before .before))
+
+array-copy-out-write-code : tie.Need-array-copy-out-write-code Inv-loop μ-loop
+array-copy-out-write-code c =
+    let f = c .before .before .before .before .before .before in
+    omega (arith, code-room f, f .before .before .before .loop .inv .many)
+
+write-code-requires : tie.Need-write-code-requires Inv-loop μ-loop
+write-code-requires c κs = search needs
+
+enum-told-6 : tie.Need-enum-told-6 Inv-loop μ-loop
+enum-told-6 c = search needs
+
+enum-told-7 : tie.Need-enum-told-7 Inv-loop μ-loop
+enum-told-7 c = search needs
+
+returns-5 : tie.Need-returns-5 Inv-loop μ-loop
+unfolding fitsAll
+returns-5 c =
+    let p = c .before .before .before .before in
+    let a = p .before .before .before in
+    let d = a .before .before .before .before in
+    refused-line _ _
+    (code-unfit (d .before .before .before .loop .inv) _ _ (code-is d) refl (mark-may a) (not-false _ (p .before .before .if1 .left))
+    (toZ-ofZ {w = w32} (record { sfits = p .write-code-arg .given })) (c .before .before .before .write-code .ensures) (c .enum-told7 .given .1))
+
+add-n-2 : tie.Need-add-n-2 Inv-loop μ-loop
+add-n-2 c = omega (arith, code-room (c .before .before .before .before .before .before .before .before .before .before .before))
+
+add-q : tie.Need-add-q Inv-loop μ-loop
+add-q c = omega (arith, code-room (c .before .before .before .before .before .before .before .before .before .before .before))
+
+add-j-5 : tie.Need-add-j-5 Inv-loop μ-loop
+add-j-5 c = omega (arith, code-room (c .before .before .before .before .before .before .before .before .before .before .before))
+
+loop-less-5 : tie.Need-loop-less-5 Inv-loop μ-loop
+loop-less-5 c = omega (arith, code-room (c .before .before .before .before .before .before .before .before .before .before .before))
+
+loop-again-5 : tie.Need-loop-again-5 Inv-loop μ-loop
+loop-again-5 c =
+    let p = c .before .before .before .before in
+    let a = p .before .before .before in
+    let d = a .before .before .before .before in
+    code-next (d .before .before .before .loop .inv) _ _ (code-is d) refl (mark-may a) (not-false _ (p .before .before .if1 .left))
+    (toZ-ofZ {w = w32} (record { sfits = p .write-code-arg .given })) (c .before .before .before .write-code .ensures) (c .enum-told6 .given .1)
+
 pub spell-record-spec : {M : Type 1} → statement M
 spell-record-spec =
     tie.close
@@ -246,6 +348,8 @@ spell-record-spec =
     no-numbers-requires
     slice-aggregate-no-bytes
     no-bytes-requires
+    slice-aggregate-no-marks
+    no-marks-requires
     returns
     enum-known-f
     array-write-line-3
@@ -283,4 +387,23 @@ spell-record-spec =
     write-blank-requires
     add-j-4
     loop-less-4
-    loop-again-4)
+    loop-again-4
+    enum-known-f-5
+    mul-mark
+    array-read-mark
+    array-copy-out-is
+    is-requires
+    may-mark-requires
+    returns-4
+    slice-aggregate-write-code
+    mul-write-code
+    array-copy-out-write-code
+    write-code-requires
+    enum-told-6
+    enum-told-7
+    returns-5
+    add-n-2
+    add-q
+    add-j-5
+    loop-less-5
+    loop-again-5)

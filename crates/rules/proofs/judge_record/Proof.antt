@@ -8,10 +8,10 @@ use mir.Facts.{toZ-ofZ}
 use mir.Syntax.{w32}
 use borrow.Author.Needs.{needs}
 use Rattle.records.specs.Layout.{layoutOf}
-use Rattle.records.specs.declared.Field.the-variants.{End, Letters, Number, Name, Blank}
+use Rattle.records.specs.declared.Field.the-variants.{End, Letters, Number, Code, Name, Blank}
 use Rattle.rules.specs.Checks.{kindOf}
 use Rattle.rules.proofs.Going.{Going, start, ends, Room, room-for, letters-broken, letters-next, number-ill}
-use Rattle.rules.proofs.Going.{number-broken, number-next, name-ill, name-next, blank-ill, blank-next}
+use Rattle.rules.proofs.Going.{number-broken, number-next, name-ill, name-next, blank-ill, blank-next, code-ill, code-broken, code-next}
 use Rattle.rules.proofs.judge_record.Statement.{statement}
 use Rattle.rules.proofs.judge_record.Tie as tie
 
@@ -72,6 +72,19 @@ blank-room : (c : tie.After-f4 Inv-loop μ-loop)
     → Room (c .before .before .before .before .before .before .args .due) (Blank (c .f4 .given .0 .0) (c .f4 .given .0 .1 .0))
     (c .before .before .before .loop .n) (c .before .before .before .loop .j)
 blank-room c = room-for (c .before .before .before .loop .inv) _ (blank-is c) refl
+
+-- the field is a code, and there is room for it
+code-is : (c : tie.After-f5 Inv-loop μ-loop)
+    → Code (c .f5 .given .0 .0) (c .f5 .given .0 .1 .0)
+    ≡ getD (layoutOf (kindOf (c .before .before .before .before .before .before .args .due))) (c .before .before .before .loop .j) End
+code-is c =
+    sym (c .f5 .given .1) ∙ c .before .before .field-of .ensures
+    ∙ ap (λ k. getD (layoutOf k) (c .before .before .before .loop .j) End) (c .before .before .before .before .kind-of .ensures)
+
+code-room : (c : tie.After-f5 Inv-loop μ-loop)
+    → Room (c .before .before .before .before .before .before .args .due) (Code (c .f5 .given .0 .0) (c .f5 .given .0 .1 .0))
+    (c .before .before .before .loop .n) (c .before .before .before .loop .j)
+code-room c = room-for (c .before .before .before .loop .inv) _ (code-is c) refl
 
 kind-of-requires : tie.Need-kind-of-requires Inv-loop μ-loop
 kind-of-requires c κs = search needs
@@ -256,6 +269,70 @@ loop-again-4 c =
     let l = c .before .before .before .before .before .before .before in
     blank-next (l .loop .inv) _ _ (blank-is (c .before .before .before .before)) (c .before .before .read-blank .ensures) (c .enum-told5 .given .1)
 
+enum-known-f-5 : tie.Need-enum-known-f-5 Inv-loop μ-loop
+enum-known-f-5 c = search needs
+
+read-code-requires : tie.Need-read-code-requires Inv-loop μ-loop
+read-code-requires c κs = search needs
+
+enum-known-answer-2 : tie.Need-enum-known-answer-2 Inv-loop μ-loop
+enum-known-answer-2 c = search needs
+
+enum-told-7 : tie.Need-enum-told-7 Inv-loop μ-loop
+enum-told-7 c = search needs
+
+broken-requires-6 : tie.Need-broken-requires-6 Inv-loop μ-loop
+broken-requires-6 c κs = omega (arith, code-room (c .before .before .before .before) .column)
+
+returns-7 : tie.Need-returns-7 Inv-loop μ-loop
+returns-7 c =
+    let d = c .before .before .before .before .before in
+    let l = d .before .before .before in
+    c .broken6 .ensures ∙ code-ill (l .loop .inv) _ _ (code-is d) (c .before .before .before .read-code .ensures) (c .before .enum-told7 .given .1)
+
+mul-numbers-2 : tie.Need-mul-numbers-2 Inv-loop μ-loop
+mul-numbers-2 c = omega (arith, code-room (c .before .before .before .before .before))
+
+array-set-from-numbers-2 : tie.Need-array-set-from-numbers-2 Inv-loop μ-loop
+array-set-from-numbers-2 c = omega (arith, code-room (c .before .before .before .before .before))
+
+slice-aggregate-value-fault-2 : tie.Need-slice-aggregate-value-fault-2 Inv-loop μ-loop
+slice-aggregate-value-fault-2 c = rw length-set (sym (c .before .before .before .before .before .before .before .before .before .loop .inv .many))
+
+value-fault-requires-2 : tie.Need-value-fault-requires-2 Inv-loop μ-loop
+value-fault-requires-2 c κs = search needs
+
+broken-requires-7 : tie.Need-broken-requires-7 Inv-loop μ-loop
+broken-requires-7 c κs = omega (arith, code-room (c .before .before .before .before .before .before .before .before) .column)
+
+returns-8 : tie.Need-returns-8 Inv-loop μ-loop
+returns-8 c =
+    let a = c .before .before .before .before .before in
+    let d = a .before .before .before .before in
+    let l = d .before .before .before in
+    c .broken7 .ensures
+    ∙ code-broken (l .loop .inv) _ _ (code-is d) (a .before .before .read-code .ensures) _ _ (a .answer2 .given .1)
+    (rw (toZ-ofZ {w = w32} (record { sfits = c .before .before .before .before .known-told7 .given .0 .1 })) at (c .before .before .value-fault2 .ensures))
+    (c .before .if3 .taken)
+
+add-n-2 : tie.Need-add-n-2 Inv-loop μ-loop
+add-n-2 c = omega (arith, code-room (c .before .before .before .before .before .before .before .before))
+
+add-j-5 : tie.Need-add-j-5 Inv-loop μ-loop
+add-j-5 c = omega (arith, code-room (c .before .before .before .before .before .before .before .before))
+
+loop-less-5 : tie.Need-loop-less-5 Inv-loop μ-loop
+loop-less-5 c = omega (arith, code-room (c .before .before .before .before .before .before .before .before))
+
+loop-again-5 : tie.Need-loop-again-5 Inv-loop μ-loop
+loop-again-5 c =
+    let k = c .before .before .before in
+    let r = k .before .before .before in
+    let l = r .before .before .before .before .before in
+    rw (toZ-ofZ {w = w32} (record { sfits = k .known-told7 .given .0 .1 }))
+    (code-next (l .loop .inv) _ _ (code-is (r .before .before)) (r .read-code .ensures) _ _ (k .before .answer2 .given .1)
+    (rw (toZ-ofZ {w = w32} (record { sfits = k .known-told7 .given .0 .1 })) at (c .before .value-fault2 .ensures)) (c .if3 .left))
+
 pub judge-record-spec : {M : Type 1} → statement M
 judge-record-spec =
     tie.close
@@ -309,4 +386,20 @@ judge-record-spec =
     returns-6
     add-j-4
     loop-less-4
-    loop-again-4)
+    loop-again-4
+    enum-known-f-5
+    read-code-requires
+    enum-known-answer-2
+    enum-told-7
+    broken-requires-6
+    returns-7
+    mul-numbers-2
+    array-set-from-numbers-2
+    slice-aggregate-value-fault-2
+    value-fault-requires-2
+    broken-requires-7
+    returns-8
+    add-n-2
+    add-j-5
+    loop-less-5
+    loop-again-5)
