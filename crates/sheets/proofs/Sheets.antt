@@ -9,6 +9,8 @@ use Rattle.fields.specs.Number.{afterBlanks, digitsOf, plainOf, signedOf, numbe
 use Rattle.fields.specs.Spelling.{columns, spell}
 use Rattle.fields.specs.Text.{isName, isBlanks, textAt}
 use Rattle.records.specs.Layout.{layoutOf}
+use Rattle.fields.specs.declared.Number as numbers
+use Rattle.codes.specs.declared.Code as codes
 use Rattle.codes.specs.Code.{landText, isLand, landAt, codeAt, spellCode}
 use Rattle.records.specs.Reading.{inLayerFive, codeIn, faultOf}
 use Rattle.records.specs.Writing.{fieldText, textOf, recordBytes}
@@ -82,86 +84,26 @@ measuring = tt
 abbrev refusedWith : ℕ → ℕ → Outcome
 refusedWith n need = record { number = n; place = 0; column = 0; meshes = 0; layers = 0; nodes = 0; lines = 0; areas = 0; records = 0; need = need }
 
--- what a case says
-abbrev pub Holds : Case → Type 0
-Holds (sheet file v) = verdictOf file 6 1 ≡ v
-Holds (field text a) = numberAt text 1 5 ≡ a
-Holds (codeField text a) = codeAt text 1 5 ≡ a
+-- what is answered to a case, and what stands beside it
+pub data Answer : Type 0 where
+  judged : Verdict → Answer
+  said : numbers.Number → Answer
+  coded : codes.Code → Answer
 
-abbrev pub All : List Case → Type 0
-All [] = Unit {0}
-All (c ∷ cs) = Holds c × All cs
+abbrev pub found : Case → Answer
+found (sheet file v) = judged (verdictOf file 6 1)
+found (field text a) = said (numberAt text 1 5)
+found (codeField text a) = coded (codeAt text 1 5)
+
+abbrev pub wanted : Case → Answer
+wanted (sheet file v) = judged v
+wanted (field text a) = said a
+wanted (codeField text a) = coded a
 
 -- RULES 11.2, 11.3: the cases
-pub cases-hold : All cases
+pub cases-hold : map found cases ≡ map wanted cases
 unfolding writing judging cases
-cases-hold = (
-  refl,
-  (
-    refl,
-    (
-      refl,
-      (
-        refl,
-        (
-          refl,
-          (
-            refl,
-            (
-              refl,
-              (
-                refl,
-                (
-                  refl,
-                  (
-                    refl,
-                    (
-                      refl,
-                      (
-                        refl,
-                        (
-                          refl,
-                          (
-                            refl,
-                            (
-                              refl,
-                              (
-                                refl,
-                                (
-                                  refl,
-                                  (
-                                    refl,
-                                    (
-                                      refl,
-                                      (
-                                        refl,
-                                        (
-                                          refl,
-                                          (
-                                            refl,
-                                            (refl, (refl, (refl, tt))),
-                                          ),
-                                        ),
-                                      ),
-                                    ),
-                                  ),
-                                ),
-                              ),
-                            ),
-                          ),
-                        ),
-                      ),
-                    ),
-                  ),
-                ),
-              ),
-            ),
-          ),
-        ),
-      ),
-    ),
-  ),
-)
+cases-hold = refl
 
 -- each further file has the verdict that stands beside it
 pub further-judged : map (λ (c : List ℕ × Verdict). verdictOf (c .0) 12 2) further ≡ map (λ (c : List ℕ × Verdict). c .1) further
