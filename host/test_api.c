@@ -506,7 +506,7 @@ static void records(void)
     refuses(1, h1, RECORD, 3, 1, 1);
 }
 
-/* the code of each place of an L or A as that text, in a record of that layer; S has room for two digits of it */
+/* the record of that kind in S, with that layer code and with the text from that column on */
 static void land_line(uint8_t *line, uint32_t kind, char layer, size_t column, const char *text)
 {
     uint8_t s[SHEET];
