@@ -1,6 +1,6 @@
 -- THE LAWS OF CODE FIELDS, each once over the width. A code is a number field where its mark is 0, so the laws of numbers say it; with
 -- mark 1 it is one text, which antt computes. docs/PROMISES.md leads here. Assumes nothing.
-use mathlib.Core.Bool.{Bool, true, false, cond, _&&_}
+use mathlib.Core.Bool.{Bool, true, false}
 use mathlib.Core.List.{List, [], _∷_}
 use mathlib.Core.Logic.{_⊎_, inl, inr}
 use mathlib.Core.Path.{_≡_, refl, sym, ap, _∙_}
@@ -11,9 +11,8 @@ use lib.IntN.{ℤ, pos, negsuc}
 use lib.ListN.{length, getD}
 use borrow.Author.Tests.{eq-eqb, eqb-true}
 use Rattle.fields.specs.Answer.{valueOf}
-use Rattle.fields.specs.Number.{numberOf, numberAt, signedOf, plainOf, afterBlanks, holds}
+use Rattle.fields.specs.Number.{numberOf, numberAt, signedOf, plainOf, afterBlanks}
 use Rattle.fields.specs.Place.{isInside, bytesAt, put}
-use Rattle.fields.specs.Spelling.{spell, Says}
 use Rattle.fields.specs.declared.Number.the-variants as number
 use Rattle.fields.specs.declared.Number.{Number}
 use Rattle.fields.proofs.Columns.{spell-length}

@@ -1,5 +1,4 @@
 -- `record_writer::may_mark` meets its contract: no mark may stand anywhere, any other in layer 5. Assumes nothing.
-use borrow.Author.Needs.{needs}
 use Rattle.record_writer.proofs.Unused.{mark-none, mark-some}
 use Rattle.record_writer.proofs.may_mark.Statement.{statement}
 use Rattle.record_writer.proofs.may_mark.Tie as tie
