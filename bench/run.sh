@@ -4,7 +4,7 @@
 # Status 2: the library cannot be linked on this machine, or the arguments are wrong.
 set -eu
 
-here=$(CDPATH= cd -- "$(dirname -- "$0")" && pwd)
+here=$(CDPATH='' cd -- "$(dirname -- "$0")" && pwd)
 root=$(dirname -- "$here")
 
 if [ "$(uname -m)" != x86_64 ]; then
@@ -16,7 +16,7 @@ if [ -z "${STRAGUMELLA_LIB:-}" ]; then
     [ -f "$root/target/staticlib/libcapi.a" ] || make -C "$root" target/staticlib/libcapi.a
     STRAGUMELLA_LIB=$root/target/staticlib
 fi
-STRAGUMELLA_LIB=$(CDPATH= cd -- "$STRAGUMELLA_LIB" && pwd)
+STRAGUMELLA_LIB=$(CDPATH='' cd -- "$STRAGUMELLA_LIB" && pwd)
 export STRAGUMELLA_LIB
 
 cd "$here"

@@ -478,21 +478,21 @@ class Sheet:
     def records(self) -> Iterator[Record]:
         """Every record of an accepted sheet in file order, each read once. (`record` walks from the file's start in each call.)"""
         begun = Kind.MESH
-        for k, mark in enumerate(self._marks()[1:], 1):
-            begun = Kind(mark) if mark else begun
+        for k, kind in enumerate(self._kinds()[1:], 1):
+            begun = Kind(kind) if kind else begun
             within = Kind.COORDINATES if begun is Kind.LINE else Kind.LOOP
-            yield self.record(k, begun if mark else within)
+            yield self.record(k, begun if kind else within)
 
-    def _marks(self) -> bytearray:
-        """By record number: the kind of each M, H, N, L and A. What follows an L or an A and has no mark is its coordinates or loops."""
-        marks = bytearray(self.record_count + 1)
+    def _kinds(self) -> bytearray:
+        """By record number: the kind of each M, H, N, L and A. A 0 behind an L is its coordinates, behind an A its loops."""
+        kinds = bytearray(self.record_count + 1)
         for layer in self.layers:
-            marks[layer.mesh.record] = Kind.MESH
-            marks[layer.record] = Kind.LAYER
+            kinds[layer.mesh.record] = Kind.MESH
+            kinds[layer.record] = Kind.LAYER
             for kind, records in layer.records_by_kind():
                 for k in records:
-                    marks[k] = kind
-        return marks
+                    kinds[k] = kind
+        return kinds
 
     @cached_property
     def meshes(self) -> tuple[Mesh, ...]:
