@@ -32,7 +32,7 @@
  *    4  2      the file ends where a record is due (place: last record + 1)                1
  *    5  2      a field is ill formed                                                       its start
  *    6  2      a value is not permitted                                                    its start
- *    7  2      the letters are H1 where an H is due (then not 3)                           1
+ *    7  -      never: up to version 0.4 for H1 where an H is due, which is taken now       -
  *    8  2      a record is out of step: mesh or layer order, a layer code unlike its H,    its start
  *              a serial that is not the next from 1, a loop's serial or repeat wrong
  *    9  then   the table is too short                                                      -
@@ -46,7 +46,7 @@
  *   17  5      +n stands in an area that is not n's right, or -n in one that is not its left   slot
  *   18  6      a line's left area has no entry -n, or its right area no entry +n           35 or 45
  *   19  last   there are fewer places for measures than areas                              -
- *   20  -      writer: a value, a mark or an unused entry doesn't fit                      -
+ *   20  -      writer: a value, a mark, the letters or an unused entry doesn't fit         -
  *   21  -      writer: the buffer is under 74 bytes; judged before 20                      -
  *   22  -      layer sums: there is no such layer; judged after acceptance                 -
  *   48  -      all sums: fewer than two places a layer; judged after acceptance            -
@@ -77,7 +77,7 @@
 #define STRAGUMELLA_H
 
 #define STRAGUMELLA_VERSION_MAJOR 0
-#define STRAGUMELLA_VERSION_MINOR 4
+#define STRAGUMELLA_VERSION_MINOR 5
 #define STRAGUMELLA_VERSION_PATCH 0
 
 /* The version as text, "MAJOR.MINOR.PATCH", and as a number that grows with it, for #if. */
@@ -121,8 +121,8 @@ typedef struct {
 } stragumella_place;
 
 /*
- * A record's value: its kind, its numbers in column order, its name bytes and the marks of its codes. Entries that the
- * kind lacks are 0.
+ * A record's value: its kind, its numbers in column order, its name bytes, the marks of its codes and the letters of an
+ * H. Entries that the kind lacks are 0.
  *
  *   kind             numbers, in order                                                            name
  *   1  M             mesh code, layers, nodes, lines, areas, points, records                      20 bytes
@@ -138,12 +138,15 @@ typedef struct {
  *
  * A mark is 1 where a code is spelled " 0000", which is land, 0, in layer 5; else it is 0. An L has two marks, of its left
  * and of its right code; an A has one, the first.
+ *
+ * The letters of an H are 1 for H1, an unstructured layer, which has lines and no areas, and 2 for H2, a structured one.
  */
 typedef struct {
     uint32_t kind;
     int32_t numbers[16];
     uint8_t name[40];
     uint32_t marks[2];
+    uint32_t letters;
 } stragumella_record;
 
 /* What reading a record answers. */
@@ -153,7 +156,7 @@ typedef struct {
 } stragumella_reading;
 
 /*
- * The words of the table that a file needs: the sum of 4 + lines + areas over its layers. 0 for a file that is
+ * The words of the table that a file needs: the sum of 5 + lines + areas over its layers. 0 for a file that is
  * refused in stage 1 or 2. A file with later faults has a need.
  *
  * file     length bytes, read.
@@ -182,8 +185,8 @@ uint32_t stragumella_due(const uint8_t *file, size_t length, uint32_t record);
  * file     length bytes, read.
  * table    words words; what they hold before doesn't matter. Refused with 1 to 9: untouched. Refused later, or
  *          accepted: the table stands in its first words, as many as the need says, and the rest is untouched. The
- *          table has a row of four for each layer in file order (H record, nodes, lines, areas), then every line's L
- *          record, then every area's A record.
+ *          table has a row of five for each layer in file order (H record, nodes, lines, areas, letters: 1 for H1, 2
+ *          for H2), then every line's L record, then every area's A record.
  * measures areas places; what they hold before doesn't matter. Accepted: the first places, as many as the outcome's
  *          areas, hold the areas' measures in file order, and the rest is untouched. Refused: untouched.
  * Promises: Total. Exact: the answer is the least broken rule, and no second answer fits. No ground lost: the measures
@@ -233,9 +236,8 @@ stragumella_place stragumella_position(int32_t mesh, int32_t x, int32_t y);
 
 /*
  * Reads a single record of the kind that the caller names. Accepted: 0 at 0, 0, and the value. Refused, at record 1,
- * the first of: 1 at column 1 for a length that is not 74; 2 at 73 or 74; 3 at column 1, or 7 for H1 where an H is due;
- * 5 at the start of the first ill-formed field. The value is then the named kind with all else 0. Codes, ranges
- * and slots aren't judged here.
+ * the first of: 1 at column 1 for a length that is not 74; 2 at 73 or 74; 3 at column 1; 5 at the start of the first
+ * ill-formed field. The value is then the named kind with all else 0. Codes, ranges and slots aren't judged here.
  * A kind that is not 1 to 7 is 3 at record 1, column 1, whatever the bytes, and the value is all 0, its kind too.
  *
  * bytes    length bytes, read.
@@ -246,8 +248,8 @@ stragumella_reading stragumella_read_record(uint32_t kind, const uint8_t *bytes,
 /*
  * Writes a record, and answers 0. Otherwise 21 for a buffer under 74 bytes, and then 20: a number that its field
  * doesn't hold, a name that is no row of two-byte characters, a mark that is neither 0 nor 1, or is 1 beside a code
- * other than 0 or in another layer than 5, an entry that the kind lacks and that is not 0, or a kind that is not 1 to 7.
- * Codes, ranges and slots aren't judged here.
+ * other than 0 or in another layer than 5, letters of an H that are neither 1 nor 2, an entry that the kind lacks and
+ * that is not 0, or a kind that is not 1 to 7. Codes, ranges and slots aren't judged here.
  *
  * buffer   length bytes; what they hold before doesn't matter. With 0 the record stands in the first 74 bytes and the
  *          rest is untouched. With 20 or 21 all of it is untouched.
