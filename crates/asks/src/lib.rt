@@ -23,6 +23,7 @@ use permitted::is_point;
 use permitted::is_side;
 use permitted::is_slot;
 use permitted::natural;
+use permitted::of_areas;
 use permitted::same;
 use permitted::size;
 use permitted::within;
@@ -99,15 +100,15 @@ pub fn mesh_fault(last: usize, i: usize, ns: &[i32]) -> u32
 }
 
 // Number `i` of an H.
-pub fn head_fault(last: usize, i: usize, ns: &[i32]) -> u32
-    ensures { λ r. ⌜ r ≡ firstAsked (getD (layerAsks last (now (ns .entry))) i []) ⌝ }
+pub fn head_fault(last: usize, letters: u32, i: usize, ns: &[i32]) -> u32
+    ensures { λ r. ⌜ r ≡ firstAsked (getD (layerAsks last letters (now (ns .entry))) i []) ⌝ }
 {
     let v = at(ns, i);
     match i {
         0 => both(is_layer_code(v), follows_layer(last, v)),
         1 => permitted(natural(v)), // nodes
         2 => permitted(within(v, 0, 9999)), // lines
-        3 => permitted(natural(v)), // areas
+        3 => permitted(of_areas(letters, v, natural(v))), // areas
         4 => permitted(is(v, 0)), // points
         5 => permitted(natural(v)), // records
         6 => permitted(is_date(v)), // first made
@@ -142,8 +143,8 @@ pub fn node_fault(layer: usize, last: usize, i: usize, ns: &[i32]) -> u32
 }
 
 // Number `i` of an L.
-pub fn line_fault(layer: usize, last: usize, i: usize, ns: &[i32]) -> u32
-    ensures { λ r. ⌜ r ≡ firstAsked (getD (lineAsks layer last (now (ns .entry))) i []) ⌝ }
+pub fn line_fault(layer: usize, last: usize, letters: u32, i: usize, ns: &[i32]) -> u32
+    ensures { λ r. ⌜ r ≡ firstAsked (getD (lineAsks layer last letters (now (ns .entry))) i []) ⌝ }
 {
     let v = at(ns, i);
     match i {
@@ -155,10 +156,10 @@ pub fn line_fault(layer: usize, last: usize, i: usize, ns: &[i32]) -> u32
         5 => permitted(is_link(v)),
         6 => 0, // end node
         7 => permitted(is_link(v)),
-        8 => permitted(is_code(layer, v)), // left
-        9 => permitted(is_side(at(ns, 8), v)),
-        10 => permitted(is_code(layer, v)), // right
-        11 => permitted(is_side(at(ns, 10), v)),
+        8 => permitted(of_areas(letters, v, is_code(layer, v))), // left
+        9 => permitted(of_areas(letters, v, is_side(at(ns, 8), v))),
+        10 => permitted(of_areas(letters, v, is_code(layer, v))), // right
+        11 => permitted(of_areas(letters, v, is_side(at(ns, 10), v))),
         12 => permitted(at_least(v, 2)), // points
         13 => permitted(is(v, 0)),
         14 => permitted(is(v, 0)),

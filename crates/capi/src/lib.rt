@@ -24,14 +24,15 @@ pub enum Meant {
     Nothing,
 }
 
-// A record's value with its kind as a number: 1 M, 2 H, 3 N, 4 L, 5 coordinates, 6 A, 7 loop. The marks stand
-// behind the name, as in the header.
+// A record's value with its kind as a number: 1 M, 2 H, 3 N, 4 L, 5 coordinates, 6 A, 7 loop. The marks and
+// then the letters stand behind the name, as in the header.
 #[repr(C)]
 pub struct Value {
     pub kind: u32,
     pub numbers: [i32; 16],
     pub name: [u8; 40],
     pub marks: [u32; 2],
+    pub letters: u32,
 }
 
 // What reading finds: a refusal's number with its place, record and column, or 0 at 0, 0; and the
@@ -149,6 +150,7 @@ fn no_kind() -> Found
             numbers,
             name,
             marks,
+            letters: 0,
         },
     }
 }
@@ -177,6 +179,7 @@ pub extern "C" fn stragumella_read_record(kind: u32, bytes: &[u8]) -> Found
             numbers,
             name,
             marks,
+            letters: value.letters,
         },
     }
 }
@@ -203,6 +206,7 @@ pub extern "C" fn stragumella_write_record(value: Value, buffer: &mut [u8]) -> u
             numbers,
             name,
             marks,
+            letters: value.letters,
         },
     )
 }

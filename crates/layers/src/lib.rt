@@ -164,7 +164,7 @@ pub fn rows_of(d: Due) -> usize
         Due::Mesh(_) => 0,
         Due::Layer(_) => 1,
         Due::Node(_, _) => 0,
-        Due::Line(_, _) => 0,
+        Due::Line(_, _, _) => 0,
         Due::Coordinates(_) => 0,
         Due::Area(_, _) => 0,
         Due::Loop(_, _, _) => 0,

@@ -472,7 +472,7 @@ fn judge_record(d: Due, file: &[u8], table: &[u32], l: Layer, line: usize, r: us
         Due::Mesh(_) => Verdict::Fine,
         Due::Layer(_) => Verdict::Fine,
         Due::Node(_, _) => judge_node(file, table, l, r, row),
-        Due::Line(_, _) => judge_line(file, table, l, r, row),
+        Due::Line(_, _, _) => judge_line(file, table, l, r, row),
         Due::Coordinates(left) => {
             let q = current_line(table, l, line);
             judge_points(file, l, q, r, left, row)

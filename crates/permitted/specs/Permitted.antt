@@ -118,6 +118,10 @@ isCode layer v = natural v && layered layer (leb 1 (size v) && leb (size v) 9999
 unfoldable pub isSide : ℤ → ℤ → Bool
 isSide code v = natural v && same (eqb (size v) 0) (eqb (size code) 88888)
 
+-- RULES 5.10: what tells of areas, by its layer's letters: under H1, which are 1, it is 0; under H2 its own rule says ok
+unfoldable pub ofAreas : ℕ → ℤ → Bool → Bool
+ofAreas letters v ok = cond (eqb letters 1) (is 0 v) ok
+
 -- RULES 5.7: an A's code is in the same range and never 88888
 unfoldable pub isAreaCode : ℕ → ℤ → Bool
 isAreaCode layer v = isCode layer v && not (eqb (size v) 88888)

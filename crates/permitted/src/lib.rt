@@ -9,7 +9,7 @@ ghost use lib.Dec.{leb};
 ghost use Rattle.permitted.specs.Permitted.{natural, size, isZero, within, is, atLeast, isMeshCode, followsMesh, oneOrFive, isLayerCode, followsLayer};
 ghost use Rattle.permitted.specs.Permitted.{isDate, nodeItemOne, nodeItemFive, isNodeItem, onFrame, layered, isFrame, lineItemOne};
 ghost use Rattle.permitted.specs.Permitted.{lineItemFive, isLineItem, lineKindOne, lineKindFive, same, isLineKind, linkSize, isLink, isCode};
-ghost use Rattle.permitted.specs.Permitted.{isSide, isAreaCode, isSlot, isPoint, isNext, isLoopSerial};
+ghost use Rattle.permitted.specs.Permitted.{isSide, ofAreas, isAreaCode, isSlot, isPoint, isNext, isLoopSerial};
 
 // 0 or more.
 pub fn natural(v: i32) -> bool
@@ -268,6 +268,17 @@ pub fn is_side(code: i32, v: i32) -> bool
     ensures { λ r. ⌜ r ≡ isSide code v ⌝ }
 {
     natural(v) & same(size(v) == 0, size(code) == 88888)
+}
+
+// What tells of areas, by its layer's letters: under H1, which are 1, it is 0, and else `ok` says whether its
+// own rule permits it.
+pub fn of_areas(letters: u32, v: i32, ok: bool) -> bool
+    ensures { λ r. ⌜ r ≡ ofAreas letters v ok ⌝ }
+{
+    if letters == 1 {
+        return is(v, 0);
+    }
+    ok
 }
 
 // An A's code: never 88888.

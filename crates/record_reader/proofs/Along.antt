@@ -19,7 +19,7 @@ use Rattle.fields.specs.declared.Number.the-variants as number
 use Rattle.fields.specs.declared.Text as texts
 use Rattle.fields.specs.declared.Text.the-variants as text
 use Rattle.records.specs.Layout.{layoutOf, startOf, numbersOf, bytesOf, marksOf}
-use Rattle.records.specs.Reading.{lettersFault, codeIn, faultOf, numbersIn, nameIn, marksIn, over, Fault, noFault}
+use Rattle.records.specs.Reading.{lettersFault, lettersIn, codeIn, faultOf, numbersIn, nameIn, marksIn, over, Fault, noFault}
 use Rattle.records.specs.Reading.{faultAt, firstFault, zeros, noName, unmarked, accepted, refusedAt, fieldsOf}
 use Rattle.records.specs.declared.Field.the-variants.{End, Letters, Number, Code, Name, Blank}
 use Rattle.records.specs.declared.Field.{Field}
@@ -39,7 +39,7 @@ sets-next l m p i h = rw (add-one, take-suc p i 0 h) (sets-append l m (take i p)
 numbers-many : (f : Field) (s : List ℕ) → length (numbersIn f s) ≡ numbersOf f
 unfolding numbersIn
 numbers-many End s = refl
-numbers-many (Letters a b) s = refl
+numbers-many (Letters a b c) s = refl
 numbers-many (Number c w) s = refl
 numbers-many (Code c w) s = refl
 numbers-many (Name c w) s = refl
@@ -48,7 +48,7 @@ numbers-many (Blank c w) s = refl
 marks-many : (f : Field) (s : List ℕ) → length (marksIn f s) ≡ marksOf f
 unfolding marksIn
 marks-many End s = refl
-marks-many (Letters a b) s = refl
+marks-many (Letters a b c) s = refl
 marks-many (Number c w) s = refl
 marks-many (Code c w) s = refl
 marks-many (Name c w) s = refl
@@ -115,20 +115,21 @@ module _ (k : Kind) {s : List ℕ} {ns : List ℤ} {nm ms : List ℕ} {n m i j :
   refuse f e y x q h = bad k s x (startOf f) (firstFault (drop (j + 1) (layoutOf k)) s) (g .fault ∙ rw (split (layoutOf k) j f e y, q)) h
 
   -- the layout's end
-  pub accept : End ≡ getD (layoutOf k) j End → accepted (record { kind = k; numbers = ns; name = nm; marks = ms }) ≡ fieldsOf k s
+  pub accept : End ≡ getD (layoutOf k) j End → {l : ℕ} → l ≡ lettersIn k s
+      → accepted (record { kind = k; numbers = ns; name = nm; marks = ms; letters = l }) ≡ fieldsOf k s
   unfolding fieldsOf
-  accept e =
+  accept e y =
       let d = all-read g e in
-      rw (d .0, d .1, d .2, d .3)
+      rw (d .0, d .1, d .2, d .3, y)
 
-  module _ (a b : ℕ) (e : Letters a b ≡ getD (layoutOf k) j End) {r : ℕ} (q : r ≡ lettersFault a b (getD s 0 0) (getD s 1 0)) where
+  module _ (a b c : ℕ) (e : Letters a b c ≡ getD (layoutOf k) j End) {r : ℕ} (q : r ≡ lettersFault a b c (getD s 0 0) (getD s 1 0)) where
     pub letters-refused : (r ≡ 0 → ⊥) → refusedAt k r 1 ≡ fieldsOf k s
     unfolding faultOf
-    letters-refused h = refuse (Letters a b) e refl r (sym q) h
+    letters-refused h = refuse (Letters a b c) e refl r (sym q) h
 
     pub letters-next : r ≡ 0 → Going (layoutOf k) s ns nm ms n m i (j + 1)
     unfolding faultOf numbersIn nameIn marksIn
-    letters-next z = next g (Letters a b) e refl n m i (omega arith) (omega arith) (omega arith) refl (sym q ∙ z)
+    letters-next z = next g (Letters a b c) e refl n m i (omega arith) (omega arith) (omega arith) refl (sym q ∙ z)
 
   module _ (c w : ℕ) (e : Number c w ≡ getD (layoutOf k) j End) {r : numbers.Number} (q : r ≡ numberAt s c w) where
     pub number-refused : r ≡ number.Refused → refusedAt k 5 c ≡ fieldsOf k s

@@ -31,13 +31,20 @@ fn refused(kind: Kind, number: u32, column: usize) -> Reading
             numbers,
             name,
             marks,
+            letters: 0,
         },
     }
 }
 
 // Acceptance with a value.
-fn taken(kind: Kind, numbers: [i32; 16], name: [u8; 40], marks: [u32; 2]) -> Reading
-    ensures { λ r. ⌜ r ≡ accepted (record { kind = kind; numbers = numbers; name = name; marks = marks }) ⌝ }
+fn taken(
+    kind: Kind,
+    numbers: [i32; 16],
+    name: [u8; 40],
+    marks: [u32; 2],
+    letters: u32,
+) -> Reading
+    ensures { λ r. ⌜ r ≡ accepted (record { kind = kind; numbers = numbers; name = name; marks = marks; letters = letters }) ⌝ }
 {
     Reading {
         number: 0,
@@ -48,6 +55,7 @@ fn taken(kind: Kind, numbers: [i32; 16], name: [u8; 40], marks: [u32; 2]) -> Rea
             numbers,
             name,
             marks,
+            letters,
         },
     }
 }
@@ -82,10 +90,10 @@ fn read_fields(kind: Kind, s: &[u8]) -> Reading
         let f = records::field_of(kind, j);
         match f {
             Field::End => {
-                return taken(kind, numbers, name, marks);
+                return taken(kind, numbers, name, marks, records::letters_in(kind, s));
             }
-            Field::Letters(a, b) => {
-                let fault = records::letters_fault(a, b, s[0], s[1]);
+            Field::Letters(a, b, c) => {
+                let fault = records::letters_fault(a, b, c, s[0], s[1]);
                 if fault != 0 {
                     return refused(kind, fault, 1);
                 }
@@ -134,8 +142,8 @@ fn read_fields(kind: Kind, s: &[u8]) -> Reading
 }
 
 // Reads one record of the kind that the caller names. Refused: not 74 bytes (1 at column 1), then a
-// wrong line end (2 at 73 or 74), then wrong letters (3 at 1; 7 for H1 where an H is due), then the
-// first ill-formed field (5 at its start).
+// wrong line end (2 at 73 or 74), then wrong letters (3 at 1), then the first ill-formed field (5 at its
+// start).
 pub fn read_record(kind: Kind, s: &[u8]) -> Reading
     ensures { λ r. ⌜ r ≡ readingOf kind (now (s .entry)) ⌝ }
 {

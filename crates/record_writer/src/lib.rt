@@ -4,6 +4,7 @@
 // The contracts cite `Writing` of `records`.
 use fields::Writing;
 use records::Field;
+use records::Kind;
 use records::Record;
 ghost use mathlib.Core.Path.{_≡_};
 ghost use lib.ListN.{drop};
@@ -67,6 +68,31 @@ fn may_mark(five: bool, mark: u32) -> bool
     five
 }
 
+// Whether the kind may have these letters: an H has 1 or 2, for H1 and H2, and any other kind 0.
+fn may_letter(kind: Kind, letters: u32) -> bool
+    ensures { λ r. ⌜ r ≡ lettersFit kind letters ⌝ }
+{
+    match kind {
+        Kind::Mesh => letters == 0,
+        Kind::Layer => (letters == 1) | (letters == 2),
+        Kind::Node => letters == 0,
+        Kind::Line => letters == 0,
+        Kind::Coordinates => letters == 0,
+        Kind::Area => letters == 0,
+        Kind::Loop => letters == 0,
+    }
+}
+
+// The second type letter, which is `b` or `c`: the letters 2 say `c`.
+fn second_letter(b: u8, c: u8, letters: u32) -> u8
+    ensures { λ r. ⌜ r ≡ secondLetter b c letters ⌝ }
+{
+    if letters == 2 {
+        return c;
+    }
+    b
+}
+
 // The record's bytes along the layout of its kind.
 fn spell_record(r: Record) -> Spelled
     ensures { λ x. ⌜ SpelledAs r (x .ok) (x .line) ⌝ }
@@ -75,6 +101,7 @@ fn spell_record(r: Record) -> Spelled
     let numbers = r.numbers;
     let name = r.name;
     let marks = r.marks;
+    let letters = r.letters;
     let mut line = [32u8; 74];
     let mut n: usize = 0;
     let mut m: usize = 0;
@@ -89,9 +116,9 @@ fn spell_record(r: Record) -> Spelled
                 let ok = no_numbers(&numbers, n) & (no_bytes(&name, m) & no_marks(&marks, q));
                 return Spelled { ok, line };
             }
-            Field::Letters(a, b) => {
+            Field::Letters(a, b, c) => {
                 line[0] = a;
-                line[1] = b;
+                line[1] = second_letter(b, c, letters);
                 j += 1;
             }
             Field::Number(c, w) => {
@@ -133,12 +160,15 @@ fn spell_record(r: Record) -> Spelled
 }
 
 // Writes a record into the first 74 bytes of `buf` and answers 0. Refused, with `buf` as it was: 21
-// where `buf` is under 74 bytes, then 20 for a value or an unused entry that doesn't fit.
+// where `buf` is under 74 bytes, then 20 for letters, a value or an unused entry that doesn't fit.
 pub fn write_record(buf: &mut [u8], r: Record) -> u32
     ensures { λ x. ⌜ Written (now (buf .entry)) r x (now (buf .exit)) ⌝ }
 {
     if buf.len() < 74 {
         return 21;
+    }
+    if !may_letter(r.kind, r.letters) {
+        return 20;
     }
     let spelled = spell_record(r);
     let line = spelled.line;

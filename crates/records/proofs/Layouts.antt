@@ -57,7 +57,7 @@ coordinate-laid j h = sym (row-at 1 5 14 (Blank 71 2 ∷ []) j h)
 -- not the end
 abbrev pub isField : Field → Bool
 isField End = false
-isField (Letters a b) = true
+isField (Letters a b c) = true
 isField (Number c w) = true
 isField (Code c w) = true
 isField (Name c w) = true

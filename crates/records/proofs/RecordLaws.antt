@@ -1,7 +1,8 @@
 -- THE LAWS OF RECORDS, over all kinds at once. docs/PROMISES.md leads here. Assumes nothing.
-use mathlib.Core.Bool.{Bool, true, false, cond, false≢true}
+use mathlib.Core.Bool.{Bool, true, false, cond, _||_, false≢true}
 use mathlib.Core.List.{List, [], _∷_, _++_}
-use mathlib.Core.Path.{_≡_, refl, ap, _∙_}
+use mathlib.Core.Logic.{⊎-elim}
+use mathlib.Core.Path.{_≡_, refl, sym, ap, _∙_}
 use Prim.Native.Nat.{ℕ, zero, suc, _+_, _-_}
 use native.Mathlib.Omega.{arith}
 use lib.Dec.{eqb}
@@ -10,17 +11,18 @@ use lib.ListN.{length, getD, take, drop, replicate, length-append, take-append-d
 use lib.Seq.{length-sets, getD-at, getD-append-add, drop-cons}
 use borrow.Author.Tests.{eq-eqb, eqb-true}
 use Rattle.records.specs.Layout.{layoutOf, numbersOf, bytesOf, marksOf, total}
-use Rattle.records.specs.Reading.{inLayerFive, numbersIn, nameIn, marksIn, over, firstFault, zeros, noName, unmarked}
+use Rattle.records.specs.Reading.{lettersFault, headLetters, lettersIn, inLayerFive, numbersIn, nameIn, marksIn, over, firstFault, zeros, noName, unmarked}
 use Rattle.records.specs.Reading.{accepted, refusedAt, valueIn, fieldsBy, fieldsOf, readingOf}
-use Rattle.records.specs.Writing.{textOf, fits, recordBytes, ofLayerFive, fitsAll}
+use Rattle.records.specs.Writing.{secondLetter, fieldText, textOf, fits, recordBytes, ofLayerFive, fieldsFit, lettersFit, fitsAll}
 use Rattle.permitted.specs.Permitted.{isZero, is}
 use Rattle.records.specs.declared.Kind.{Kind}
 use Rattle.records.specs.declared.Kind.the-variants.{Mesh, Layer, Node, Line, Coordinates, Area, Loop}
 use Rattle.fields.specs.Answer.{valueOf}
 use Rattle.records.specs.declared.Reading.{Reading}
 use Rattle.records.specs.declared.Record.{Record}
+use Rattle.fields.proofs.Places.{both}
 use Rattle.records.proofs.Layouts.{tiled, tiles-width, fitting}
-use Rattle.records.proofs.RoundTrips.{text-length, read-written, written-read, fits-rest, zero-number}
+use Rattle.records.proofs.RoundTrips.{Lettered, letters, text-length, read-written, written-read, fits-rest, zero-number}
 use Rattle.records.proofs.RoundTrips.{every-same, every-row, laid, padded, over-short, numbers-short, name-short, marks-short}
 use Rattle.records.proofs.RoundTrips.{codes, same-fits, layer-written}
 
@@ -52,23 +54,23 @@ value-sized k s =
     sized-by k s (eqb (length s) 74) (eqb (getD s 72 0) 13) (eqb (getD s 73 0) 10) (firstFault (layoutOf k) s .number) (firstFault (layoutOf k) s .column)
 
 -- what fits is 72 columns
-pub columns-length : (five : Bool) (k : Kind) (ns : List ℤ) (nm ms : List ℕ) → fits five (layoutOf k) ns nm ms ≡ true
-    → length (textOf (layoutOf k) ns nm ms) ≡ 72
-columns-length five k ns nm ms h = text-length five (layoutOf k) ns nm ms h ∙ tiles-width (layoutOf k) 1 (tiled k)
+pub columns-length : (d : ℕ) (five : Bool) (k : Kind) (ns : List ℤ) (nm ms : List ℕ) → fits five (layoutOf k) ns nm ms ≡ true
+    → length (textOf d (layoutOf k) ns nm ms) ≡ 72
+columns-length d five k ns nm ms h = text-length d five (layoutOf k) ns nm ms h ∙ tiles-width (layoutOf k) 1 (tiled k)
 
 -- ---- layer 5: a kind that has codes has its layer code in columns 3-4, and it is the first of its numbers
 
 -- what is written is of layer 5 exactly if the value is
-written-layer : (five : Bool) (k : Kind) (ns : List ℤ) (nm ms z : List ℕ) → fits five (layoutOf k) ns nm ms ≡ true
-    → codes (layoutOf k) ≡ true → inLayerFive (textOf (layoutOf k) ns nm ms ++ z) ≡ ofLayerFive ns
+written-layer : (d : ℕ) (five : Bool) (k : Kind) (ns : List ℤ) (nm ms z : List ℕ) → fits five (layoutOf k) ns nm ms ≡ true
+    → codes (layoutOf k) ≡ true → inLayerFive (textOf d (layoutOf k) ns nm ms ++ z) ≡ ofLayerFive ns
 unfolding layoutOf codes inLayerFive
-written-layer five Mesh ns nm ms z h e = absurd (false≢true e)
-written-layer five Layer ns nm ms z h e = absurd (false≢true e)
-written-layer five Node ns nm ms z h e = absurd (false≢true e)
-written-layer five Line ns nm ms z h e = ap (λ r. is 5 (valueOf r)) (layer-written five 76 32 _ ns nm ms z h)
-written-layer five Coordinates ns nm ms z h e = absurd (false≢true e)
-written-layer five Area ns nm ms z h e = ap (λ r. is 5 (valueOf r)) (layer-written five 65 32 _ ns nm ms z h)
-written-layer five Loop ns nm ms z h e = absurd (false≢true e)
+written-layer d five Mesh ns nm ms z h e = absurd (false≢true e)
+written-layer d five Layer ns nm ms z h e = absurd (false≢true e)
+written-layer d five Node ns nm ms z h e = absurd (false≢true e)
+written-layer d five Line ns nm ms z h e = ap (λ r. is 5 (valueOf r)) (layer-written d five 76 32 32 _ ns nm ms z h)
+written-layer d five Coordinates ns nm ms z h e = absurd (false≢true e)
+written-layer d five Area ns nm ms z h e = ap (λ r. is 5 (valueOf r)) (layer-written d five 65 32 32 _ ns nm ms z h)
+written-layer d five Loop ns nm ms z h e = absurd (false≢true e)
 
 -- what is read is of layer 5 exactly if the bytes are
 read-layer : (k : Kind) (s : List ℕ) (us : List ℤ) → codes (layoutOf k) ≡ true → ofLayerFive (over numbersIn (layoutOf k) s ++ us) ≡ inLayerFive s
@@ -81,31 +83,94 @@ read-layer Coordinates s us e = absurd (false≢true e)
 read-layer Area s us e = refl
 read-layer Loop s us e = absurd (false≢true e)
 
--- written then read, of a record's parts
-read-back : (k : Kind) (ns : List ℤ) (nm ms : List ℕ) → length ns ≡ 16 → length nm ≡ 40 → length ms ≡ 2 → fits (ofLayerFive ns) (layoutOf k) ns nm ms ≡ true
-    → readingOf k (textOf (layoutOf k) ns nm ms ++ (13 ∷ 10 ∷ [])) ≡ accepted (record { kind = k; numbers = ns; name = nm; marks = ms })
+-- ---- the letters
+
+-- those of H2 are written as the last of the two letters, and else the first is; what is read says which it was
+head-written : (d : ℕ) → (eqb d 1 || eqb d 2) ≡ true → cond (eqb (secondLetter 49 50 d) 49) 1 2 ≡ d
+unfolding secondLetter
+head-written d h = by (eqb d 1) (eqb d 2) refl refl h
+  where
+    by : (t u : Bool) → eqb d 1 ≡ t → eqb d 2 ≡ u → (t || u) ≡ true → cond (eqb (cond u 50 49) 49) 1 2 ≡ d
+    by t true e f h = sym (eqb-true d 2 f)
+    by true false e f h = sym (eqb-true d 1 e)
+    by false false e f h = absurd (false≢true h)
+
+-- what is written has the letters of the value
+written-letters : (d : ℕ) (k : Kind) (ns : List ℤ) (nm ms z : List ℕ) → lettersFit k d ≡ true → lettersIn k (textOf d (layoutOf k) ns nm ms ++ z) ≡ d
+unfolding layoutOf textOf fieldText headLetters
+written-letters d Mesh ns nm ms z h = sym (eqb-true d 0 h)
+written-letters d Layer ns nm ms z h = head-written d h
+written-letters d Node ns nm ms z h = sym (eqb-true d 0 h)
+written-letters d Line ns nm ms z h = sym (eqb-true d 0 h)
+written-letters d Coordinates ns nm ms z h = sym (eqb-true d 0 h)
+written-letters d Area ns nm ms z h = sym (eqb-true d 0 h)
+written-letters d Loop ns nm ms z h = sym (eqb-true d 0 h)
+
+-- what is read has letters that fit, and they are those that stand there
+read-letters : (k : Kind) (s : List ℕ) → lettersFit k (lettersIn k s) ≡ true
+unfolding headLetters
+read-letters Mesh s = refl
+read-letters Layer s = by (eqb (getD s 1 0) 49)
+  where
+    by : (t : Bool) → (eqb (cond t 1 2) 1 || eqb (cond t 1 2) 2) ≡ true
+    by true = refl
+    by false = refl
+read-letters Node s = refl
+read-letters Line s = refl
+read-letters Coordinates s = refl
+read-letters Area s = refl
+read-letters Loop s = refl
+
+-- one spelling
+one-letter : (a b x y : ℕ) → lettersFault a b b x y ≡ 0 → secondLetter b b 0 ≡ y
+unfolding secondLetter
+one-letter a b x y q = ⊎-elim (λ e. sym e) (λ e. sym e) (letters a b b x y q .1)
+
+-- H1 and H2
+two-letters : (x y : ℕ) → lettersFault 72 49 50 x y ≡ 0 → secondLetter 49 50 (cond (eqb y 49) 1 2) ≡ y
+unfolding secondLetter
+two-letters x y q = ⊎-elim (λ e. rw e) (λ e. rw e) (letters 72 49 50 x y q .1)
+
+lettered : (k : Kind) (s : List ℕ) → Lettered (lettersIn k s) (layoutOf k) s
+unfolding layoutOf headLetters
+lettered Mesh s = (one-letter 77 32 (getD s 0 0) (getD s 1 0), tt)
+lettered Layer s = (two-letters (getD s 0 0) (getD s 1 0), tt)
+lettered Node s = (one-letter 78 32 (getD s 0 0) (getD s 1 0), tt)
+lettered Line s = (one-letter 76 32 (getD s 0 0) (getD s 1 0), tt)
+lettered Coordinates s = tt
+lettered Area s = (one-letter 65 32 (getD s 0 0) (getD s 1 0), tt)
+lettered Loop s = tt
+
+-- ---- written then read
+
+-- of a record's parts
+read-back : (k : Kind) (ns : List ℤ) (nm ms : List ℕ) (d : ℕ) → length ns ≡ 16 → length nm ≡ 40 → length ms ≡ 2 → lettersFit k d ≡ true
+    → fits (ofLayerFive ns) (layoutOf k) ns nm ms ≡ true
+    → readingOf k (textOf d (layoutOf k) ns nm ms ++ (13 ∷ 10 ∷ [])) ≡ accepted (record { kind = k; numbers = ns; name = nm; marks = ms; letters = d })
 unfolding readingOf fieldsOf
-read-back k ns nm ms i j o g =
-    let t = textOf (layoutOf k) ns nm ms in
-    let five = inLayerFive (textOf (layoutOf k) ns nm ms ++ (13 ∷ 10 ∷ [])) in
-    let h : fits (inLayerFive (textOf (layoutOf k) ns nm ms ++ (13 ∷ 10 ∷ []))) (layoutOf k) ns nm ms ≡ true =
-    same-fits five (ofLayerFive ns) (layoutOf k) ns nm ms (written-layer (ofLayerFive ns) k ns nm ms (13 ∷ 10 ∷ []) g) ∙ g in
-    let l : length (textOf (layoutOf k) ns nm ms) ≡ 72 = columns-length five k ns nm ms h in
-    let n : length (textOf (layoutOf k) ns nm ms ++ (13 ∷ 10 ∷ [])) ≡ 74 = length-append t (13 ∷ 10 ∷ []) ∙ rw l in
-    let r : getD (textOf (layoutOf k) ns nm ms ++ (13 ∷ 10 ∷ [])) 72 0 ≡ 13 = getD-at t 13 (10 ∷ []) 0 72 l in
-    let m : length (textOf (layoutOf k) ns nm ms) + 1 ≡ 73 = omega arith in
-    let f : getD (textOf (layoutOf k) ns nm ms ++ (13 ∷ 10 ∷ [])) 73 0 ≡ 10 = rw (← m) (getD-append-add t (13 ∷ 10 ∷ []) 1 0) in
-    let b = read-written five (layoutOf k) 1 (tiled k) ns nm ms h [] (13 ∷ 10 ∷ []) refl refl in
+read-back k ns nm ms d i j o y g =
+    let t = textOf d (layoutOf k) ns nm ms in
+    let five = inLayerFive (textOf d (layoutOf k) ns nm ms ++ (13 ∷ 10 ∷ [])) in
+    let h : fits (inLayerFive (textOf d (layoutOf k) ns nm ms ++ (13 ∷ 10 ∷ []))) (layoutOf k) ns nm ms ≡ true =
+    same-fits five (ofLayerFive ns) (layoutOf k) ns nm ms (written-layer d (ofLayerFive ns) k ns nm ms (13 ∷ 10 ∷ []) g) ∙ g in
+    let l : length (textOf d (layoutOf k) ns nm ms) ≡ 72 = columns-length d five k ns nm ms h in
+    let n : length (textOf d (layoutOf k) ns nm ms ++ (13 ∷ 10 ∷ [])) ≡ 74 = length-append t (13 ∷ 10 ∷ []) ∙ rw l in
+    let r : getD (textOf d (layoutOf k) ns nm ms ++ (13 ∷ 10 ∷ [])) 72 0 ≡ 13 = getD-at t 13 (10 ∷ []) 0 72 l in
+    let m : length (textOf d (layoutOf k) ns nm ms) + 1 ≡ 73 = omega arith in
+    let f : getD (textOf d (layoutOf k) ns nm ms ++ (13 ∷ 10 ∷ [])) 73 0 ≡ 10 = rw (← m) (getD-append-add t (13 ∷ 10 ∷ []) 1 0) in
+    let b = read-written d five (layoutOf k) 1 (tiled k) ns nm ms h [] (13 ∷ 10 ∷ []) refl refl in
     let z = fits-rest five (layoutOf k) ns nm ms h in
     let u = padded (pos 0) 16 (total numbersOf (layoutOf k)) ns i (fitting k .numbers) (every-same isZero (pos 0) zero-number _ (z .0)) in
     let v = padded 0 40 (total bytesOf (layoutOf k)) nm j (fitting k .names) (every-same (λ b. eqb b 0) 0 (λ b e. eqb-true b 0 e) _ (z .1)) in
     let w = padded 0 2 (total marksOf (layoutOf k)) ms o (fitting k .marks) (every-same (λ b. eqb b 0) 0 (λ b e. eqb-true b 0 e) _ (z .2)) in
-    rw (eq-eqb _ 74 n, eq-eqb _ 13 r, eq-eqb _ 10 f, b .sound, b .numbers, b .name, b .marks, u, v, w)
+    rw (eq-eqb _ 74 n, eq-eqb _ 13 r, eq-eqb _ 10 f, b .sound, b .numbers, b .name, b .marks, u, v, w, written-letters d k ns nm ms (13 ∷ 10 ∷ []) y)
 
 -- WRITTEN THEN READ: a value that fits is read back from its bytes
 pub written-then-read : (r : Record) → Sized r → fitsAll r ≡ true → readingOf (r .kind) (recordBytes r) ≡ accepted r
-unfolding fitsAll recordBytes
-written-then-read r z h = read-back (r .kind) (r .numbers) (r .name) (r .marks) (z .numbers) (z .name) (z .marks) h
+unfolding fitsAll fieldsFit recordBytes
+written-then-read r z h =
+    let q = both (lettersFit (r .kind) (r .letters)) (fieldsFit r) h in
+    read-back (r .kind) (r .numbers) (r .name) (r .marks) (r .letters) (z .numbers) (z .name) (z .marks) (q .0) (q .1)
 
 -- what acceptance says of the bytes
 record Accepted (k : Kind) (s : List ℕ) : Type 0 where
@@ -142,7 +207,7 @@ line-is s l p q =
 
 -- and that fits and is written as it stood
 kept-value : (k : Kind) (s : List ℕ) → Accepted k s → (fitsAll (valueIn k s) ≡ true) × (recordBytes (valueIn k s) ≡ s)
-unfolding fitsAll recordBytes
+unfolding fitsAll fieldsFit recordBytes
 kept-value k s a =
     let ns = over numbersIn (layoutOf k) s in
     let nm = over nameIn (layoutOf k) s in
@@ -152,11 +217,11 @@ kept-value k s a =
     let o = over-short marksIn marksOf s (marks-short s) (layoutOf k) in
     let r = fitting k in
     let us = replicate (16 - length ns) (pos 0) in
-    let w = written-read (layoutOf k) 1 (tiled k) s (a .sound) (a .long) us (replicate (40 - length nm) 0) (replicate (2 - length ks) 0) in
+    let w = written-read (layoutOf k) 1 (tiled k) s (a .sound) (a .long) (lettersIn k s) (lettered k s) us (replicate (40 - length nm) 0) (replicate (2 - length ks) 0) in
     let u = laid (pos 0) 16 (over numbersIn (layoutOf k) s) (omega arith) in
     let v = laid 0 40 (over nameIn (layoutOf k) s) (omega arith) in
     let x = laid 0 2 (over marksIn (layoutOf k) s) (omega arith) in (
-      rw (u, v, x) (same-fits _ (inLayerFive s) (layoutOf k) _ _ _ (read-layer k s us)
+      rw (read-letters k s, u, v, x) (same-fits _ (inLayerFive s) (layoutOf k) _ _ _ (read-layer k s us)
           ∙ rw (w .fit, every-row isZero (pos 0) refl, every-row (λ b. eqb b 0) 0 refl, every-row (λ b. eqb b 0) 0 refl)),
       rw (u, v, x, w .bytes, tiles-width (layoutOf k) 1 (tiled k)) (line-is s (a .long) (a .return) (a .feed)),
     )

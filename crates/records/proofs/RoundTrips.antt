@@ -2,6 +2,7 @@
 -- of one field the laws of `fields` say it. Assumes nothing.
 use mathlib.Core.Bool.{Bool, true, false, cond, _&&_, _||_}
 use mathlib.Core.List.{List, [], _∷_, _++_, append-assoc}
+use mathlib.Core.Logic.{_⊎_, inl, inr}
 use mathlib.Core.Path.{_≡_, refl, sym, ap, _∙_}
 use Prim.Native.Nat.{ℕ, zero, suc, _+_, _-_, _≤_}
 use native.Mathlib.Nat.{zero-add}
@@ -27,7 +28,7 @@ use Rattle.fields.specs.declared.Text.the-variants as text
 use Rattle.records.specs.Layout.{startOf, widthOf, numbersOf, bytesOf, marksOf, total}
 use Rattle.records.specs.Reading.{lettersFault, inLayerFive, landed, codeIn, faultOf, numbersIn, nameIn, marksIn, over}
 use Rattle.records.specs.Reading.{Fault, noFault, faultAt, firstFault}
-use Rattle.records.specs.Writing.{every, fieldText, markFits, fieldFits, textOf, noNumbers, noBytes, fits}
+use Rattle.records.specs.Writing.{every, secondLetter, fieldText, markFits, fieldFits, textOf, noNumbers, noBytes, fits}
 use Rattle.permitted.specs.Permitted.{isZero}
 use Rattle.records.specs.declared.Field.the-variants.{End, Letters, Number, Code, Name, Blank}
 use Rattle.records.specs.declared.Field.{Field}
@@ -43,8 +44,14 @@ first-of : {A : Type 0} (d : A) (l : List A) → 1 ≤ length l → getD l 0 d �
 first-of d [] h = absurd (omega arith)
 first-of d (x ∷ l) h = refl
 
-right-letters : (a b : ℕ) → lettersFault a b a b ≡ 0
-right-letters a b = rw (eq-eqb a a refl, eq-eqb b b refl)
+or-right : (x y : Bool) → y ≡ true → (x || y) ≡ true
+or-right true y e = refl
+or-right false y e = e
+
+-- whichever of the two letters is written second, it is one of the two
+right-letters : (a b c : ℕ) (t : Bool) → lettersFault a b c a (cond t c b) ≡ 0
+right-letters a b c true = rw (eq-eqb a a refl, or-right (eqb c b) (eqb c c) (eq-eqb c c refl))
+right-letters a b c false = rw (eq-eqb a a refl, eq-eqb b b refl)
 
 -- the bytes t behind p stand in the columns behind p
 placed : (p t z : List ℕ) (c w : ℕ) → c ≡ length p + 1 → length t ≡ w → (isInside (p ++ (t ++ z)) c w ≡ true) × (bytesAt (p ++ (t ++ z)) c w ≡ t)
@@ -70,14 +77,14 @@ code-fit five c w ns nm ms h =
     record { some = leb-true _ _ (l .0); marked = leb-true _ _ (l .1); held = q .0; allowed = q .1 }
 
 -- what fits a field fills it
-pub field-length : (five : Bool) (f : Field) (ns : List ℤ) (nm ms : List ℕ) → fieldFits five f ns nm ms ≡ true → length (fieldText f ns nm ms) ≡ widthOf f
+pub field-length : (d : ℕ) (five : Bool) (f : Field) (ns : List ℤ) (nm ms : List ℕ) → fieldFits five f ns nm ms ≡ true → length (fieldText d f ns nm ms) ≡ widthOf f
 unfolding fieldText fieldFits
-field-length five End ns nm ms h = refl
-field-length five (Letters a b) ns nm ms h = refl
-field-length five (Number c w) ns nm ms h = spell-length w _
-field-length five (Code c w) ns nm ms h = spell-code-length w _ _ (code-fit five c w ns nm ms h .held)
-field-length five (Name c w) ns nm ms h = length-take-le w nm (leb-true _ _ (both (leb w (length nm)) (isName (take w nm)) h .0))
-field-length five (Blank c w) ns nm ms h = length-replicate w 32
+field-length d five End ns nm ms h = refl
+field-length d five (Letters a b c) ns nm ms h = refl
+field-length d five (Number c w) ns nm ms h = spell-length w _
+field-length d five (Code c w) ns nm ms h = spell-code-length w _ _ (code-fit five c w ns nm ms h .held)
+field-length d five (Name c w) ns nm ms h = length-take-le w nm (leb-true _ _ (both (leb w (length nm)) (isName (take w nm)) h .0))
+field-length d five (Blank c w) ns nm ms h = length-replicate w 32
 
 -- what reading finds in a field of the record s that holds what it is given
 record Good (f : Field) (ns : List ℤ) (nm ms s : List ℕ) : Type 0 where
@@ -93,13 +100,13 @@ unfolding codeIn
 landed-read s c w v zero five y h a = rw (code-read s c w v 0 h)
 landed-read s c w v (suc m) five y h a = rw (code-read s c w v (suc m) h, y, a)
 
-good : (five : Bool) (f : Field) (ns : List ℤ) (nm ms : List ℕ) → fieldFits five f ns nm ms ≡ true → (p z : List ℕ)
-    → startOf f ≡ length p + 1 → inLayerFive (p ++ (fieldText f ns nm ms ++ z)) ≡ five → Good f ns nm ms (p ++ (fieldText f ns nm ms ++ z))
-unfolding fieldText fieldFits faultOf numbersIn nameIn marksIn
-good five End ns nm ms h p z e y = absurd (omega arith)
-good five (Letters a b) ns nm ms h [] z e y = record { sound = right-letters a b; numbers = refl; name = refl; marks = refl }
-good five (Letters a b) ns nm ms h (x ∷ p) z e y = absurd (omega arith)
-good five (Code c w) ns nm ms h p z e y =
+good : (d : ℕ) (five : Bool) (f : Field) (ns : List ℤ) (nm ms : List ℕ) → fieldFits five f ns nm ms ≡ true → (p z : List ℕ)
+    → startOf f ≡ length p + 1 → inLayerFive (p ++ (fieldText d f ns nm ms ++ z)) ≡ five → Good f ns nm ms (p ++ (fieldText d f ns nm ms ++ z))
+unfolding secondLetter fieldText fieldFits faultOf numbersIn nameIn marksIn
+good d five End ns nm ms h p z e y = absurd (omega arith)
+good d five (Letters a b c) ns nm ms h [] z e y = record { sound = right-letters a b c (eqb d 2); numbers = refl; name = refl; marks = refl }
+good d five (Letters a b c) ns nm ms h (x ∷ p) z e y = absurd (omega arith)
+good d five (Code c w) ns nm ms h p z e y =
     let v = getD ns 0 (pos 0) in
     let m = getD ms 0 0 in
     let q = code-fit five c w ns nm ms h in
@@ -107,18 +114,18 @@ good five (Code c w) ns nm ms h p z e y =
     let r : codeIn (p ++ (spellCode w v m ++ z)) c w ≡ code.Value v m =
     landed-read _ c w v m five y (record { there = i .0; held = q .held; spelled = i .1 }) (q .allowed) in
     record { sound = rw r; numbers = rw r (first-of (pos 0) ns (q .some)); name = refl; marks = rw r (first-of 0 ms (q .marked)) }
-good five (Number c w) ns nm ms h p z e y =
+good d five (Number c w) ns nm ms h p z e y =
     let v = getD ns 0 (pos 0) in
     let q = both (leb 1 (length ns)) (holds w v) h in
     let i = placed p (spell w v) z c w e (spell-length w v) in
     let r : numberAt (p ++ (spell w v ++ z)) c w ≡ number.Value v = number-read _ c w v (record { there = i .0; held = q .1; spelled = i .1 }) in
     record { sound = rw r; numbers = rw r (first-of (pos 0) ns (leb-true _ _ (q .0))); name = refl; marks = refl }
-good five (Name c w) ns nm ms h p z e y =
-    let i = placed p (take w nm) z c w e (field-length five (Name c w) ns nm ms h) in
+good d five (Name c w) ns nm ms h p z e y =
+    let i = placed p (take w nm) z c w e (field-length d five (Name c w) ns nm ms h) in
     let r : textAt isName (p ++ (take w nm ++ z)) c w ≡ text.WellFormed =
     text-read isName _ c w (i .0) (rw (i .1) (both (leb w (length nm)) (isName (take w nm)) h .1)) in
     record { sound = rw r; numbers = refl; name = i .1; marks = refl }
-good five (Blank c w) ns nm ms h p z e y =
+good d five (Blank c w) ns nm ms h p z e y =
     let i = placed p (replicate w 32) z c w e (length-replicate w 32) in
     let r : textAt isBlanks (p ++ (replicate w 32 ++ z)) c w ≡ text.WellFormed = text-read isBlanks _ c w (i .0) (rw (i .1) (spaces-blank w)) in
     record { sound = rw r; numbers = refl; name = refl; marks = refl }
@@ -126,12 +133,12 @@ good five (Blank c w) ns nm ms h p z e y =
 -- ---- any layout: reading what was written
 
 -- what fits fills the layout's columns
-pub text-length : (five : Bool) (L : List Field) (ns : List ℤ) (nm ms : List ℕ) → fits five L ns nm ms ≡ true → length (textOf L ns nm ms) ≡ total widthOf L
+pub text-length : (d : ℕ) (five : Bool) (L : List Field) (ns : List ℤ) (nm ms : List ℕ) → fits five L ns nm ms ≡ true → length (textOf d L ns nm ms) ≡ total widthOf L
 unfolding textOf fits total
-text-length five [] ns nm ms h = refl
-text-length five (f ∷ fs) ns nm ms h =
+text-length d five [] ns nm ms h = refl
+text-length d five (f ∷ fs) ns nm ms h =
     let q = both (fieldFits five f ns nm ms) (fits five fs (drop (numbersOf f) ns) (drop (bytesOf f) nm) (drop (marksOf f) ms)) h in
-    rw (length-append, field-length five f ns nm ms (q .0), text-length five fs (drop (numbersOf f) ns) (drop (bytesOf f) nm) (drop (marksOf f) ms) (q .1))
+    rw (length-append, field-length d five f ns nm ms (q .0), text-length d five fs (drop (numbersOf f) ns) (drop (bytesOf f) nm) (drop (marksOf f) ms) (q .1))
 
 -- the record s has no fault, and reading it finds what L takes of the numbers ns, of the name bytes nm and of the marks ms
 pub record Back (L : List Field) (ns : List ℤ) (nm ms s : List ℕ) : Type 0 where
@@ -151,38 +158,65 @@ one-more f fs ns nm ms s g b = record {
 }
 
 -- what was written from column c on is read back, whatever stands before and behind it; the record is of layer 5 as `five` says
-pub read-written : (five : Bool) (L : List Field) (c : ℕ) → tiles c L ≡ true → (ns : List ℤ) (nm ms : List ℕ)
-    → fits five L ns nm ms ≡ true → (p z : List ℕ) → length p + 1 ≡ c → inLayerFive (p ++ (textOf L ns nm ms ++ z)) ≡ five
-    → Back L ns nm ms (p ++ (textOf L ns nm ms ++ z))
+pub read-written : (d : ℕ) (five : Bool) (L : List Field) (c : ℕ) → tiles c L ≡ true → (ns : List ℤ) (nm ms : List ℕ)
+    → fits five L ns nm ms ≡ true → (p z : List ℕ) → length p + 1 ≡ c → inLayerFive (p ++ (textOf d L ns nm ms ++ z)) ≡ five
+    → Back L ns nm ms (p ++ (textOf d L ns nm ms ++ z))
 unfolding firstFault over total fits textOf
-read-written five [] c t ns nm ms h p z e k = record { sound = refl; numbers = refl; name = refl; marks = refl }
-read-written five (f ∷ fs) c t ns nm ms h p z e k =
+read-written d five [] c t ns nm ms h p z e k = record { sound = refl; numbers = refl; name = refl; marks = refl }
+read-written d five (f ∷ fs) c t ns nm ms h p z e k =
     let i = tile c f fs t in
     let ns′ = drop (numbersOf f) ns in
     let nm′ = drop (bytesOf f) nm in
     let ms′ = drop (marksOf f) ms in
-    let x = fieldText f ns nm ms in
-    let y = textOf fs (drop (numbersOf f) ns) (drop (bytesOf f) nm) (drop (marksOf f) ms) in
+    let x = fieldText d f ns nm ms in
+    let y = textOf d fs (drop (numbersOf f) ns) (drop (bytesOf f) nm) (drop (marksOf f) ms) in
     let q = both (fieldFits five f ns nm ms) (fits five fs (drop (numbersOf f) ns) (drop (bytesOf f) nm) (drop (marksOf f) ms)) h in
-    let l : length (p ++ fieldText f ns nm ms) ≡ length p + widthOf f = rw (length-append, field-length five f ns nm ms (q .0)) in
+    let l : length (p ++ fieldText d f ns nm ms) ≡ length p + widthOf f = rw (length-append, field-length d five f ns nm ms (q .0)) in
     let a : p ++ (x ++ (y ++ z)) ≡ p ++ ((x ++ y) ++ z) = sym (ap (λ r. p ++ r) (append-assoc x y z)) in
     let b =
-    read-written five fs (c + widthOf f) (i .rest) ns′ nm′ ms′ (q .1) (p ++ fieldText f ns nm ms) z (omega arith)
+    read-written d five fs (c + widthOf f) (i .rest) ns′ nm′ ms′ (q .1) (p ++ fieldText d f ns nm ms) z (omega arith)
     (ap inLayerFive (append-assoc p x (y ++ z) ∙ a) ∙ k) in
-    let g = good five f ns nm ms (q .0) p (y ++ z) (i .start ∙ sym e) (ap inLayerFive a ∙ k) in
+    let g = good d five f ns nm ms (q .0) p (y ++ z) (i .start ∙ sym e) (ap inLayerFive a ∙ k) in
     rw append-assoc (one-more f fs ns nm ms (p ++ (x ++ (y ++ z))) g (rw append-assoc at b))
 
 -- ---- one field: writing what was read
 
-letters-by : (a b x y : ℕ) (t u : Bool) → eqb x a && eqb y b ≡ t → _≡_ {A = ℕ} (cond t 0 (cond u 7 3)) 0 → (x ≡ a) × (y ≡ b)
-letters-by a b x y true u e q =
-    let p = both (eqb x a) (eqb y b) e in
-    (eqb-true _ _ (p .0), eqb-true _ _ (p .1))
-letters-by a b x y false true e q = absurd (omega arith)
-letters-by a b x y false false e q = absurd (omega arith)
+-- the letters d are those that stand in the record s, where a field of L asks for letters and they are right
+abbrev pub Lettered : ℕ → List Field → List ℕ → Type 0
+Lettered d [] s = Unit {0}
+Lettered d (End ∷ L) s = Lettered d L s
+Lettered d (Letters a b c ∷ L) s = (lettersFault a b c (getD s 0 0) (getD s 1 0) ≡ 0 → secondLetter b c d ≡ getD s 1 0) × Lettered d L s
+Lettered d (Number c w ∷ L) s = Lettered d L s
+Lettered d (Code c w ∷ L) s = Lettered d L s
+Lettered d (Name c w ∷ L) s = Lettered d L s
+Lettered d (Blank c w ∷ L) s = Lettered d L s
 
-letters : (a b x y : ℕ) → lettersFault a b x y ≡ 0 → (x ≡ a) × (y ≡ b)
-letters a b x y q = letters-by a b x y (eqb x a && eqb y b) (eqb a 72 && (eqb x 72 && eqb y 49)) refl q
+lettered-first : (d : ℕ) (f : Field) (fs : List Field) (s : List ℕ) → Lettered d (f ∷ fs) s → Lettered d (f ∷ []) s × Lettered d fs s
+lettered-first d End fs s h = (tt, h)
+lettered-first d (Letters a b c) fs s h = ((h .0, tt), h .1)
+lettered-first d (Number c w) fs s h = (tt, h)
+lettered-first d (Code c w) fs s h = (tt, h)
+lettered-first d (Name c w) fs s h = (tt, h)
+lettered-first d (Blank c w) fs s h = (tt, h)
+
+-- letters without fault are one of the two that are due
+letters-by : (x a : ℕ) (t : Bool) → _≡_ {A = ℕ} (cond (eqb x a && t) 0 3) 0 → (x ≡ a) × (t ≡ true)
+letters-by x a t q = by (eqb x a && t) refl q
+  where
+    by : (u : Bool) → (eqb x a && t) ≡ u → _≡_ {A = ℕ} (cond u 0 3) 0 → (x ≡ a) × (t ≡ true)
+    by true e q =
+        let p = both (eqb x a) t e in
+        (eqb-true _ _ (p .0), p .1)
+    by false e q = absurd (omega arith)
+
+pub letters : (a b c x y : ℕ) → lettersFault a b c x y ≡ 0 → (x ≡ a) × ((y ≡ b) ⊎ (y ≡ c))
+letters a b c x y q =
+    let h = letters-by x a (eqb y b || eqb y c) q in
+    (h .0, second (eqb y b) refl (h .1))
+  where
+    second : (t : Bool) → eqb y b ≡ t → (t || eqb y c) ≡ true → (y ≡ b) ⊎ (y ≡ c)
+    second true e r = inl (eqb-true _ _ e)
+    second false e r = inr (eqb-true _ _ r)
 
 two : (s : List ℕ) → 2 ≤ length s → getD s 0 0 ∷ getD s 1 0 ∷ [] ≡ take 2 s
 two [] l = absurd (omega arith)
@@ -206,30 +240,31 @@ code-by s c w false (code.Value v (suc m)) e q = absurd (omega arith)
 code-by s c w five code.Refused e q = absurd (omega arith)
 
 -- a field without fault, read and written with any numbers ns, name bytes nm and marks ms behind its own
-record Kept (f : Field) (s : List ℕ) (ns : List ℤ) (nm ms : List ℕ) : Type 0 where
+record Kept (d : ℕ) (f : Field) (s : List ℕ) (ns : List ℤ) (nm ms : List ℕ) : Type 0 where
   there : isInside s (startOf f) (widthOf f) ≡ true
-  bytes : fieldText f (numbersIn f s ++ ns) (nameIn f s ++ nm) (marksIn f s ++ ms) ≡ bytesAt s (startOf f) (widthOf f)
+  bytes : fieldText d f (numbersIn f s ++ ns) (nameIn f s ++ nm) (marksIn f s ++ ms) ≡ bytesAt s (startOf f) (widthOf f)
   fit : fieldFits (inLayerFive s) f (numbersIn f s ++ ns) (nameIn f s ++ nm) (marksIn f s ++ ms) ≡ true
   numbers : drop (numbersOf f) (numbersIn f s ++ ns) ≡ ns
   name : drop (bytesOf f) (nameIn f s ++ nm) ≡ nm
   marks : drop (marksOf f) (marksIn f s ++ ms) ≡ ms
 
-kept : (f : Field) (s : List ℕ) → isField f ≡ true → 2 ≤ length s → faultOf f s ≡ 0 → (ns : List ℤ) (nm ms : List ℕ) → Kept f s ns nm ms
+kept : (d : ℕ) (f : Field) (s : List ℕ) → isField f ≡ true → 2 ≤ length s → faultOf f s ≡ 0 → Lettered d (f ∷ []) s → (ns : List ℤ) (nm ms : List ℕ)
+    → Kept d f s ns nm ms
 unfolding fieldText fieldFits codeIn faultOf numbersIn nameIn marksIn bytesAt
-kept End s i l q ns nm ms =
+kept d End s i l q y ns nm ms =
     let z : _≡_ {A = ℕ} 0 1 = cc in
     absurd (omega arith)
-kept (Letters a b) s i l q ns nm ms =
-    let h = letters a b (getD s 0 0) (getD s 1 0) q in
+kept d (Letters a b c) s i l q y ns nm ms =
+    let h = letters a b c (getD s 0 0) (getD s 1 0) q in
     record {
       there = inside-fits s 1 2 (omega arith) (omega arith);
-      bytes = rw (← h .0, ← h .1) (two s l);
+      bytes = rw (← h .0, y .0 q) (two s l);
       fit = refl;
       numbers = refl;
       name = refl;
       marks = refl;
     }
-kept (Number c w) s i l q ns nm ms =
+kept d (Number c w) s i l q y ns nm ms =
     let h = number-by s c w (numberAt s c w) refl q in
     record {
       there = h .there;
@@ -239,7 +274,7 @@ kept (Number c w) s i l q ns nm ms =
       name = refl;
       marks = refl;
     }
-kept (Code c w) s i l q ns nm ms =
+kept d (Code c w) s i l q y ns nm ms =
     let h = code-by s c w (inLayerFive s) (codeAt s c w) refl q in
     record {
       there = h .0 .there;
@@ -249,13 +284,13 @@ kept (Code c w) s i l q ns nm ms =
       name = refl;
       marks = refl;
     }
-kept (Name c w) s i l q ns nm ms =
+kept d (Name c w) s i l q y ns nm ms =
     let h = text-formed isName s c w (text-by (textAt isName s c w) q) in
     let n : length (bytesAt s c w) ≡ w = bytes-length s c w (h .0) in
     let m : take w (bytesAt s c w ++ nm) ≡ bytesAt s c w = take-at (bytesAt s c w) nm w n in
     let r : w ≤ length (bytesAt s c w ++ nm) = rw length-append (omega arith) in
     record { there = h .0; bytes = m; fit = rw (le-leb w _ r, m) (h .1); numbers = refl; name = drop-at (bytesAt s c w) nm w n; marks = refl }
-kept (Blank c w) s i l q ns nm ms =
+kept d (Blank c w) s i l q y ns nm ms =
     let h = text-by (textAt isBlanks s c w) q in
     record { there = text-formed isBlanks s c w h .0; bytes = sym (blank-bytes s c w h); fit = refl; numbers = refl; name = refl; marks = refl }
 
@@ -267,20 +302,21 @@ no-fault zero c q e = (refl, e)
 no-fault (suc x) c q e = absurd (omega arith)
 
 -- what L reads of s, with the numbers us, the name bytes bs and the marks ks behind it, is written as it stood, and fits where those are 0
-pub record Again (L : List Field) (c : ℕ) (s : List ℕ) (us : List ℤ) (bs ks : List ℕ) : Type 0 where
-  pub bytes : textOf L (over numbersIn L s ++ us) (over nameIn L s ++ bs) (over marksIn L s ++ ks) ≡ take (total widthOf L) (drop (c - 1) s)
+pub record Again (d : ℕ) (L : List Field) (c : ℕ) (s : List ℕ) (us : List ℤ) (bs ks : List ℕ) : Type 0 where
+  pub bytes : textOf d L (over numbersIn L s ++ us) (over nameIn L s ++ bs) (over marksIn L s ++ ks) ≡ take (total widthOf L) (drop (c - 1) s)
   pub fit : fits (inLayerFive s) L (over numbersIn L s ++ us) (over nameIn L s ++ bs) (over marksIn L s ++ ks) ≡ noNumbers us && (noBytes bs && noBytes ks)
 
 -- what was read without fault from column c on is written as it stood, whatever stands behind it
 pub written-read : (L : List Field) (c : ℕ) → tiles c L ≡ true → (s : List ℕ)
-    → firstFault L s .number ≡ 0 → length s ≡ 74 → (us : List ℤ) (bs ks : List ℕ) → Again L c s us bs ks
+    → firstFault L s .number ≡ 0 → length s ≡ 74 → (d : ℕ) → Lettered d L s → (us : List ℤ) (bs ks : List ℕ) → Again d L c s us bs ks
 unfolding firstFault over total textOf fits bytesAt
-written-read [] c t s h l us bs ks = record { bytes = refl; fit = refl }
-written-read (f ∷ fs) c t s h l us bs ks =
+written-read [] c t s h l d y us bs ks = record { bytes = refl; fit = refl }
+written-read (f ∷ fs) c t s h l d y us bs ks =
     let i = tile c f fs t in
     let n = no-fault (faultOf f s) (startOf f) (firstFault fs s) h in
-    let k = kept f s (i .field) (omega arith) (n .0) (over numbersIn fs s ++ us) (over nameIn fs s ++ bs) (over marksIn fs s ++ ks) in
-    let a = written-read fs (c + widthOf f) (i .rest) s (n .1) l us bs ks in
+    let v = lettered-first d f fs s y in
+    let k = kept d f s (i .field) (omega arith) (n .0) (v .0) (over numbersIn fs s ++ us) (over nameIn fs s ++ bs) (over marksIn fs s ++ ks) in
+    let a = written-read fs (c + widthOf f) (i .rest) s (n .1) l d (v .1) us bs ks in
     let b = inside-bounds s (startOf f) (widthOf f) (k .there) in
     let e : c + widthOf f - 1 ≡ c - 1 + widthOf f = omega arith in
     record {
@@ -312,7 +348,7 @@ fits-rest five (f ∷ fs) ns nm ms h =
 
 abbrev isCode : Field → Bool
 isCode End = false
-isCode (Letters a b) = false
+isCode (Letters a b c) = false
 isCode (Number c w) = false
 isCode (Code c w) = true
 isCode (Name c w) = false
@@ -326,15 +362,11 @@ module _ (a b : Bool) where
   same-field : (f : Field) (ns : List ℤ) (nm ms : List ℕ) → (isCode f ≡ true → a ≡ b) → fieldFits a f ns nm ms ≡ fieldFits b f ns nm ms
   unfolding fieldFits
   same-field End ns nm ms e = refl
-  same-field (Letters x y) ns nm ms e = refl
+  same-field (Letters x y z) ns nm ms e = refl
   same-field (Number c w) ns nm ms e = refl
   same-field (Code c w) ns nm ms e = rw (e refl)
   same-field (Name c w) ns nm ms e = refl
   same-field (Blank c w) ns nm ms e = refl
-
-  or-right : (x y : Bool) → y ≡ true → (x || y) ≡ true
-  or-right true y e = refl
-  or-right false y e = e
 
   -- a layout fits the same, whatever is said of layer 5, unless it has codes
   pub same-fits : (L : List Field) (ns : List ℤ) (nm ms : List ℕ) → (codes L ≡ true → a ≡ b) → fits a L ns nm ms ≡ fits b L ns nm ms
@@ -346,15 +378,16 @@ module _ (a b : Bool) where
       rw (p, q)
 
 -- a layout that begins with letters and the layer code: what is written of it is of layer 5 exactly if its first number is 5
-pub layer-written : (five : Bool) (a b : ℕ) (fs : List Field) (ns : List ℤ) (nm ms z : List ℕ) → fits five (Letters a b ∷ Number 3 2 ∷ fs) ns nm ms ≡ true
-    → numberAt (textOf (Letters a b ∷ Number 3 2 ∷ fs) ns nm ms ++ z) 3 2 ≡ number.Value (getD ns 0 (pos 0))
+pub layer-written : (d : ℕ) (five : Bool) (a b c : ℕ) (fs : List Field) (ns : List ℤ) (nm ms z : List ℕ)
+    → fits five (Letters a b c ∷ Number 3 2 ∷ fs) ns nm ms ≡ true
+    → numberAt (textOf d (Letters a b c ∷ Number 3 2 ∷ fs) ns nm ms ++ z) 3 2 ≡ number.Value (getD ns 0 (pos 0))
 unfolding fits fieldFits textOf fieldText
-layer-written five a b fs ns nm ms z h =
+layer-written d five a b c fs ns nm ms z h =
     let v = getD ns 0 (pos 0) in
-    let y = textOf fs (drop 1 ns) nm ms in
+    let y = textOf d fs (drop 1 ns) nm ms in
     let q = both (leb 1 (length ns) && holds 2 v) (fits five fs (drop 1 ns) nm ms) h in
     let r = both (leb 1 (length ns)) (holds 2 v) (q .0) in
-    let i = placed (a ∷ b ∷ []) (spell 2 v) (y ++ z) 3 2 refl (spell-length 2 v) in
+    let i = placed (a ∷ secondLetter b c d ∷ []) (spell 2 v) (y ++ z) 3 2 refl (spell-length 2 v) in
     simp append-assoc (number-read _ 3 2 v (record { there = i .0; held = r .1; spelled = i .1 }))
 
 pub zero-number : (z : ℤ) → isZero z ≡ true → z ≡ pos 0
@@ -412,7 +445,7 @@ over-short g n s h (f ∷ fs) =
 pub numbers-short : (s : List ℕ) (f : Field) → length (numbersIn f s) ≤ numbersOf f
 unfolding numbersIn
 numbers-short s End = omega arith
-numbers-short s (Letters a b) = omega arith
+numbers-short s (Letters a b c) = omega arith
 numbers-short s (Number c w) = omega arith
 numbers-short s (Code c w) = omega arith
 numbers-short s (Name c w) = omega arith
@@ -421,7 +454,7 @@ numbers-short s (Blank c w) = omega arith
 pub name-short : (s : List ℕ) (f : Field) → length (nameIn f s) ≤ bytesOf f
 unfolding nameIn bytesAt
 name-short s End = omega arith
-name-short s (Letters a b) = omega arith
+name-short s (Letters a b c) = omega arith
 name-short s (Number c w) = omega arith
 name-short s (Code c w) = omega arith
 name-short s (Name c w) = rw length-take (omega arith)
@@ -430,7 +463,7 @@ name-short s (Blank c w) = omega arith
 pub marks-short : (s : List ℕ) (f : Field) → length (marksIn f s) ≤ marksOf f
 unfolding marksIn
 marks-short s End = omega arith
-marks-short s (Letters a b) = omega arith
+marks-short s (Letters a b c) = omega arith
 marks-short s (Number c w) = omega arith
 marks-short s (Code c w) = omega arith
 marks-short s (Name c w) = omega arith

@@ -1,4 +1,5 @@
--- The layout of each kind of record (RULES 4.1 to 4.7): its fields in column order, each with its first column and its width.
+-- The layout of each kind of record (RULES 4.1 to 4.7): its fields in column order, each with its first column and its width. `Letters a b c`
+-- are type letters, in columns 1 and 2: a, and behind it b or c; in all kinds but H these two are the same.
 -- RULES 3.4: each run of columns up to 72 that no other field has is one blank field. Assumes nothing.
 --   layoutOf k       the fields of kind k
 --   startOf, widthOf a field's first column, and how many columns it takes
@@ -18,7 +19,7 @@ row c w (suc n) = Number c w ∷ row (c + w) w n
 -- RULES 4.1: M. "M " 1-2; mesh code 3-8; name 9-28; layers 29-31; nodes 32-36; lines 37-41; areas 42-46; points 47-51; records 52-56
 abbrev pub meshLayout : List Field
 meshLayout =
-    Letters 77 32
+    Letters 77 32 32
     ∷ Number 3 6
     ∷ Name 9 20
     ∷ Number 29 3
@@ -30,11 +31,11 @@ meshLayout =
     ∷ Blank 57 16
     ∷ []
 
--- RULES 4.2: H. "H2" 1-2; layer code 3-4; nodes 5-9; lines 10-14; areas 15-19; points 20-24; records 25-29; first made 31-34;
+-- RULES 4.2: H. "H1" or "H2" 1-2; layer code 3-4; nodes 5-9; lines 10-14; areas 15-19; points 20-24; records 25-29; first made 31-34;
 -- last changed 36-39
 abbrev pub layerLayout : List Field
 layerLayout =
-    Letters 72 50
+    Letters 72 49 50
     ∷ Number 3 2
     ∷ Number 5 5
     ∷ Number 10 5
@@ -52,7 +53,7 @@ layerLayout =
 -- in 26-70
 abbrev pub nodeLayout : List Field
 nodeLayout =
-    Letters 78 32
+    Letters 78 32 32
     ∷ Number 3 2
     ∷ Number 5 2
     ∷ Number 7 5
@@ -66,7 +67,7 @@ nodeLayout =
 -- its link 29; left code 30-34, left area 35-39; right code 40-44, right area 45-49; points 50-55; unused 56-57 and 58-60
 abbrev pub lineLayout : List Field
 lineLayout =
-    Letters 76 32
+    Letters 76 32 32
     ∷ Number 3 2
     ∷ Number 5 2
     ∷ Number 7 5
@@ -92,7 +93,7 @@ coordinatesLayout = row 1 5 14 ++ (Blank 71 2 ∷ [])
 -- RULES 4.6: A. "A " 1-2; layer code 3-4; code 5-9; serial 10-14; X 15-19; Y 20-24; loops 25-28; lines 29-32; name 33-72
 abbrev pub areaLayout : List Field
 areaLayout =
-    Letters 65 32
+    Letters 65 32 32
     ∷ Number 3 2
     ∷ Code 5 5
     ∷ Number 10 5
@@ -119,7 +120,7 @@ layoutOf Loop = loopLayout
 -- RULES 1.4: a field's place is the column where it starts; type letters stand in columns 1 and 2
 abbrev pub startOf : Field → ℕ
 startOf End = 0
-startOf (Letters a b) = 1
+startOf (Letters a b c) = 1
 startOf (Number c w) = c
 startOf (Code c w) = c
 startOf (Name c w) = c
@@ -127,7 +128,7 @@ startOf (Blank c w) = c
 
 abbrev pub widthOf : Field → ℕ
 widthOf End = 0
-widthOf (Letters a b) = 2
+widthOf (Letters a b c) = 2
 widthOf (Number c w) = w
 widthOf (Code c w) = w
 widthOf (Name c w) = w
@@ -135,7 +136,7 @@ widthOf (Blank c w) = w
 
 abbrev pub numbersOf : Field → ℕ
 numbersOf End = 0
-numbersOf (Letters a b) = 0
+numbersOf (Letters a b c) = 0
 numbersOf (Number c w) = 1
 numbersOf (Code c w) = 1
 numbersOf (Name c w) = 0
@@ -143,7 +144,7 @@ numbersOf (Blank c w) = 0
 
 abbrev pub bytesOf : Field → ℕ
 bytesOf End = 0
-bytesOf (Letters a b) = 0
+bytesOf (Letters a b c) = 0
 bytesOf (Number c w) = 0
 bytesOf (Code c w) = 0
 bytesOf (Name c w) = w
@@ -152,7 +153,7 @@ bytesOf (Blank c w) = 0
 -- RULES 4.8: a code gives its mark
 abbrev pub marksOf : Field → ℕ
 marksOf End = 0
-marksOf (Letters a b) = 0
+marksOf (Letters a b c) = 0
 marksOf (Number c w) = 0
 marksOf (Code c w) = 1
 marksOf (Name c w) = 0

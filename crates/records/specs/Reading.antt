@@ -1,10 +1,11 @@
 -- What a record's bytes say (RULES 9.4, the reader), over any layout. Assumes nothing.
---   faultOf f s      the refusal that field f of the record s gives: 0, 3, 5 or 7
+--   faultOf f s      the refusal that field f of the record s gives: 0, 3 or 5
+--   lettersIn k s    the letters of a record of kind k: 1 or 2 for an H, 0 for any other
 --   codeIn s c w     the code in the w columns of the record s from column c on
 --   numbersIn, nameIn, marksIn   what the field adds to the record's numbers, its name and its marks
 --   firstFault L s   the first refusal along the layout L, with its column
 --   readingOf k s    the answer to a record of kind k
-use mathlib.Core.Bool.{Bool, cond, _&&_}
+use mathlib.Core.Bool.{Bool, cond, _&&_, _||_}
 use mathlib.Core.List.{List, [], _∷_, _++_}
 use Prim.Native.Nat.{ℕ, zero, suc}
 use lib.Dec.{eqb}
@@ -20,6 +21,7 @@ use Rattle.codes.specs.declared.Code as codes
 use Rattle.codes.specs.declared.Code.the-variants as code
 use Rattle.permitted.specs.Permitted.{is}
 use Rattle.records.specs.declared.Kind.{Kind}
+use Rattle.records.specs.declared.Kind.the-variants.{Mesh, Layer, Node, Line, Coordinates, Area, Loop}
 use Rattle.records.specs.declared.Field.{Field}
 use Rattle.records.specs.declared.Field.the-variants.{End, Letters, Number, Code, Name, Blank}
 use Rattle.records.specs.declared.Record.{Record}
@@ -28,9 +30,23 @@ use Rattle.records.specs.Layout.{layoutOf, startOf}
 
 -- ---- one field
 
--- RULES 6.4: 3 for letters that are not those due; 7, and then not 3, for H1 where an H is due. a, b are due and x, y stand there
-abbrev pub lettersFault : ℕ → ℕ → ℕ → ℕ → ℕ
-lettersFault a b x y = cond (eqb x a && eqb y b) 0 (cond (eqb a 72 && (eqb x 72 && eqb y 49)) 7 3)
+-- RULES 6.4: 3 for letters that are not those due. a and then b or c are due, and x, y stand there
+abbrev pub lettersFault : ℕ → ℕ → ℕ → ℕ → ℕ → ℕ
+lettersFault a b c x y = cond (eqb x a && (eqb y b || eqb y c)) 0 3
+
+-- RULES 4.8: the letters of an H are 1 for H1 and 2 for H2
+unfoldable pub headLetters : List ℕ → ℕ
+headLetters s = cond (eqb (getD s 1 0) 49) 1 2
+
+-- RULES 4.8: what a kind lacks is 0
+abbrev pub lettersIn : Kind → List ℕ → ℕ
+lettersIn Mesh s = 0
+lettersIn Layer s = headLetters s
+lettersIn Node s = 0
+lettersIn Line s = 0
+lettersIn Coordinates s = 0
+lettersIn Area s = 0
+lettersIn Loop s = 0
 
 -- RULES 3.6: the record's layer code, in columns 3-4, reads 5
 unfoldable pub inLayerFive : List ℕ → Bool
@@ -48,7 +64,7 @@ codeIn s c w = landed (inLayerFive s) (codeAt s c w)
 -- RULES 3.5: an ill-formed field is 5
 unfoldable pub faultOf : Field → List ℕ → ℕ
 faultOf End s = 0
-faultOf (Letters a b) s = lettersFault a b (getD s 0 0) (getD s 1 0)
+faultOf (Letters a b c) s = lettersFault a b c (getD s 0 0) (getD s 1 0)
 faultOf (Number c w) s = numberRefusal (numberAt s c w)
 faultOf (Code c w) s = codeRefusal (codeIn s c w)
 faultOf (Name c w) s = textRefusal (textAt isName s c w)
@@ -57,7 +73,7 @@ faultOf (Blank c w) s = textRefusal (textAt isBlanks s c w)
 -- RULES 4.8: a record's numbers in column order, its name bytes, and the marks of its codes
 unfoldable pub numbersIn : Field → List ℕ → List ℤ
 numbersIn End s = []
-numbersIn (Letters a b) s = []
+numbersIn (Letters a b c) s = []
 numbersIn (Number c w) s = valueOf (numberAt s c w) ∷ []
 numbersIn (Code c w) s = codeValue (codeIn s c w) ∷ []
 numbersIn (Name c w) s = []
@@ -65,7 +81,7 @@ numbersIn (Blank c w) s = []
 
 unfoldable pub nameIn : Field → List ℕ → List ℕ
 nameIn End s = []
-nameIn (Letters a b) s = []
+nameIn (Letters a b c) s = []
 nameIn (Number c w) s = []
 nameIn (Code c w) s = []
 nameIn (Name c w) s = bytesAt s c w
@@ -73,7 +89,7 @@ nameIn (Blank c w) s = []
 
 unfoldable pub marksIn : Field → List ℕ → List ℕ
 marksIn End s = []
-marksIn (Letters a b) s = []
+marksIn (Letters a b c) s = []
 marksIn (Number c w) s = []
 marksIn (Code c w) s = codeMark (codeIn s c w) ∷ []
 marksIn (Name c w) s = []
@@ -105,7 +121,7 @@ firstFault (f ∷ fs) s = faultAt (faultOf f s) (startOf f) (firstFault fs s)
 
 -- ---- the record
 
--- RULES 4.8: room for 16 numbers, 40 name bytes and 2 marks; what a kind lacks is 0
+-- RULES 4.8: room for 16 numbers, 40 name bytes, 2 marks and the letters; what a kind lacks is 0
 abbrev pub zeros : List ℤ
 zeros = replicate 16 (pos 0)
 
@@ -121,15 +137,21 @@ accepted r = record { number = 0; place = 0; column = 0; value = r }
 
 -- RULES 9.4: the record's number is 1; refused, the value is the named kind with all else 0
 abbrev pub refusedAt : Kind → ℕ → ℕ → Reading
-refusedAt k n c = record { number = n; place = 1; column = c; value = record { kind = k; numbers = zeros; name = noName; marks = unmarked } }
+refusedAt k n c = record {
+  number = n;
+  place = 1;
+  column = c;
+  value = record { kind = k; numbers = zeros; name = noName; marks = unmarked; letters = 0 };
+}
 
--- RULES 4.8: a record's value is its kind, its numbers, its name bytes and its marks
+-- RULES 4.8: a record's value is its kind, its numbers, its name bytes, its marks and its letters
 abbrev pub valueIn : Kind → List ℕ → Record
 valueIn k s = record {
   kind = k;
   numbers = sets zeros 0 (over numbersIn (layoutOf k) s);
   name = sets noName 0 (over nameIn (layoutOf k) s);
   marks = sets unmarked 0 (over marksIn (layoutOf k) s);
+  letters = lettersIn k s;
 }
 
 abbrev pub fieldsBy : Kind → List ℕ → ℕ → ℕ → Reading

@@ -10,7 +10,7 @@ ghost use mathlib.Core.Path.{_≡_};
 ghost use Prim.Native.Nat.{_≤_};
 ghost use lib.ListN.{getD};
 ghost use Rattle.records.specs.Layout.{meshLayout, layerLayout, nodeLayout, lineLayout, coordinatesLayout, areaLayout, loopLayout, layoutOf};
-ghost use Rattle.records.specs.Reading.{lettersFault, inLayerFive, codeIn};
+ghost use Rattle.records.specs.Reading.{lettersFault, headLetters, lettersIn, inLayerFive, codeIn};
 ghost use Rattle.records.specs.View.{recordOf, numberIn};
 ghost use Rattle.records.specs.Columns.{slotStart, slotIn};
 
@@ -25,11 +25,11 @@ pub enum Kind {
     Loop,
 }
 
-// A field of a layout, with its first column and its width: type letters, a number, a code, a name,
-// or blanks; or no field.
+// A field of a layout, with its first column and its width: a number, a code, a name, or blanks; or type
+// letters, the first and the two of which either may stand second; or no field.
 pub enum Field {
     End,
-    Letters(u8, u8),
+    Letters(u8, u8, u8),
     Number(usize, usize),
     Code(usize, usize),
     Name(usize, usize),
@@ -117,13 +117,14 @@ pub const LOOP_ENTRIES: Slots = Slots(10, 5, 12);
 
 pub const SLOT_WIDTH: usize = 5;
 
-// A record's value (RULES 4.8): its kind, its numbers in column order, its name bytes and the marks of
-// its codes. What the kind lacks is 0.
+// A record's value (RULES 4.8): its kind, its numbers in column order, its name bytes, the marks of its
+// codes and the letters of an H, 1 or 2. What the kind lacks is 0.
 pub struct Record {
     pub kind: Kind,
     pub numbers: [i32; 16],
     pub name: [u8; 40],
     pub marks: [u32; 2],
+    pub letters: u32,
 }
 
 // What reading finds: a refusal's number with its place, record and column, or 0 at 0, 0; and the
@@ -142,7 +143,7 @@ fn mesh_field(j: usize) -> Field
     ensures { λ r. ⌜ r ≡ getD meshLayout j Field.End ⌝ }
 {
     match j {
-        0 => Field::Letters(b'M', b' '),
+        0 => Field::Letters(b'M', b' ', b' '),
         1 => Field::Number(3, 6), // mesh code
         2 => Field::Name(9, 20),
         3 => Field::Number(29, 3), // layers
@@ -161,7 +162,7 @@ fn layer_field(j: usize) -> Field
     ensures { λ r. ⌜ r ≡ getD layerLayout j Field.End ⌝ }
 {
     match j {
-        0 => Field::Letters(b'H', b'2'),
+        0 => Field::Letters(b'H', b'1', b'2'),
         1 => Field::Number(3, 2), // layer
         2 => Field::Number(5, 5), // nodes
         3 => Field::Number(10, 5), // lines
@@ -182,7 +183,7 @@ fn node_field(j: usize) -> Field
     ensures { λ r. ⌜ r ≡ getD nodeLayout j Field.End ⌝ }
 {
     match j {
-        0 => Field::Letters(b'N', b' '),
+        0 => Field::Letters(b'N', b' ', b' '),
         1 => Field::Number(3, 2), // layer
         2 => Field::Number(5, 2), // item
         3 => Field::Number(7, 5), // serial
@@ -201,7 +202,7 @@ fn line_field(j: usize) -> Field
     ensures { λ r. ⌜ r ≡ getD lineLayout j Field.End ⌝ }
 {
     match j {
-        0 => Field::Letters(b'L', b' '),
+        0 => Field::Letters(b'L', b' ', b' '),
         1 => Field::Number(3, 2), // layer
         2 => Field::Number(5, 2), // item
         3 => Field::Number(7, 5), // serial
@@ -238,7 +239,7 @@ fn area_field(j: usize) -> Field
     ensures { λ r. ⌜ r ≡ getD areaLayout j Field.End ⌝ }
 {
     match j {
-        0 => Field::Letters(b'A', b' '),
+        0 => Field::Letters(b'A', b' ', b' '),
         1 => Field::Number(3, 2), // layer
         2 => Field::Code(5, 5), // code
         3 => Field::Number(10, 5), // serial
@@ -281,18 +282,42 @@ pub fn field_of(kind: Kind, j: usize) -> Field
 
 // ---- type letters
 
-// Letters `a`, `b` are due and `x`, `y` stand there: 0 where they are the same, 7 for H1 where an H
-// is due, else 3.
-pub fn letters_fault(a: u8, b: u8, x: u8, y: u8) -> u32
-    ensures { λ r. ⌜ r ≡ lettersFault a b x y ⌝ }
+// Letter `a` and then `b` or `c` are due, and `x`, `y` stand there: 0 where they are right, else 3.
+pub fn letters_fault(a: u8, b: u8, c: u8, x: u8, y: u8) -> u32
+    ensures { λ r. ⌜ r ≡ lettersFault a b c x y ⌝ }
 {
-    if (x == a) & (y == b) {
+    if (x == a) & ((y == b) | (y == c)) {
         return 0;
     }
-    if (a == 72) & ((x == 72) & (y == 49)) {
-        return 7;
-    }
     3
+}
+
+// The letters of an H: 1 for H1, an unstructured layer, and 2 for any other.
+pub fn head_letters(s: &[u8]) -> u32
+    ensures { λ r. ⌜ r ≡ headLetters (now (s .entry)) ⌝ }
+{
+    if s.len() < 2 {
+        return 2;
+    }
+    if s[1] == 49 {
+        return 1;
+    }
+    2
+}
+
+// The letters of a record of the kind; 0 where the kind has but one spelling of them, or none.
+pub fn letters_in(kind: Kind, s: &[u8]) -> u32
+    ensures { λ r. ⌜ r ≡ lettersIn kind (now (s .entry)) ⌝ }
+{
+    match kind {
+        Kind::Mesh => 0,
+        Kind::Layer => head_letters(s),
+        Kind::Node => 0,
+        Kind::Line => 0,
+        Kind::Coordinates => 0,
+        Kind::Area => 0,
+        Kind::Loop => 0,
+    }
 }
 
 // ---- codes

@@ -169,7 +169,7 @@ fn judge_record(d: Due, file: &[u8], table: &[u32], l: Layer, r: usize, marks: &
         Due::Mesh(_) => Verdict::Fine,
         Due::Layer(_) => Verdict::Fine,
         Due::Node(_, _) => Verdict::Fine,
-        Due::Line(_, last) => judge_line(file, table, l, r, last + 1, marks),
+        Due::Line(_, last, _) => judge_line(file, table, l, r, last + 1, marks),
         Due::Coordinates(_) => Verdict::Fine,
         Due::Area(_, _) => Verdict::Fine,
         Due::Loop(_, _, _) => Verdict::Fine,

@@ -33,7 +33,7 @@ fn rank_of(d: Due) -> usize
         Due::Mesh(_) => 0,
         Due::Layer(_) => 1,
         Due::Node(_, _) => 2,
-        Due::Line(_, _) => 2,
+        Due::Line(_, _, _) => 2,
         Due::Coordinates(_) => 2,
         Due::Area(_, _) => 2,
         Due::Loop(_, _, _) => 3,
@@ -96,7 +96,7 @@ fn added(d: Due, s: Sums, t: &[u8]) -> Sums
         Due::Mesh(_) => one_more(s),
         Due::Layer(_) => layer_more(s, t),
         Due::Node(_, _) => one_more(s),
-        Due::Line(_, _) => one_more(s),
+        Due::Line(_, _, _) => one_more(s),
         Due::Coordinates(_) => one_more(s),
         Due::Area(_, _) => one_more(s),
         Due::Loop(_, _, left) => {
@@ -217,7 +217,7 @@ fn judge_totals(d: Due, file: &[u8], k: usize, next: State) -> Verdict
             judge_total(t, records::LAYER_RECORDS, with_bearer(s.records), row)
         }
         Due::Node(_, _) => Verdict::Fine,
-        Due::Line(_, _) => Verdict::Fine,
+        Due::Line(_, _, _) => Verdict::Fine,
         Due::Coordinates(_) => Verdict::Fine,
         Due::Area(_, _) => {
             let s = sums_behind(2, file, k + 1, next);

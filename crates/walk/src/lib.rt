@@ -21,7 +21,7 @@ ghost use Rattle.walk.specs.Storing.{storedAt, recordWords, Roomy};
 ghost use Rattle.walk.specs.Quiet.{passed, quietAhead, countedPast, fineAhead};
 
 // A row (RULES 8.1): how many words it has, and which word is what.
-pub const ROW_LENGTH: usize = 4;
+pub const ROW_LENGTH: usize = 5;
 
 pub const HEAD_WORD: usize = 0;
 
@@ -31,13 +31,15 @@ pub const LINES_WORD: usize = 2;
 
 pub const AREAS_WORD: usize = 3;
 
+pub const LETTERS_WORD: usize = 4;
+
 // The mesh that the walk is in: its code, and how many of its layers have not begun.
 pub struct MeshPart {
     pub code: usize,
     pub layers: usize,
 }
 
-// The layer: its code, its totals, and how many of each came.
+// The layer: its code, its totals, how many of each came, and its letters.
 pub struct LayerPart {
     pub code: usize,
     pub nodes: usize,
@@ -46,6 +48,7 @@ pub struct LayerPart {
     pub line: usize,
     pub areas: usize,
     pub area: usize,
+    pub letters: u32,
 }
 
 // The line: how many of its points are left.
@@ -115,7 +118,7 @@ pub fn due(s: State) -> Due
         return Due::Node(s.layer.code, s.layer.node);
     }
     if s.layer.line < s.layer.lines {
-        return Due::Line(s.layer.code, s.layer.line);
+        return Due::Line(s.layer.code, s.layer.line, s.layer.letters);
     }
     if s.layer.area < s.layer.areas {
         return Due::Area(s.layer.code, s.layer.area);
@@ -140,6 +143,7 @@ pub fn at_start() -> State
             line: 0,
             areas: 0,
             area: 0,
+            letters: 0,
         },
         line: LinePart { points: 0 },
         area: AreaPart {
@@ -186,6 +190,7 @@ fn layer_part(t: &[u8]) -> LayerPart
         line: 0,
         areas: size_at(t, records::LAYER_AREAS),
         area: 0,
+        letters: records::head_letters(t),
     }
 }
 
@@ -457,7 +462,7 @@ fn counted(c: Counts, d: Due, t: &[u8]) -> Counts
             e.nodes = c.nodes + 1;
             e
         }
-        Due::Line(_, _) => {
+        Due::Line(_, _, _) => {
             e.lines = c.lines + 1;
             e
         }
@@ -502,7 +507,7 @@ fn judge_last(d: Due, row: u32) -> Verdict
         Due::Mesh(_) => Verdict::Fine,
         Due::Layer(_) => cut_off(row),
         Due::Node(_, _) => cut_off(row),
-        Due::Line(_, _) => cut_off(row),
+        Due::Line(_, _, _) => cut_off(row),
         Due::Coordinates(_) => cut_off(row),
         Due::Area(_, _) => cut_off(row),
         Due::Loop(_, _, _) => cut_off(row),
@@ -594,15 +599,24 @@ pub fn walk_file(file: &[u8]) -> Walked
 // ---- the table
 
 // The words of a row, from `at` on.
-fn put_row(table: &mut [u32], at: usize, h: u32, nodes: usize, lines: usize, areas: usize)
+fn put_row(
+    table: &mut [u32],
+    at: usize,
+    h: u32,
+    nodes: usize,
+    lines: usize,
+    areas: usize,
+    letters: u32,
+)
     requires { ⌜ at + rowLength ≤ length (now table) ⌝ }
     requires { ⌜ (nodes ≤ 999999) × (lines ≤ 999999) × (areas ≤ 999999) ⌝ }
-    ensures { λ _. ⌜ now (table .exit) ≡ sets (now (table .entry)) at (rowOf h nodes lines areas) ⌝ }
+    ensures { λ _. ⌜ now (table .exit) ≡ sets (now (table .entry)) at (rowOf h nodes lines areas letters) ⌝ }
 {
     table[at + HEAD_WORD] = h;
     table[at + NODES_WORD] = nodes as u32;
     table[at + LINES_WORD] = lines as u32;
     table[at + AREAS_WORD] = areas as u32;
+    table[at + LETTERS_WORD] = letters;
 }
 
 // Where the sections of the table begin: the lines' and the areas'. The rows' is 0.
@@ -622,10 +636,19 @@ fn put_record(table: &mut [u32], d: Due, t: &[u8], row: u32, c: Counts, b: Bases
             let nodes = size_at(t, records::LAYER_NODES);
             let lines = size_at(t, records::LAYER_LINES);
             let areas = size_at(t, records::LAYER_AREAS);
-            put_row(table, ROW_LENGTH * c.layers, row, nodes, lines, areas);
+            let letters = records::head_letters(t);
+            put_row(
+                table,
+                ROW_LENGTH * c.layers,
+                row,
+                nodes,
+                lines,
+                areas,
+                letters,
+            );
         }
         Due::Node(_, _) => {}
-        Due::Line(_, _) => {
+        Due::Line(_, _, _) => {
             table[b.lines + c.lines] = row;
         }
         Due::Coordinates(_) => {}

@@ -25,12 +25,12 @@ abbrev μ-loop : tie.MeasureT-loop
 
 -- the field is type letters
 letters-is : (c : tie.After-f Inv-loop μ-loop)
-    → Letters (c .f .given .0 .0) (c .f .given .0 .1 .0)
+    → Letters (c .f .given .0 .0) (c .f .given .0 .1 .0) (c .f .given .0 .1 .1 .0)
     ≡ getD (layoutOf (c .before .before .before .before .before .args .kind)) (c .before .before .before .loop .j) End
 letters-is c = sym (c .f .given .1) ∙ c .before .before .field-of .ensures
 
 letters-room : (c : tie.After-f Inv-loop μ-loop)
-    → Room (layoutOf (c .before .before .before .before .before .args .kind)) (Letters (c .f .given .0 .0) (c .f .given .0 .1 .0))
+    → Room (layoutOf (c .before .before .before .before .before .args .kind)) (Letters (c .f .given .0 .0) (c .f .given .0 .1 .0) (c .f .given .0 .1 .1 .0))
     (c .before .before .before .loop .n) (c .before .before .before .loop .m) (c .before .before .before .loop .q) (c .before .before .before .loop .j)
 letters-room c = room (c .before .before .before .loop .inv) _ (letters-is c) refl
 
@@ -96,13 +96,17 @@ field-of-requires c κs = search needs
 enum-told : tie.Need-enum-told Inv-loop μ-loop
 enum-told c = search needs
 
+letters-in-requires : tie.Need-letters-in-requires Inv-loop μ-loop
+letters-in-requires c κs = search needs
+
 taken-requires : tie.Need-taken-requires Inv-loop μ-loop
 taken-requires c κs = search needs
 
 returns : tie.Need-returns Inv-loop μ-loop
 returns c =
     c .taken .ensures
-    ∙ accept _ (c .before .before .before .before .loop .inv) (sym (c .before .enum-told .given .1) ∙ c .before .before .before .field-of .ensures)
+    ∙ accept _ (c .before .before .before .before .before .loop .inv)
+    (sym (c .before .before .enum-told .given .1) ∙ c .before .before .before .before .field-of .ensures) (c .before .letters-in .ensures)
 
 enum-known-f : tie.Need-enum-known-f Inv-loop μ-loop
 enum-known-f c = search needs
@@ -123,7 +127,7 @@ returns-2 : tie.Need-returns-2 Inv-loop μ-loop
 returns-2 c =
     let p = c .before .before .before .before .before .before in
     c .refused .ensures
-    ∙ letters-refused _ (p .before .before .before .loop .inv) _ _ (letters-is p) (c .before .before .letters-fault .ensures) (c .before .if1 .taken)
+    ∙ letters-refused _ (p .before .before .before .loop .inv) _ _ _ (letters-is p) (c .before .before .letters-fault .ensures) (c .before .if1 .taken)
 
 add-j : tie.Need-add-j Inv-loop μ-loop
 add-j c = omega (arith, letters-room (c .before .before .before .before .before))
@@ -134,7 +138,7 @@ loop-less c = omega (arith, letters-room (c .before .before .before .before .bef
 loop-again : tie.Need-loop-again Inv-loop μ-loop
 loop-again c =
     let p = c .before .before .before .before .before in
-    letters-next _ (p .before .before .before .loop .inv) _ _ (letters-is p) (c .before .letters-fault .ensures) (c .if1 .left)
+    letters-next _ (p .before .before .before .loop .inv) _ _ _ (letters-is p) (c .before .letters-fault .ensures) (c .if1 .left)
 
 enum-known-f-2 : tie.Need-enum-known-f-2 Inv-loop μ-loop
 enum-known-f-2 c = search needs
@@ -331,6 +335,7 @@ read-fields-spec =
     loop-holds
     field-of-requires
     enum-told
+    letters-in-requires
     taken-requires
     returns
     enum-known-f

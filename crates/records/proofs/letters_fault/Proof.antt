@@ -1,4 +1,4 @@
--- `records::letters_fault` meets its contract: its tests are the definition's. Assumes nothing.
+-- `records::letters_fault` meets its contract: its test is the definition's. Assumes nothing.
 use Rattle.records.proofs.letters_fault.Statement.{statement}
 use Rattle.records.proofs.letters_fault.Tie as tie
 
@@ -6,10 +6,7 @@ returns : tie.Need-returns
 returns c = rw (c .if1 .taken)
 
 returns-2 : tie.Need-returns-2
-returns-2 c = rw (c .before .if1 .left, c .if2 .taken)
-
-returns-3 : tie.Need-returns-3
-returns-3 c = rw (c .before .if1 .left, c .if2 .left)
+returns-2 c = rw (c .if1 .left)
 
 pub letters-fault-spec : {M : Type 1} → statement M
-letters-fault-spec = tie.close (tie.spec returns returns-2 returns-3)
+letters-fault-spec = tie.close (tie.spec returns returns-2)
