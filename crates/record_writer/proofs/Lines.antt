@@ -16,7 +16,8 @@ use Rattle.codes.specs.Code.{codeHolds, spellCode, codeFits}
 use Rattle.fields.specs.declared.Writing as writings
 use Rattle.fields.specs.declared.Writing.the-variants as writing
 use Rattle.records.specs.Layout.{layoutOf, startOf, widthOf, numbersOf, bytesOf, marksOf}
-use Rattle.records.specs.Writing.{fieldText, markFits, fieldFits, textOf, noNumbers, noBytes, fits, ofLayerFive, fitsAll, recordBytes, SpelledAs, Written}
+use Rattle.records.specs.Writing.{secondLetter, fieldText, markFits, fieldFits, textOf, noNumbers, noBytes, fits, ofLayerFive, fieldsFit, lettersFit, fitsAll}
+use Rattle.records.specs.Writing.{recordBytes, SpelledAs, Written}
 use Rattle.records.specs.declared.Field.the-variants.{End, Letters, Number, Code, Name, Blank}
 use Rattle.records.specs.declared.Field.{Field}
 use Rattle.records.specs.declared.Kind.{Kind}
@@ -26,8 +27,8 @@ use Rattle.fields.proofs.Places.{inside-fits, put-length}
 use Rattle.records.proofs.Layouts.{Ahead, ahead, Room, split, total-split, room-ahead, next-ahead, isField, tiles, Tile, tile, tiles-end, fitting, off-layout}
 use Rattle.records.proofs.RoundTrips.{field-length}
 
--- the columns up to `at` are written, and what is left decides and gives the rest
-pub record Lines (L : List Field) (ns : List ℤ) (nm ms out : List ℕ) (n m q j : ℕ) : Type 0 where
+-- the columns up to `at` are written, and what is left decides and gives the rest; d are the letters
+pub record Lines (d : ℕ) (L : List Field) (ns : List ℤ) (nm ms out : List ℕ) (n m q j : ℕ) : Type 0 where
   pub left : Ahead L n m q j
   pub long : length out ≡ 74
   pub many : length ns ≡ 16
@@ -36,11 +37,11 @@ pub record Lines (L : List Field) (ns : List ℤ) (nm ms out : List ℕ) (n m q 
   pub at : ℕ
   pub tiled : tiles (at + 1) (drop j L) ≡ true
   pub whole : fits (ofLayerFive ns) L ns nm ms ≡ fits (ofLayerFive ns) (drop j L) (drop n ns) (drop m nm) (drop q ms)
-  pub text : take at out ++ textOf (drop j L) (drop n ns) (drop m nm) (drop q ms) ≡ textOf L ns nm ms
+  pub text : take at out ++ textOf d (drop j L) (drop n ns) (drop m nm) (drop q ms) ≡ textOf d L ns nm ms
 
-pub start : (k : Kind) (ns : List ℤ) (nm ms out : List ℕ) → length ns ≡ 16 → length nm ≡ 40 → length ms ≡ 2 → length out ≡ 74
-    → Lines (layoutOf k) ns nm ms out 0 0 0 0
-start k ns nm ms out l w x o = record {
+pub start : (d : ℕ) (k : Kind) (ns : List ℤ) (nm ms out : List ℕ) → length ns ≡ 16 → length nm ≡ 40 → length ms ≡ 2 → length out ≡ 74
+    → Lines d (layoutOf k) ns nm ms out 0 0 0 0
+start d k ns nm ms out l w x o = record {
   left = ahead k;
   long = o;
   many = l;
@@ -85,7 +86,7 @@ ended s l =
     ∙ rw (← e, append-assoc)
     (ap (λ x. take 72 s ++ (13 ∷ 10 ∷ x)) (drop-of-length-le (set s 72 13) {i = 74} (rw length-set (omega arith))))
 
-module _ {L : List Field} {ns : List ℤ} {nm ms out : List ℕ} {n m q j : ℕ} (g : Lines L ns nm ms out n m q j) where
+module _ {d : ℕ} {L : List Field} {ns : List ℤ} {nm ms out : List ℕ} {n m q j : ℕ} (g : Lines d L ns nm ms out n m q j) where
   module _ (f : Field) (e : f ≡ getD L j End) (i : isField f ≡ true) where
     pub room : Room L f n m q j
     room = room-ahead L j f e i (g .left)
@@ -102,11 +103,11 @@ module _ {L : List Field} {ns : List ℤ} {nm ms out : List ℕ} {n m q j : ℕ}
     -- a field that fits is written: the loop goes on behind it
     pub next : (n′ m′ q′ : ℕ) → n′ ≡ n + numbersOf f → m′ ≡ m + bytesOf f → q′ ≡ q + marksOf f → (out′ : List ℕ)
         → fieldFits (ofLayerFive ns) f (drop n ns) (drop m nm) (drop q ms) ≡ true
-        → out′ ≡ put out (startOf f) (fieldText f (drop n ns) (drop m nm) (drop q ms)) → Lines L ns nm ms out′ n′ m′ q′ (j + 1)
+        → out′ ≡ put out (startOf f) (fieldText d f (drop n ns) (drop m nm) (drop q ms)) → Lines d L ns nm ms out′ n′ m′ q′ (j + 1)
     unfolding fits textOf
     next n′ m′ q′ p r x out′ y o =
-        let t = fieldText f (drop n ns) (drop m nm) (drop q ms) in
-        let l = field-length (ofLayerFive ns) f (drop n ns) (drop m nm) (drop q ms) y in
+        let t = fieldText d f (drop n ns) (drop m nm) (drop q ms) in
+        let l = field-length d (ofLayerFive ns) f (drop n ns) (drop m nm) (drop q ms) y in
         let c : g .at + 1 + widthOf f ≡ g .at + widthOf f + 1 = omega arith in
         record {
           left = next-ahead L j f e i (g .left) n′ m′ q′ p r x;
@@ -140,20 +141,21 @@ module _ {L : List Field} {ns : List ℤ} {nm ms out : List ℕ} {n m q j : ℕ}
   -- no field is left: the unused entries decide, and the line ends
   pub ends : End ≡ getD L j End
       → (fits (ofLayerFive ns) L ns nm ms ≡ noNumbers (drop n ns) && (noBytes (drop m nm) && noBytes (drop q ms)))
-      × (set (set out 72 13) 73 10 ≡ textOf L ns nm ms ++ (13 ∷ 10 ∷ []))
+      × (set (set out 72 13) 73 10 ≡ textOf d L ns nm ms ++ (13 ∷ 10 ∷ []))
   unfolding fits textOf tiles
   ends e =
-      let d : drop j L ≡ [] = drop-of-length-le L (off-layout L j (g .left .fits .tiled) e) in
-      let a : g .at ≡ 72 = end-column (g .at) (rw d at (g .tiled)) in
-      let t : take (g .at) out ++ [] ≡ textOf L ns nm ms = rw d at (g .text) in
-      (g .whole ∙ rw d, ended out (g .long) ∙ rw (← t, a, append-nil))
+      let z : drop j L ≡ [] = drop-of-length-le L (off-layout L j (g .left .fits .tiled) e) in
+      let a : g .at ≡ 72 = end-column (g .at) (rw z at (g .tiled)) in
+      let t : take (g .at) out ++ [] ≡ textOf d L ns nm ms = rw z at (g .text) in
+      (g .whole ∙ rw z, ended out (g .long) ∙ rw (← t, a, append-nil))
 
   -- ---- by the sort of the field
 
-  module _ (a b : ℕ) (e : Letters a b ≡ getD L j End) where
-    pub letters-next : Lines L ns nm ms (set (set out 0 a) 1 b) n m q (j + 1)
+  module _ (a b c : ℕ) (e : Letters a b c ≡ getD L j End) where
+    pub letters-next : {y : ℕ} → y ≡ secondLetter b c d → Lines d L ns nm ms (set (set out 0 a) 1 y) n m q (j + 1)
     unfolding fieldFits fieldText
-    letters-next = next (Letters a b) e refl n m q (omega arith) (omega arith) (omega arith) (set (set out 0 a) 1 b) refl (two-put out a b (g .long))
+    letters-next {y} s =
+        next (Letters a b c) e refl n m q (omega arith) (omega arith) (omega arith) (set (set out 0 a) 1 y) refl (rw s (two-put out a (secondLetter b c d) (g .long)))
 
   number-first : {v : ℤ} → v ≡ getD ns n (pos 0) → getD (drop n ns) 0 (pos 0) ≡ v
   number-first p = getD-drop n ns 0 (pos 0) ∙ rw (add-zero, p)
@@ -166,11 +168,11 @@ module _ {L : List Field} {ns : List ℤ} {nm ms out : List ℕ} {n m q j : ℕ}
         let l : 1 ≤ length (drop n ns) = rw length-drop (omega (arith, room (Number c w) e refl .numbers, g .many)) in
         rw (le-leb 1 (length (drop n ns)) l, number-first p, inside (Number c w) e refl)
 
-    pub number-next : r ≡ writing.Done → Lines L ns nm ms out′ (n + 1) m q (j + 1)
+    pub number-next : r ≡ writing.Done → Lines d L ns nm ms out′ (n + 1) m q (j + 1)
     unfolding fieldText
     number-next z =
-        let d = wrote-done h z in
-        next (Number c w) e refl (n + 1) m q refl (omega arith) (omega arith) out′ (number-fit ∙ d .0) (d .1 ∙ rw (number-first p))
+        let o = wrote-done h z in
+        next (Number c w) e refl (n + 1) m q refl (omega arith) (omega arith) out′ (number-fit ∙ o .0) (o .1 ∙ rw (number-first p))
 
     pub number-unfit : r ≡ writing.Refused → fits (ofLayerFive ns) L ns nm ms ≡ false
     number-unfit z = unfit (Number c w) e refl (number-fit ∙ wrote-refused h z .0)
@@ -205,11 +207,11 @@ module _ {L : List Field} {ns : List ℤ} {nm ms out : List ℕ} {n m q j : ℕ}
           and-true true = refl
           and-true false = refl
 
-      pub code-next : r ≡ writing.Done → Lines L ns nm ms out′ (n + 1) m (q + 1) (j + 1)
+      pub code-next : r ≡ writing.Done → Lines d L ns nm ms out′ (n + 1) m (q + 1) (j + 1)
       unfolding fieldText
       code-next z =
-          let d = wrote-done h z in
-          next (Code c w) e refl (n + 1) m (q + 1) refl (omega arith) refl out′ (code-whole ∙ d .0) (d .1 ∙ rw (number-first p, mark-first))
+          let o = wrote-done h z in
+          next (Code c w) e refl (n + 1) m (q + 1) refl (omega arith) refl out′ (code-whole ∙ o .0) (o .1 ∙ rw (number-first p, mark-first))
 
       pub code-unfit : r ≡ writing.Refused → fits (ofLayerFive ns) L ns nm ms ≡ false
       code-unfit z = unfit (Code c w) e refl (code-whole ∙ wrote-refused h z .0)
@@ -227,22 +229,22 @@ module _ {L : List Field} {ns : List ℤ} {nm ms out : List ℕ} {n m q j : ℕ}
         let l : w ≤ length (drop m nm) = rw length-drop (omega (arith, room (Name c w) e refl .names, g .wide)) in
         rw (le-leb w (length (drop m nm)) l, inside (Name c w) e refl, eq-eqb _ w (length-take-le w (drop m nm) l))
 
-    pub name-next : r ≡ writing.Done → Lines L ns nm ms out′ n (m + w) q (j + 1)
+    pub name-next : r ≡ writing.Done → Lines d L ns nm ms out′ n (m + w) q (j + 1)
     unfolding fieldText
     name-next z =
-        let d = wrote-done (rw name-part at h) z in
-        next (Name c w) e refl n (m + w) q (omega arith) refl (omega arith) out′ (name-fit ∙ d .0) (d .1)
+        let o = wrote-done (rw name-part at h) z in
+        next (Name c w) e refl n (m + w) q (omega arith) refl (omega arith) out′ (name-fit ∙ o .0) (o .1)
 
     pub name-unfit : r ≡ writing.Refused → fits (ofLayerFive ns) L ns nm ms ≡ false
     name-unfit z = unfit (Name c w) e refl (name-fit ∙ wrote-refused (rw name-part at h) z .0)
 
   module _ (c w : ℕ) (e : Blank c w ≡ getD L j End) {r : writings.Writing} {out′ : List ℕ} (h : Wrote (isInside out c w) out c (replicate w 32) r out′) where
-    pub blank-next : Lines L ns nm ms out′ n m q (j + 1)
+    pub blank-next : Lines d L ns nm ms out′ n m q (j + 1)
     unfolding fieldFits fieldText
     blank-next = next (Blank c w) e refl n m q (omega arith) (omega arith) (omega arith) out′ refl (h .buffer ∙ rw (inside (Blank c w) e refl))
 
--- a value that does not fit has no line
-pub refused-line : (r : Record) (line : List ℕ) → fitsAll r ≡ false → SpelledAs r false line
+-- fields that do not fit have no line
+pub refused-line : (r : Record) (line : List ℕ) → fieldsFit r ≡ false → SpelledAs r false line
 refused-line r line h = record {
   answer = sym h;
   text = λ y.
@@ -257,8 +259,22 @@ module _ (before : List ℕ) (r : Record) where
   written-short h = record { answer = rw (lt-leb _ _ h); buffer = rw (lt-leb _ _ h) }
 
   module _ (h : 74 ≤ length before) where
-    pub written-unfit : fitsAll r ≡ false → Written before r 20 before
-    written-unfit n = record { answer = rw (le-leb _ _ h, n); buffer = rw (le-leb _ _ h, n) }
+    unfit-by : fitsAll r ≡ false → Written before r 20 before
+    unfit-by n = record { answer = rw (le-leb _ _ h, n); buffer = rw (le-leb _ _ h, n) }
 
-    pub written-all : fitsAll r ≡ true → (after : List ℕ) → after ≡ recordBytes r ++ drop 74 before → Written before r 0 after
-    written-all y after e = record { answer = rw (le-leb _ _ h, y); buffer = rw (le-leb _ _ h, y) e }
+    -- the letters do not fit
+    pub letters-unfit : {t : Bool} → t ≡ lettersFit (r .kind) (r .letters) → t ≡ false → Written before r 20 before
+    unfolding fitsAll
+    letters-unfit e n = unfit-by (rw (← e, n))
+
+    -- they do, and the fields do not
+    module _ {t : Bool} (e : t ≡ lettersFit (r .kind) (r .letters)) (y : t ≡ true) where
+      all-by : {u : Bool} → fieldsFit r ≡ u → fitsAll r ≡ u
+      unfolding fitsAll
+      all-by f = rw (← e, y) f
+
+      pub written-unfit : fieldsFit r ≡ false → Written before r 20 before
+      written-unfit n = unfit-by (all-by n)
+
+      pub written-all : fieldsFit r ≡ true → (after : List ℕ) → after ≡ recordBytes r ++ drop 74 before → Written before r 0 after
+      written-all f after q = record { answer = rw (le-leb _ _ h, all-by f); buffer = rw (le-leb _ _ h, all-by f) q }

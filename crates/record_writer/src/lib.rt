@@ -8,7 +8,7 @@ use records::Kind;
 use records::Record;
 ghost use mathlib.Core.Path.{_≡_};
 ghost use lib.ListN.{drop};
-ghost use Rattle.records.specs.Writing.{noNumbers, noBytes, markFits, SpelledAs, Written};
+ghost use Rattle.records.specs.Writing.{noNumbers, noBytes, markFits, secondLetter, lettersFit, SpelledAs, Written};
 
 // A record's 74 bytes, where its value fits.
 struct Spelled {
@@ -167,7 +167,8 @@ pub fn write_record(buf: &mut [u8], r: Record) -> u32
     if buf.len() < 74 {
         return 21;
     }
-    if !may_letter(r.kind, r.letters) {
+    let kind = r.kind;
+    if !may_letter(kind, r.letters) {
         return 20;
     }
     let spelled = spell_record(r);

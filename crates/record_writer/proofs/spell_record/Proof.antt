@@ -9,7 +9,7 @@ use mir.Syntax.{w32}
 use borrow.Author.Needs.{needs}
 use borrow.Author.Tests.{not-true, not-false}
 use Rattle.records.specs.Layout.{layoutOf}
-use Rattle.records.specs.Writing.{markFits, ofLayerFive, fitsAll, recordBytes}
+use Rattle.records.specs.Writing.{markFits, ofLayerFive, fieldsFit, recordBytes}
 use Rattle.records.specs.declared.Field.the-variants.{End, Letters, Number, Code, Name, Blank}
 use Rattle.records.proofs.Layouts.{Room}
 use Rattle.record_writer.proofs.Lines.{refused-line, Lines, start, room, ends, letters-next}
@@ -18,19 +18,19 @@ use Rattle.record_writer.proofs.spell_record.Statement.{statement}
 use Rattle.record_writer.proofs.spell_record.Tie as tie
 
 abbrev Inv-loop : tie.InvT-loop
-Inv-loop kind numbers name marks line₀ n₀ m₀ q₀ j₀ line n m q j = Lines (layoutOf kind) numbers name marks line n m q j
+Inv-loop kind numbers name marks letters line₀ n₀ m₀ q₀ j₀ line n m q j = Lines letters (layoutOf kind) numbers name marks line n m q j
 
 abbrev μ-loop : tie.MeasureT-loop
-μ-loop kind numbers name marks line₀ n₀ m₀ q₀ j₀ line n m q j = length (layoutOf kind) - j
+μ-loop kind numbers name marks letters line₀ n₀ m₀ q₀ j₀ line n m q j = length (layoutOf kind) - j
 
 -- the field is type letters
 letters-is : (c : tie.After-f Inv-loop μ-loop)
-    → Letters (c .f .given .0 .0) (c .f .given .0 .1 .0)
+    → Letters (c .f .given .0 .0) (c .f .given .0 .1 .0) (c .f .given .0 .1 .1 .0)
     ≡ getD (layoutOf (c .before .before .before .before .before .before .before .args .r .kind)) (c .before .before .before .loop .j) End
 letters-is c = sym (c .f .given .1) ∙ c .before .before .field-of .ensures
 
 letters-room : (c : tie.After-f Inv-loop μ-loop)
-    → Room (layoutOf (c .before .before .before .before .before .before .before .args .r .kind)) (Letters (c .f .given .0 .0) (c .f .given .0 .1 .0))
+    → Room (layoutOf (c .before .before .before .before .before .before .before .args .r .kind)) (Letters (c .f .given .0 .0) (c .f .given .0 .1 .0) (c .f .given .0 .1 .1 .0))
     (c .before .before .before .loop .n) (c .before .before .before .loop .m) (c .before .before .before .loop .q) (c .before .before .before .loop .j)
 letters-room c = room (c .before .before .before .loop .inv) _ (letters-is c) refl
 
@@ -86,7 +86,7 @@ mark-may : (c : tie.After-may-mark Inv-loop μ-loop)
 mark-may c = rw (c .before .is .ensures, toZ-ofZ {w = w32} (record { sfits = c .before .before .is-arg .given })) at (c .may-mark .ensures)
 
 loop-holds : tie.Need-loop-holds Inv-loop μ-loop
-loop-holds c = start _ _ _ _ _ (search needs) (search needs) (search needs) (search needs)
+loop-holds c = start _ _ _ _ _ _ (search needs) (search needs) (search needs) (search needs)
 
 field-of-requires : tie.Need-field-of-requires Inv-loop μ-loop
 field-of-requires c κs = search needs
@@ -119,7 +119,7 @@ no-marks-requires : tie.Need-no-marks-requires Inv-loop μ-loop
 no-marks-requires c κs = search needs
 
 returns : tie.Need-returns Inv-loop μ-loop
-unfolding fitsAll recordBytes
+unfolding fieldsFit recordBytes
 returns c =
     let f = c .before .before .before .before .before .before .before .before in
     let d = ends (f .before .loop .inv) (sym (c .before .before .before .before .before .before .enum-told .given .1) ∙ f .field-of .ensures) in
@@ -134,17 +134,20 @@ enum-known-f c = search needs
 array-write-line-3 : tie.Need-array-write-line-3 Inv-loop μ-loop
 array-write-line-3 c = omega (arith, c .before .before .before .before .loop .inv .long)
 
+second-letter-requires : tie.Need-second-letter-requires Inv-loop μ-loop
+second-letter-requires c κs = search needs
+
 array-write-line-4 : tie.Need-array-write-line-4 Inv-loop μ-loop
 array-write-line-4 c = search needs
 
 add-j : tie.Need-add-j Inv-loop μ-loop
-add-j c = omega (arith, letters-room (c .before))
+add-j c = omega (arith, letters-room (c .before .before))
 
 loop-less : tie.Need-loop-less Inv-loop μ-loop
-loop-less c = omega (arith, letters-room (c .before))
+loop-less c = omega (arith, letters-room (c .before .before))
 
 loop-again : tie.Need-loop-again Inv-loop μ-loop
-loop-again c = letters-next (c .before .before .before .before .loop .inv) _ _ (letters-is (c .before))
+loop-again c = letters-next (c .before .before .before .before .before .loop .inv) _ _ _ (letters-is (c .before .before)) (c .second-letter .ensures)
 
 enum-known-f-2 : tie.Need-enum-known-f-2 Inv-loop μ-loop
 enum-known-f-2 c = search needs
@@ -168,7 +171,7 @@ enum-told-3 : tie.Need-enum-told-3 Inv-loop μ-loop
 enum-told-3 c = search needs
 
 returns-2 : tie.Need-returns-2 Inv-loop μ-loop
-unfolding fitsAll
+unfolding fieldsFit
 returns-2 c =
     let p = c .before .before .before .before in
     let d = p .before .before .before in
@@ -222,7 +225,7 @@ enum-told-5 : tie.Need-enum-told-5 Inv-loop μ-loop
 enum-told-5 c = search needs
 
 returns-3 : tie.Need-returns-3 Inv-loop μ-loop
-unfolding fitsAll
+unfolding fieldsFit
 returns-3 c =
     let p = c .before .before .before .before .before .before .before .before in
     refused-line _ _
@@ -278,7 +281,7 @@ may-mark-requires : tie.Need-may-mark-requires Inv-loop μ-loop
 may-mark-requires c κs = search needs
 
 returns-4 : tie.Need-returns-4 Inv-loop μ-loop
-unfolding fitsAll
+unfolding fieldsFit
 returns-4 c =
     let d = c .before .before .before .before .before in
     refused-line _ _ (mark-unfit (d .before .before .before .loop .inv) _ _ (code-is d) refl (mark-may (c .before)) (not-true _ (c .if1 .taken)))
@@ -304,7 +307,7 @@ enum-told-7 : tie.Need-enum-told-7 Inv-loop μ-loop
 enum-told-7 c = search needs
 
 returns-5 : tie.Need-returns-5 Inv-loop μ-loop
-unfolding fitsAll
+unfolding fieldsFit
 returns-5 c =
     let p = c .before .before .before .before in
     let a = p .before .before .before in
@@ -353,6 +356,7 @@ spell-record-spec =
     returns
     enum-known-f
     array-write-line-3
+    second-letter-requires
     array-write-line-4
     add-j
     loop-less
