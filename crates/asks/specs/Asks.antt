@@ -11,7 +11,7 @@ use lib.Dec.{ltb, eqb}
 use lib.IntN.{ℤ, pos}
 use lib.ListN.{getD}
 use Rattle.permitted.specs.Permitted.{natural, size, within, is, atLeast, isMeshCode, followsMesh, isLayerCode, followsLayer, isDate, isCoordinate}
-use Rattle.permitted.specs.Permitted.{isNodeItem, isFrame, isLineItem, isLineKind, isLink, isCode, isSide, isAreaCode, isSlot, isPoint, isNext}
+use Rattle.permitted.specs.Permitted.{isNodeItem, isFrame, isLineItem, isLineKind, isLink, isCode, isSide, ofAreas, isAreaCode, isSlot, isPoint, isNext}
 use Rattle.permitted.specs.Permitted.{isLoopSerial}
 
 -- RULES 5: 6 for a value that is not permitted; 8 for one that is out of step
@@ -48,13 +48,13 @@ meshAsks last ns =
     ∷ (permitted (natural (at ns 6)) ∷ [])  -- 52-56 records
     ∷ []
 
--- RULES 4.2: H, behind the layer `last`
-unfoldable pub layerAsks : ℕ → List ℤ → List (List Ask)
-layerAsks last ns =
+-- RULES 4.2: H, behind the layer `last`, with these letters: 1 for H1, 2 for H2
+unfoldable pub layerAsks : ℕ → ℕ → List ℤ → List (List Ask)
+layerAsks last letters ns =
     (permitted (isLayerCode (at ns 0)) ∷ inStep (followsLayer last (at ns 0)) ∷ [])  -- 3-4 layer
     ∷ (permitted (natural (at ns 1)) ∷ [])  -- 5-9 nodes
     ∷ (permitted (within 0 9999 (at ns 2)) ∷ [])  -- 10-14 lines: 0 to 9999
-    ∷ (permitted (natural (at ns 3)) ∷ [])  -- 15-19 areas
+    ∷ (permitted (ofAreas letters (at ns 3) (natural (at ns 3))) ∷ [])  -- 15-19 areas: under H1 0
     ∷ (permitted (is 0 (at ns 4)) ∷ [])  -- 20-24 points
     ∷ (permitted (natural (at ns 5)) ∷ [])  -- 25-29 records
     ∷ (permitted (isDate (at ns 6)) ∷ [])  -- 31-34 first made
@@ -73,9 +73,9 @@ nodeAsks layer last ns =
     ∷ (permitted (within 1 9 (at ns 6)) ∷ [])  -- 24-25 count: 1 to 9
     ∷ from (slotAsk (size (at ns 6)) ns 7) 0 9  -- 26-70 nine line numbers
 
--- RULES 4.4: L of a layer, behind `last` lines
-unfoldable pub lineAsks : ℕ → ℕ → List ℤ → List (List Ask)
-lineAsks layer last ns =
+-- RULES 4.4: L of a layer with these letters, behind `last` lines
+unfoldable pub lineAsks : ℕ → ℕ → ℕ → List ℤ → List (List Ask)
+lineAsks layer last letters ns =
     layerAsk layer (at ns 0)  -- 3-4 layer
     ∷ (permitted (isLineItem layer (at ns 1)) ∷ [])  -- 5-6 item
     ∷ (inStep (isNext last (at ns 2)) ∷ [])  -- 7-11 serial
@@ -84,10 +84,10 @@ lineAsks layer last ns =
     ∷ (permitted (isLink (at ns 5)) ∷ [])  -- 23 its link
     ∷ []  -- 24-28 end node
     ∷ (permitted (isLink (at ns 7)) ∷ [])  -- 29 its link
-    ∷ (permitted (isCode layer (at ns 8)) ∷ [])  -- 30-34 left code
-    ∷ (permitted (isSide (at ns 8) (at ns 9)) ∷ [])  -- 35-39 left area
-    ∷ (permitted (isCode layer (at ns 10)) ∷ [])  -- 40-44 right code
-    ∷ (permitted (isSide (at ns 10) (at ns 11)) ∷ [])  -- 45-49 right area
+    ∷ (permitted (ofAreas letters (at ns 8) (isCode layer (at ns 8))) ∷ [])  -- 30-34 left code: under H1 0
+    ∷ (permitted (ofAreas letters (at ns 9) (isSide (at ns 8) (at ns 9))) ∷ [])  -- 35-39 left area: under H1 0
+    ∷ (permitted (ofAreas letters (at ns 10) (isCode layer (at ns 10))) ∷ [])  -- 40-44 right code: under H1 0
+    ∷ (permitted (ofAreas letters (at ns 11) (isSide (at ns 10) (at ns 11))) ∷ [])  -- 45-49 right area: under H1 0
     ∷ (permitted (atLeast 2 (at ns 12)) ∷ [])  -- 50-55 points: 2 or more
     ∷ (permitted (is 0 (at ns 13)) ∷ [])  -- 56-57 unused: 0
     ∷ (permitted (is 0 (at ns 14)) ∷ [])  -- 58-60

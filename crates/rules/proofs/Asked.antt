@@ -27,7 +27,7 @@ use Rattle.rules.specs.Checks.{kindOf, askedOf, free, formChecks, valueC
 abbrev pub numberField : List Field → ℕ → Field
 numberField [] i = End
 numberField (End ∷ L) i = numberField L i
-numberField (Letters x y ∷ L) i = numberField L i
+numberField (Letters x y z ∷ L) i = numberField L i
 numberField (Number c w ∷ L) zero = Number c w
 numberField (Number c w ∷ L) (suc i) = numberField L i
 numberField (Code c w ∷ L) zero = Code c w
@@ -49,7 +49,7 @@ row-number c w (suc n) L (suc i) h =
 readTo : List Field → ℕ → List ℤ → List ℕ → ℕ → List ℤ
 readTo [] n ns t i = ns
 readTo (End ∷ L) n ns t i = readTo L n ns t i
-readTo (Letters x y ∷ L) n ns t i = readTo L n ns t i
+readTo (Letters x y z ∷ L) n ns t i = readTo L n ns t i
 readTo (Number c w ∷ L) n ns t zero = withNumber ns n t c w
 readTo (Number c w ∷ L) n ns t (suc i) = readTo L (suc n) (withNumber ns n t c w) t i
 readTo (Code c w ∷ L) n ns t zero = withCode ns n t c w
@@ -75,7 +75,7 @@ module _ (t : List ℕ) where
   unfolding readTo total
   number-read [] n ns i e l = no-number e
   number-read (End ∷ L) n ns i e l = number-read L n ns i e (omega arith)
-  number-read (Letters x y ∷ L) n ns i e l = number-read L n ns i e (omega arith)
+  number-read (Letters x y z ∷ L) n ns i e l = number-read L n ns i e (omega arith)
   number-read (Number c w ∷ L) n ns zero {c = x} {w = y} e l =
       let p : c ≡ x = cc in
       let q : w ≡ y = cc in
@@ -97,7 +97,7 @@ module _ (t : List ℕ) where
   unfolding along readTo
   number-holds a [] n ns h i e = no-number e
   number-holds a (End ∷ L) n ns h i e = number-holds a L n ns h i e
-  number-holds a (Letters x y ∷ L) n ns h i e = number-holds a L n ns (both-hold (formChecks (Letters x y) t) _ h .1) i e
+  number-holds a (Letters x y z ∷ L) n ns h i e = number-holds a L n ns (both-hold (formChecks (Letters x y z) t) _ h .1) i e
   number-holds a (Number c w ∷ L) n ns h zero {c = x} {w = y} e =
       let p : c ≡ x = cc in
       let q : w ≡ y = cc in
@@ -123,14 +123,14 @@ module _ (d : Due) (t : List ℕ) (h : Holding (checksOf d t)) (i : ℕ) {c w : 
   -- THE NUMBER IS WELL FORMED
   pub number-formed : free 5 (Number c w) t ≡ true
   unfolding checksOf formChecks
-  number-formed = number-holds t (askedOf d) (layoutOf (kindOf d)) 0 zeros h i e .0 .0
+  number-formed = number-holds t (askedOf d t) (layoutOf (kindOf d)) 0 zeros h i e .0 .0
 
   -- WHAT IS ASKED OF IT HOLDS: of its value, where nothing else is looked at
-  pub number-permitted : (p : ℤ → Bool) → ((ns : List ℤ) → askedOf d i ns ≡ permitted (p (at ns i)) ∷ []) → p (valueOf (numberAt t c w)) ≡ true
+  pub number-permitted : (p : ℤ → Bool) → ((ns : List ℤ) → askedOf d t i ns ≡ permitted (p (at ns i)) ∷ []) → p (valueOf (numberAt t c w)) ≡ true
   unfolding checksOf valueChecks
   number-permitted p g =
       let L = layoutOf (kindOf d) in
       let s = readTo L 0 zeros t i in
       let z : 0 + i ≡ i = omega arith in
       let v : at s i ≡ valueOf (numberAt t c w) = rw z at (number-read t L 0 zeros i e (omega (arith, fitting (kindOf d) .numbers))) in
-      (rw (z, g s, v) at (number-holds t (askedOf d) L 0 zeros h i e .1)) .0
+      (rw (z, g s, v) at (number-holds t (askedOf d t) L 0 zeros h i e .1)) .0

@@ -1,5 +1,5 @@
 -- Stage 2 along a layout, one field at a time: what the loop of `judge_record` keeps. Assumes nothing.
-use mathlib.Core.Bool.{Bool, true, false, cond, _&&_, not}
+use mathlib.Core.Bool.{Bool, true, false, cond, _&&_, _||_, not}
 use mathlib.Core.List.{List, [], _∷_, _++_}
 use mathlib.Core.Path.{_≡_, refl, sym, _∙_}
 use Prim.Native.Nat.{ℕ, suc, _+_, _≤_, _<_}
@@ -17,7 +17,7 @@ use Rattle.fields.specs.declared.Number.the-variants as number
 use Rattle.fields.specs.declared.Text as texts
 use Rattle.fields.specs.declared.Text.the-variants as text
 use Rattle.records.specs.Layout.{layoutOf, startOf, numbersOf, total}
-use Rattle.records.specs.Reading.{lettersFault, codeIn, faultOf, zeros}
+use Rattle.records.specs.Reading.{lettersFault, lettersIn, codeIn, faultOf, zeros}
 use Rattle.records.specs.declared.Field.{Field}
 use Rattle.records.specs.declared.Field.the-variants.{End, Letters, Number, Code, Name, Blank}
 use Rattle.records.proofs.Layouts.{isField, on-layout, off-layout, split, total-split, fitting, start-small}
@@ -26,7 +26,7 @@ use Rattle.verdict.specs.Rules.{Check, check, firstBroken, block}
 use Rattle.verdict.proofs.Parts.{check-none, check-kept, check-broken}
 use Rattle.rules.specs.declared.Due.{Due}
 use Rattle.asks.specs.Asks.{Ask, permitted, inStep, firstAsked}
-use Rattle.rules.specs.Checks.{askedOf, kindOf, formChecks, valueChecks, along, checksOf}
+use Rattle.rules.specs.Checks.{asksOf, askedOf, kindOf, formChecks, valueChecks, along, checksOf}
 
 -- ---- one field's checks, in front of others
 
@@ -48,20 +48,23 @@ module _ (r c : ℕ) (cs : List Check) where
   values-broken (inStep true ∷ l) n e h = check-kept 2 r c 8 true (valueChecks c l ++ cs) refl ∙ values-broken l n e h
   values-broken (inStep false ∷ l) n e h = rw (← e) (check-broken 2 r c 8 false (valueChecks c l ++ cs) refl)
 
--- type letters give 3, 7 or nothing
-letters-three : (p q : Bool) → (_≡_ {A = ℕ} (cond p 0 (cond q 7 3)) 0 → ⊥) → (cs : List Check) (r : ℕ)
-    → firstBroken (block 2 r (check 1 3 (not (eqb (cond p 0 (cond q 7 3)) 3)) ∷ check 1 7 (not (eqb (cond p 0 (cond q 7 3)) 7)) ∷ cs))
-    ≡ Broken (cond p 0 (cond q 7 3)) r 1
-letters-three true q h cs r = absurd (h refl)
-letters-three false true h cs r = check-kept 2 r 1 3 true _ refl ∙ check-broken 2 r 1 7 false cs refl
-letters-three false false h cs r = check-broken 2 r 1 3 false _ refl
+-- type letters give 3 or nothing
+letters-three : (p : Bool) → (_≡_ {A = ℕ} (cond p 0 3) 0 → ⊥) → (cs : List Check) (r : ℕ)
+    → firstBroken (block 2 r (check 1 3 (not (eqb (cond p 0 3) 3)) ∷ cs)) ≡ Broken (cond p 0 3) r 1
+letters-three true h cs r = absurd (h refl)
+letters-three false h cs r = check-broken 2 r 1 3 false cs refl
+
+-- what is asked of a number of the record t, by the record's own letters
+pub asked-by : (d : Due) (t : List ℕ) {own : ℕ} → own ≡ lettersIn (kindOf d) t → (i : ℕ) (ns : List ℤ) → getD (asksOf d own ns) i [] ≡ askedOf d t i ns
+unfolding askedOf
+asked-by d t e i ns = rw e
 
 -- ---- what the loop keeps: what is left gives the answer of the whole
 
 pub record Going (d : Due) (t : List ℕ) (r : ℕ) (ns : List ℤ) (n j : ℕ) : Type 0 where
   pub many : length ns ≡ 16
   pub room : n + total numbersOf (drop j (layoutOf (kindOf d))) ≤ 16
-  pub answer : firstBroken (block 2 r (along (askedOf d) (drop j (layoutOf (kindOf d))) n ns t)) ≡ firstBroken (block 2 r (checksOf d t))
+  pub answer : firstBroken (block 2 r (along (askedOf d t) (drop j (layoutOf (kindOf d))) n ns t)) ≡ firstBroken (block 2 r (checksOf d t))
 
 pub start : (d : Due) (t : List ℕ) (r : ℕ) → Going d t r zeros 0 0
 unfolding checksOf
@@ -94,43 +97,42 @@ module _ {d : Due} {t : List ℕ} {r : ℕ} {ns : List ℤ} {n j : ℕ} (g : Goi
         }
 
     -- field f in front of what is left behind it
-    step : firstBroken (block 2 r (along (askedOf d) (f ∷ drop (j + 1) (layoutOf (kindOf d))) n ns t)) ≡ firstBroken (block 2 r (checksOf d t))
+    step : firstBroken (block 2 r (along (askedOf d t) (f ∷ drop (j + 1) (layoutOf (kindOf d))) n ns t)) ≡ firstBroken (block 2 r (checksOf d t))
     step = rw (split (layoutOf (kindOf d)) j f e i) at (g .answer)
 
     next-room : (n′ : ℕ) → n′ ≡ n + numbersOf f → n′ + total numbersOf (drop (j + 1) (layoutOf (kindOf d))) ≤ 16
     next-room n′ p = omega (arith, total-split (layoutOf (kindOf d)) j f e i numbersOf, g .room)
 
-  module _ (a b : ℕ) (e : Letters a b ≡ getD (layoutOf (kindOf d)) j End) {m : ℕ} (q : m ≡ lettersFault a b (getD t 0 0) (getD t 1 0)) where
+  module _ (a b c : ℕ) (e : Letters a b c ≡ getD (layoutOf (kindOf d)) j End) {m : ℕ} (q : m ≡ lettersFault a b c (getD t 0 0) (getD t 1 0)) where
     pub letters-broken : (m ≡ 0 → ⊥) → Broken m r 1 ≡ firstBroken (block 2 r (checksOf d t))
     unfolding along formChecks faultOf
     letters-broken h =
-        rw q (sym (letters-three (eqb (getD t 0 0) a && eqb (getD t 1 0) b) (eqb a 72 && (eqb (getD t 0 0) 72 && eqb (getD t 1 0) 49)) (rw q at h) _ r))
-        ∙ step (Letters a b) e refl
+        rw q (sym (letters-three (eqb (getD t 0 0) a && (eqb (getD t 1 0) b || eqb (getD t 1 0) c)) (rw q at h) _ r)) ∙ step (Letters a b c) e refl
 
     pub letters-next : m ≡ 0 → Going d t r ns n (j + 1)
     unfolding along formChecks faultOf
     letters-next z = record {
       many = g .many;
-      room = next-room (Letters a b) e refl n (omega arith);
-      answer = sym (check-kept 2 r 1 3 _ _ (rw (← q, z)) ∙ check-kept 2 r 1 7 _ _ (rw (← q, z))) ∙ step (Letters a b) e refl;
+      room = next-room (Letters a b c) e refl n (omega arith);
+      answer = sym (check-kept 2 r 1 3 _ _ (rw (← q, z))) ∙ step (Letters a b c) e refl;
     }
 
   -- behind a well-formed number or code that starts at column c, what is asked of its value v comes next
   abbrev Next : ℕ → ℤ → Type 0
   Next c v =
-      firstBroken (block 2 r (valueChecks c (askedOf d n (set ns n v)) ++ along (askedOf d) (drop (j + 1) (layoutOf (kindOf d))) (suc n) (set ns n v) t))
+      firstBroken (block 2 r (valueChecks c (askedOf d t n (set ns n v)) ++ along (askedOf d t) (drop (j + 1) (layoutOf (kindOf d))) (suc n) (set ns n v) t))
       ≡ firstBroken (block 2 r (checksOf d t))
 
   module _ (f : Field) (e : f ≡ getD (layoutOf (kindOf d)) j End) (i : isField f ≡ true) (one : numbersOf f ≡ 1) (v : ℤ)
-      (a : Next (startOf f) v) {k : ℕ} (p : k ≡ firstAsked (askedOf d n (set ns n v))) where
+      (a : Next (startOf f) v) {k : ℕ} (p : k ≡ firstAsked (askedOf d t n (set ns n v))) where
     value-broken : (k ≡ 0 → ⊥) → Broken k r (startOf f) ≡ firstBroken (block 2 r (checksOf d t))
-    value-broken h = sym (values-broken r (startOf f) _ (askedOf d n (set ns n v)) k (sym p) h) ∙ a
+    value-broken h = sym (values-broken r (startOf f) _ (askedOf d t n (set ns n v)) k (sym p) h) ∙ a
 
     value-next : k ≡ 0 → Going d t r (set ns n v) (n + 1) (j + 1)
     value-next h = record {
       many = rw length-set (g .many);
       room = next-room f e i (n + 1) (rw one);
-      answer = rw (add-one n) (sym (values-kept r (startOf f) _ (askedOf d n (set ns n v)) (sym p ∙ h)) ∙ a);
+      answer = rw (add-one n) (sym (values-kept r (startOf f) _ (askedOf d t n (set ns n v)) (sym p ∙ h)) ∙ a);
     }
 
   module _ (c w : ℕ) (e : Number c w ≡ getD (layoutOf (kindOf d)) j End) {m : numbers.Number} (q : m ≡ numberAt t c w) where
@@ -143,10 +145,10 @@ module _ {d : Due} {t : List ℕ} {r : ℕ} {ns : List ℤ} {n j : ℕ} (g : Goi
       unfolding along formChecks faultOf
       number-asked = rw (← q, z) at (sym (check-kept 2 r c 5 _ _ (rw (← q, z))) ∙ step (Number c w) e refl)
 
-      pub number-broken : {k : ℕ} → k ≡ firstAsked (askedOf d n (set ns n v)) → (k ≡ 0 → ⊥) → Broken k r c ≡ firstBroken (block 2 r (checksOf d t))
+      pub number-broken : {k : ℕ} → k ≡ firstAsked (askedOf d t n (set ns n v)) → (k ≡ 0 → ⊥) → Broken k r c ≡ firstBroken (block 2 r (checksOf d t))
       number-broken p h = value-broken (Number c w) e refl refl v number-asked p h
 
-      pub number-next : {k : ℕ} → k ≡ firstAsked (askedOf d n (set ns n v)) → k ≡ 0 → Going d t r (set ns n v) (n + 1) (j + 1)
+      pub number-next : {k : ℕ} → k ≡ firstAsked (askedOf d t n (set ns n v)) → k ≡ 0 → Going d t r (set ns n v) (n + 1) (j + 1)
       number-next p h = value-next (Number c w) e refl refl v number-asked p h
 
   module _ (c w : ℕ) (e : Code c w ≡ getD (layoutOf (kindOf d)) j End) {m : codes.Code} (q : m ≡ codeIn t c w) where
@@ -159,10 +161,10 @@ module _ {d : Due} {t : List ℕ} {r : ℕ} {ns : List ℤ} {n j : ℕ} (g : Goi
       unfolding along formChecks faultOf
       code-asked = rw (← q, z) at (sym (check-kept 2 r c 5 _ _ (rw (← q, z))) ∙ step (Code c w) e refl)
 
-      pub code-broken : {k : ℕ} → k ≡ firstAsked (askedOf d n (set ns n v)) → (k ≡ 0 → ⊥) → Broken k r c ≡ firstBroken (block 2 r (checksOf d t))
+      pub code-broken : {k : ℕ} → k ≡ firstAsked (askedOf d t n (set ns n v)) → (k ≡ 0 → ⊥) → Broken k r c ≡ firstBroken (block 2 r (checksOf d t))
       code-broken p h = value-broken (Code c w) e refl refl v code-asked p h
 
-      pub code-next : {k : ℕ} → k ≡ firstAsked (askedOf d n (set ns n v)) → k ≡ 0 → Going d t r (set ns n v) (n + 1) (j + 1)
+      pub code-next : {k : ℕ} → k ≡ firstAsked (askedOf d t n (set ns n v)) → k ≡ 0 → Going d t r (set ns n v) (n + 1) (j + 1)
       code-next p h = value-next (Code c w) e refl refl v code-asked p h
 
   module _ (c w : ℕ) (e : Name c w ≡ getD (layoutOf (kindOf d)) j End) {m : texts.Text} (q : m ≡ textAt isName t c w) where

@@ -17,7 +17,7 @@ atColumn c (n ∷ ns) = (c ∷ n ∷ []) ∷ atColumn c ns
 -- type letters; a number whose value is not asked; one that has to be permitted; one that has to be in step; one that has to be both;
 -- a name or blanks
 abbrev pub letters : List (List ℕ)
-letters = atColumn 1 (3 ∷ 7 ∷ [])
+letters = atColumn 1 (3 ∷ [])
 
 abbrev pub formed : ℕ → List (List ℕ)
 formed c = atColumn c (5 ∷ [])
@@ -54,11 +54,11 @@ pub node-places : (layer last : ℕ) (t : List ℕ) → map spotOf (checksOf (No
 unfolding layoutOf from nodeAsks asksOf askedOf formChecks valueChecks along checksOf
 node-places layer last t = refl
 
-pub line-places : (layer last : ℕ) (t : List ℕ) → map spotOf (checksOf (Line layer last) t) ≡ page (
+pub line-places : (layer last own : ℕ) (t : List ℕ) → map spotOf (checksOf (Line layer last own) t) ≡ page (
     letters ∷ fiveSixEight 3 ∷ permitted 5 ∷ inStep 7 ∷ permitted 12 ∷ formed 18 ∷ permitted 23 ∷ formed 24 ∷ permitted 29
     ∷ permitted 30 ∷ permitted 35 ∷ permitted 40 ∷ permitted 45 ∷ permitted 50 ∷ permitted 56 ∷ permitted 58 ∷ formed 61 ∷ [])
 unfolding layoutOf lineAsks asksOf askedOf formChecks valueChecks along checksOf
-line-places layer last t = refl
+line-places layer last own t = refl
 
 pub coordinates-places : (left : ℕ) (t : List ℕ) → map spotOf (checksOf (Coordinates left) t) ≡ page (
     permitted 1 ∷ permitted 6 ∷ permitted 11 ∷ permitted 16 ∷ permitted 21 ∷ permitted 26 ∷ permitted 31 ∷ permitted 36 ∷ permitted 41

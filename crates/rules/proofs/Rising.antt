@@ -17,7 +17,7 @@ unfolding layoutOf from meshAsks layerAsks nodeAsks lineAsks coordinateAsks area
 checks-rising (Mesh last) t = refl
 checks-rising (Layer last) t = refl
 checks-rising (Node layer last) t = refl
-checks-rising (Line layer last) t = refl
+checks-rising (Line layer last letters) t = refl
 checks-rising (Coordinates left) t = refl
 checks-rising (Area layer last) t = refl
 checks-rising (Loop last count left) t = refl
@@ -28,7 +28,7 @@ unfolding layoutOf from meshAsks layerAsks nodeAsks lineAsks coordinateAsks area
 checks-numbered (Mesh last) t = refl
 checks-numbered (Layer last) t = refl
 checks-numbered (Node layer last) t = refl
-checks-numbered (Line layer last) t = refl
+checks-numbered (Line layer last letters) t = refl
 checks-numbered (Coordinates left) t = refl
 checks-numbered (Area layer last) t = refl
 checks-numbered (Loop last count left) t = refl

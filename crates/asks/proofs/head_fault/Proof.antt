@@ -43,6 +43,9 @@ permitted-requires-2 c κs = search needs
 natural-requires-2 : tie.Need-natural-requires-2
 natural-requires-2 c κs = search needs
 
+of-areas-requires : tie.Need-of-areas-requires
+of-areas-requires c κs = search needs
+
 permitted-requires-3 : tie.Need-permitted-requires-3
 permitted-requires-3 c κs = search needs
 
@@ -91,7 +94,14 @@ returns-3 c = rw (c .permitted2 .ensures, c .before .within .ensures, number (c 
 
 returns-4 : tie.Need-returns-4
 unfolding layerAsks
-returns-4 c = rw (c .permitted3 .ensures, c .before .natural2 .ensures, number (c .before .before .before), c .before .before .match .keys4)
+returns-4 c =
+    rw (
+      c .permitted3 .ensures,
+      c .before .of-areas .ensures,
+      c .before .before .natural2 .ensures,
+      number (c .before .before .before .before),
+      c .before .before .before .match .keys4,
+    )
 
 returns-5 : tie.Need-returns-5
 unfolding layerAsks
@@ -113,7 +123,7 @@ returns-9 : tie.Need-returns-9
 unfolding layerAsks
 returns-9 c =
     let a = c .before .before .args in
-    none-asked (layerAsks (a .last) (now (a .ns))) (a .i) (above 8 _ (c .match .rest))
+    none-asked (layerAsks (a .last) (a .letters) (now (a .ns))) (a .i) (above 8 _ (c .match .rest))
 
 pub head-fault-spec : {M : Type 1} → statement M
 head-fault-spec =
@@ -128,6 +138,7 @@ head-fault-spec =
     within-requires
     permitted-requires-2
     natural-requires-2
+    of-areas-requires
     permitted-requires-3
     is-requires
     permitted-requires-4

@@ -58,6 +58,9 @@ permitted-requires-4 c κs = search needs
 is-code-requires : tie.Need-is-code-requires
 is-code-requires c κs = search needs
 
+of-areas-requires : tie.Need-of-areas-requires
+of-areas-requires c κs = search needs
+
 permitted-requires-5 : tie.Need-permitted-requires-5
 permitted-requires-5 c κs = search needs
 
@@ -67,11 +70,17 @@ at-requires-3 c κs = search needs
 is-side-requires : tie.Need-is-side-requires
 is-side-requires c κs = search needs
 
+of-areas-requires-2 : tie.Need-of-areas-requires-2
+of-areas-requires-2 c κs = search needs
+
 permitted-requires-6 : tie.Need-permitted-requires-6
 permitted-requires-6 c κs = search needs
 
 is-code-requires-2 : tie.Need-is-code-requires-2
 is-code-requires-2 c κs = search needs
+
+of-areas-requires-3 : tie.Need-of-areas-requires-3
+of-areas-requires-3 c κs = search needs
 
 permitted-requires-7 : tie.Need-permitted-requires-7
 permitted-requires-7 c κs = search needs
@@ -81,6 +90,9 @@ at-requires-4 c κs = search needs
 
 is-side-requires-2 : tie.Need-is-side-requires-2
 is-side-requires-2 c κs = search needs
+
+of-areas-requires-4 : tie.Need-of-areas-requires-4
+of-areas-requires-4 c κs = search needs
 
 permitted-requires-8 : tie.Need-permitted-requires-8
 permitted-requires-8 c κs = search needs
@@ -145,34 +157,50 @@ returns-8 c = rw (c .permitted4 .ensures, c .before .is-link2 .ensures, number (
 
 returns-9 : tie.Need-returns-9
 unfolding lineAsks
-returns-9 c = rw (c .permitted5 .ensures, c .before .is-code .ensures, number (c .before .before .before), c .before .before .match .keys9)
+returns-9 c =
+    rw (
+      c .permitted5 .ensures,
+      c .before .of-areas .ensures,
+      c .before .before .is-code .ensures,
+      number (c .before .before .before .before),
+      c .before .before .before .match .keys9,
+    )
 
 returns-10 : tie.Need-returns-10
 unfolding lineAsks
 returns-10 c =
-    let x = c .before .before in
+    let x = c .before .before .before in
     rw (
       c .permitted6 .ensures,
-      c .before .is-side .ensures,
-      number (c .before .before .before .before),
+      c .before .of-areas2 .ensures,
+      c .before .before .is-side .ensures,
+      number (x .before .before),
       passed-on (x .at3 .ok) (x .at3 .ensures),
-      c .before .before .before .match .keys10,
+      x .before .match .keys10,
     )
 
 returns-11 : tie.Need-returns-11
 unfolding lineAsks
-returns-11 c = rw (c .permitted7 .ensures, c .before .is-code2 .ensures, number (c .before .before .before), c .before .before .match .keys11)
+returns-11 c =
+    rw (
+      c .permitted7 .ensures,
+      c .before .of-areas3 .ensures,
+      c .before .before .is-code2 .ensures,
+      number (c .before .before .before .before),
+      c .before .before .before .match .keys11,
+    )
 
 returns-12 : tie.Need-returns-12
 unfolding lineAsks
 returns-12 c =
-    let x = c .before .before in
+    let x = c .before .before .before in
     rw (
       c .permitted8 .ensures,
-      c .before .is-side2 .ensures,
-      number (c .before .before .before .before),
+      c .before .of-areas4 .ensures,
+      c .before .before .is-side2 .ensures,
+      number (x .before .before),
       passed-on (x .at4 .ok) (x .at4 .ensures),
-      c .before .before .before .match .keys12,
+      x .before .match .keys12,
     )
 
 returns-13 : tie.Need-returns-13
@@ -191,7 +219,7 @@ returns-16 : tie.Need-returns-16
 unfolding lineAsks
 returns-16 c =
     let a = c .before .before .args in
-    none-asked (lineAsks (a .layer) (a .last) (now (a .ns))) (a .i) (above 15 _ (c .match .rest))
+    none-asked (lineAsks (a .layer) (a .last) (a .letters) (now (a .ns))) (a .i) (above 15 _ (c .match .rest))
 
 pub line-fault-spec : {M : Type 1} → statement M
 line-fault-spec =
@@ -211,14 +239,18 @@ line-fault-spec =
     is-link-requires-2
     permitted-requires-4
     is-code-requires
+    of-areas-requires
     permitted-requires-5
     at-requires-3
     is-side-requires
+    of-areas-requires-2
     permitted-requires-6
     is-code-requires-2
+    of-areas-requires-3
     permitted-requires-7
     at-requires-4
     is-side-requires-2
+    of-areas-requires-4
     permitted-requires-8
     at-least-requires
     permitted-requires-9

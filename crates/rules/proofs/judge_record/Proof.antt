@@ -1,5 +1,6 @@
 -- `rules::judge_record` meets its contract. The loop's invariant, `Going`: the fields that are left give the answer of the whole.
 -- Assumes nothing.
+use denote.Ref.{now}
 use mathlib.Core.Path.{_≡_, refl, sym, _∙_, ap}
 use Prim.Native.Nat.{_-_}
 use native.Mathlib.Omega.{arith}
@@ -8,86 +9,97 @@ use mir.Facts.{toZ-ofZ}
 use mir.Syntax.{w32}
 use borrow.Author.Needs.{needs}
 use Rattle.records.specs.Layout.{layoutOf}
+use Rattle.records.specs.Reading.{lettersIn}
+use Rattle.asks.specs.Asks.{firstAsked}
 use Rattle.records.specs.declared.Field.the-variants.{End, Letters, Number, Code, Name, Blank}
 use Rattle.rules.specs.Checks.{kindOf}
-use Rattle.rules.proofs.Going.{Going, start, ends, Room, room-for, letters-broken, letters-next, number-ill}
+use Rattle.rules.proofs.Going.{asked-by, Going, start, ends, Room, room-for, letters-broken, letters-next, number-ill}
 use Rattle.rules.proofs.Going.{number-broken, number-next, name-ill, name-next, blank-ill, blank-next, code-ill, code-broken, code-next}
 use Rattle.rules.proofs.judge_record.Statement.{statement}
 use Rattle.rules.proofs.judge_record.Tie as tie
 
 abbrev Inv-loop : tie.InvT-loop
-Inv-loop due s row kind numbers₀ n₀ j₀ numbers n j = Going due s row numbers n j
+Inv-loop due s row kind letters numbers₀ n₀ j₀ numbers n j = Going due s row numbers n j
 
 abbrev μ-loop : tie.MeasureT-loop
-μ-loop due s row kind numbers₀ n₀ j₀ numbers n j = length (layoutOf (kindOf due)) - j
+μ-loop due s row kind letters numbers₀ n₀ j₀ numbers n j = length (layoutOf (kindOf due)) - j
 
 -- the field is type letters, and there is room for it
 letters-is : (c : tie.After-f Inv-loop μ-loop)
-    → Letters (c .f .given .0 .0) (c .f .given .0 .1 .0)
-    ≡ getD (layoutOf (kindOf (c .before .before .before .before .before .before .args .due))) (c .before .before .before .loop .j) End
+    → Letters (c .f .given .0 .0) (c .f .given .0 .1 .0) (c .f .given .0 .1 .1 .0)
+    ≡ getD (layoutOf (kindOf (c .before .before .before .before .before .before .before .args .due))) (c .before .before .before .loop .j) End
 letters-is c =
     sym (c .f .given .1) ∙ c .before .before .field-of .ensures
-    ∙ ap (λ k. getD (layoutOf k) (c .before .before .before .loop .j) End) (c .before .before .before .before .kind-of .ensures)
+    ∙ ap (λ k. getD (layoutOf k) (c .before .before .before .loop .j) End) (c .before .before .before .before .before .kind-of .ensures)
 
 letters-room : (c : tie.After-f Inv-loop μ-loop)
-    → Room (c .before .before .before .before .before .before .args .due) (Letters (c .f .given .0 .0) (c .f .given .0 .1 .0))
+    → Room (c .before .before .before .before .before .before .before .args .due) (Letters (c .f .given .0 .0) (c .f .given .0 .1 .0) (c .f .given .0 .1 .1 .0))
     (c .before .before .before .loop .n) (c .before .before .before .loop .j)
 letters-room c = room-for (c .before .before .before .loop .inv) _ (letters-is c) refl
 
 -- the field is a number, and there is room for it
 number-is : (c : tie.After-f2 Inv-loop μ-loop)
     → Number (c .f2 .given .0 .0) (c .f2 .given .0 .1 .0)
-    ≡ getD (layoutOf (kindOf (c .before .before .before .before .before .before .args .due))) (c .before .before .before .loop .j) End
+    ≡ getD (layoutOf (kindOf (c .before .before .before .before .before .before .before .args .due))) (c .before .before .before .loop .j) End
 number-is c =
     sym (c .f2 .given .1) ∙ c .before .before .field-of .ensures
-    ∙ ap (λ k. getD (layoutOf k) (c .before .before .before .loop .j) End) (c .before .before .before .before .kind-of .ensures)
+    ∙ ap (λ k. getD (layoutOf k) (c .before .before .before .loop .j) End) (c .before .before .before .before .before .kind-of .ensures)
 
 number-room : (c : tie.After-f2 Inv-loop μ-loop)
-    → Room (c .before .before .before .before .before .before .args .due) (Number (c .f2 .given .0 .0) (c .f2 .given .0 .1 .0))
+    → Room (c .before .before .before .before .before .before .before .args .due) (Number (c .f2 .given .0 .0) (c .f2 .given .0 .1 .0))
     (c .before .before .before .loop .n) (c .before .before .before .loop .j)
 number-room c = room-for (c .before .before .before .loop .inv) _ (number-is c) refl
 
 -- the field is a name, and there is room for it
 name-is : (c : tie.After-f3 Inv-loop μ-loop)
     → Name (c .f3 .given .0 .0) (c .f3 .given .0 .1 .0)
-    ≡ getD (layoutOf (kindOf (c .before .before .before .before .before .before .args .due))) (c .before .before .before .loop .j) End
+    ≡ getD (layoutOf (kindOf (c .before .before .before .before .before .before .before .args .due))) (c .before .before .before .loop .j) End
 name-is c =
     sym (c .f3 .given .1) ∙ c .before .before .field-of .ensures
-    ∙ ap (λ k. getD (layoutOf k) (c .before .before .before .loop .j) End) (c .before .before .before .before .kind-of .ensures)
+    ∙ ap (λ k. getD (layoutOf k) (c .before .before .before .loop .j) End) (c .before .before .before .before .before .kind-of .ensures)
 
 name-room : (c : tie.After-f3 Inv-loop μ-loop)
-    → Room (c .before .before .before .before .before .before .args .due) (Name (c .f3 .given .0 .0) (c .f3 .given .0 .1 .0))
+    → Room (c .before .before .before .before .before .before .before .args .due) (Name (c .f3 .given .0 .0) (c .f3 .given .0 .1 .0))
     (c .before .before .before .loop .n) (c .before .before .before .loop .j)
 name-room c = room-for (c .before .before .before .loop .inv) _ (name-is c) refl
 
 -- the field is blanks, and there is room for it
 blank-is : (c : tie.After-f4 Inv-loop μ-loop)
     → Blank (c .f4 .given .0 .0) (c .f4 .given .0 .1 .0)
-    ≡ getD (layoutOf (kindOf (c .before .before .before .before .before .before .args .due))) (c .before .before .before .loop .j) End
+    ≡ getD (layoutOf (kindOf (c .before .before .before .before .before .before .before .args .due))) (c .before .before .before .loop .j) End
 blank-is c =
     sym (c .f4 .given .1) ∙ c .before .before .field-of .ensures
-    ∙ ap (λ k. getD (layoutOf k) (c .before .before .before .loop .j) End) (c .before .before .before .before .kind-of .ensures)
+    ∙ ap (λ k. getD (layoutOf k) (c .before .before .before .loop .j) End) (c .before .before .before .before .before .kind-of .ensures)
 
 blank-room : (c : tie.After-f4 Inv-loop μ-loop)
-    → Room (c .before .before .before .before .before .before .args .due) (Blank (c .f4 .given .0 .0) (c .f4 .given .0 .1 .0))
+    → Room (c .before .before .before .before .before .before .before .args .due) (Blank (c .f4 .given .0 .0) (c .f4 .given .0 .1 .0))
     (c .before .before .before .loop .n) (c .before .before .before .loop .j)
 blank-room c = room-for (c .before .before .before .loop .inv) _ (blank-is c) refl
 
 -- the field is a code, and there is room for it
 code-is : (c : tie.After-f5 Inv-loop μ-loop)
     → Code (c .f5 .given .0 .0) (c .f5 .given .0 .1 .0)
-    ≡ getD (layoutOf (kindOf (c .before .before .before .before .before .before .args .due))) (c .before .before .before .loop .j) End
+    ≡ getD (layoutOf (kindOf (c .before .before .before .before .before .before .before .args .due))) (c .before .before .before .loop .j) End
 code-is c =
     sym (c .f5 .given .1) ∙ c .before .before .field-of .ensures
-    ∙ ap (λ k. getD (layoutOf k) (c .before .before .before .loop .j) End) (c .before .before .before .before .kind-of .ensures)
+    ∙ ap (λ k. getD (layoutOf k) (c .before .before .before .loop .j) End) (c .before .before .before .before .before .kind-of .ensures)
 
 code-room : (c : tie.After-f5 Inv-loop μ-loop)
-    → Room (c .before .before .before .before .before .before .args .due) (Code (c .f5 .given .0 .0) (c .f5 .given .0 .1 .0))
+    → Room (c .before .before .before .before .before .before .before .args .due) (Code (c .f5 .given .0 .0) (c .f5 .given .0 .1 .0))
     (c .before .before .before .loop .n) (c .before .before .before .loop .j)
 code-room c = room-for (c .before .before .before .loop .inv) _ (code-is c) refl
 
+-- the record's own letters
+letters-are : (l : tie.At-loop Inv-loop μ-loop)
+    → l .before .letters-in .result ≡ lettersIn (kindOf (l .before .before .before .before .args .due)) (now (l .before .before .before .before .args .s))
+letters-are l =
+    l .before .letters-in .ensures ∙ ap (λ k. lettersIn k (now (l .before .before .before .before .args .s))) (l .before .before .kind-of .ensures)
+
 kind-of-requires : tie.Need-kind-of-requires Inv-loop μ-loop
 kind-of-requires c κs = search needs
+
+letters-in-requires : tie.Need-letters-in-requires Inv-loop μ-loop
+letters-in-requires c κs = search needs
 
 loop-holds : tie.Need-loop-holds Inv-loop μ-loop
 loop-holds c = start _ _ _
@@ -102,7 +114,7 @@ returns : tie.Need-returns Inv-loop μ-loop
 returns c =
     ends (c .before .before .before .loop .inv)
     (sym (c .enum-told .given .1) ∙ c .before .before .field-of .ensures
-    ∙ ap (λ k. getD (layoutOf k) (c .before .before .before .loop .j) End) (c .before .before .before .before .kind-of .ensures))
+    ∙ ap (λ k. getD (layoutOf k) (c .before .before .before .loop .j) End) (c .before .before .before .before .before .kind-of .ensures))
 
 enum-known-f : tie.Need-enum-known-f Inv-loop μ-loop
 enum-known-f c = search needs
@@ -124,7 +136,7 @@ returns-2 c =
     let d = c .before .before .before .before .before .before in
     let l = d .before .before .before in
     c .broken .ensures
-    ∙ letters-broken (l .loop .inv) _ _ (letters-is d)
+    ∙ letters-broken (l .loop .inv) _ _ _ (letters-is d)
     (rw (c .before .before .before .before .byte-at .ensures, c .before .before .before .byte-at2 .ensures) at (c .before .before .letters-fault .ensures))
     (c .before .if1 .taken)
 
@@ -138,7 +150,7 @@ loop-again : tie.Need-loop-again Inv-loop μ-loop
 loop-again c =
     let d = c .before .before .before .before .before in
     let l = d .before .before .before in
-    letters-next (l .loop .inv) _ _ (letters-is d)
+    letters-next (l .loop .inv) _ _ _ (letters-is d)
     (rw (c .before .before .before .byte-at .ensures, c .before .before .byte-at2 .ensures) at (c .before .letters-fault .ensures)) (c .if1 .left)
 
 enum-known-f-2 : tie.Need-enum-known-f-2 Inv-loop μ-loop
@@ -184,7 +196,8 @@ returns-4 c =
     let l = d .before .before .before in
     c .broken3 .ensures
     ∙ number-broken (l .loop .inv) _ _ (number-is d) (a .before .before .read-number .ensures) _ (a .answer .given .1)
-    (rw (toZ-ofZ {w = w32} (record { sfits = c .before .before .before .before .known-told3 .given .0 .1 })) at (c .before .before .value-fault .ensures))
+    ((rw (toZ-ofZ {w = w32} (record { sfits = c .before .before .before .before .known-told3 .given .0 .1 })) at (c .before .before .value-fault .ensures))
+    ∙ ap firstAsked (asked-by _ _ (letters-are l) _ _))
     (c .before .if2 .taken)
 
 add-n : tie.Need-add-n Inv-loop μ-loop
@@ -203,7 +216,8 @@ loop-again-2 c =
     let l = r .before .before .before .before .before in
     rw (toZ-ofZ {w = w32} (record { sfits = k .known-told3 .given .0 .1 }))
     (number-next (l .loop .inv) _ _ (number-is (r .before .before)) (r .read-number .ensures) _ (k .before .answer .given .1)
-    (rw (toZ-ofZ {w = w32} (record { sfits = k .known-told3 .given .0 .1 })) at (c .before .value-fault .ensures)) (c .if2 .left))
+    ((rw (toZ-ofZ {w = w32} (record { sfits = k .known-told3 .given .0 .1 })) at (c .before .value-fault .ensures)) ∙ ap firstAsked (asked-by _ _ (letters-are l) _ _))
+    (c .if2 .left))
 
 enum-known-f-3 : tie.Need-enum-known-f-3 Inv-loop μ-loop
 enum-known-f-3 c = search needs
@@ -312,7 +326,8 @@ returns-8 c =
     let l = d .before .before .before in
     c .broken7 .ensures
     ∙ code-broken (l .loop .inv) _ _ (code-is d) (a .before .before .read-code .ensures) _ _ (a .answer2 .given .1)
-    (rw (toZ-ofZ {w = w32} (record { sfits = c .before .before .before .before .known-told7 .given .0 .1 })) at (c .before .before .value-fault2 .ensures))
+    ((rw (toZ-ofZ {w = w32} (record { sfits = c .before .before .before .before .known-told7 .given .0 .1 })) at (c .before .before .value-fault2 .ensures))
+    ∙ ap firstAsked (asked-by _ _ (letters-are l) _ _))
     (c .before .if3 .taken)
 
 add-n-2 : tie.Need-add-n-2 Inv-loop μ-loop
@@ -331,7 +346,8 @@ loop-again-5 c =
     let l = r .before .before .before .before .before in
     rw (toZ-ofZ {w = w32} (record { sfits = k .known-told7 .given .0 .1 }))
     (code-next (l .loop .inv) _ _ (code-is (r .before .before)) (r .read-code .ensures) _ _ (k .before .answer2 .given .1)
-    (rw (toZ-ofZ {w = w32} (record { sfits = k .known-told7 .given .0 .1 })) at (c .before .value-fault2 .ensures)) (c .if3 .left))
+    ((rw (toZ-ofZ {w = w32} (record { sfits = k .known-told7 .given .0 .1 })) at (c .before .value-fault2 .ensures)) ∙ ap firstAsked (asked-by _ _ (letters-are l) _ _))
+    (c .if3 .left))
 
 pub judge-record-spec : {M : Type 1} → statement M
 judge-record-spec =
@@ -340,6 +356,7 @@ judge-record-spec =
     Inv-loop
     μ-loop
     kind-of-requires
+    letters-in-requires
     loop-holds
     field-of-requires
     enum-told

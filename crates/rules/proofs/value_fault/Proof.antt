@@ -1,6 +1,6 @@
 -- `rules::value_fault` meets its contract: each kind's function answers for its list. Assumes nothing.
 use borrow.Author.Needs.{needs}
-use Rattle.rules.specs.Checks.{asksOf, askedOf}
+use Rattle.rules.specs.Checks.{asksOf}
 use Rattle.rules.proofs.value_fault.Statement.{statement}
 use Rattle.rules.proofs.value_fault.Tie as tie
 
@@ -47,31 +47,31 @@ loop-fault-requires : tie.Need-loop-fault-requires
 loop-fault-requires c κs = search needs
 
 returns : tie.Need-returns
-unfolding askedOf asksOf
+unfolding asksOf
 returns c = rw (c .before .before .due .given .1) (c .mesh-fault .ensures)
 
 returns-2 : tie.Need-returns-2
-unfolding askedOf asksOf
+unfolding asksOf
 returns-2 c = rw (c .before .before .due2 .given .1) (c .head-fault .ensures)
 
 returns-3 : tie.Need-returns-3
-unfolding askedOf asksOf
+unfolding asksOf
 returns-3 c = rw (c .before .before .due3 .given .1) (c .node-fault .ensures)
 
 returns-4 : tie.Need-returns-4
-unfolding askedOf asksOf
+unfolding asksOf
 returns-4 c = rw (c .before .before .due4 .given .1) (c .line-fault .ensures)
 
 returns-5 : tie.Need-returns-5
-unfolding askedOf asksOf
+unfolding asksOf
 returns-5 c = rw (c .before .before .due5 .given .1) (c .coordinate-fault .ensures)
 
 returns-6 : tie.Need-returns-6
-unfolding askedOf asksOf
+unfolding asksOf
 returns-6 c = rw (c .before .before .due6 .given .1) (c .area-fault .ensures)
 
 returns-7 : tie.Need-returns-7
-unfolding askedOf asksOf
+unfolding asksOf
 returns-7 c = rw (c .before .before .due7 .given .1) (c .loop-fault .ensures)
 
 pub value-fault-spec : {M : Type 1} → statement M
