@@ -53,19 +53,19 @@ point-broken false (pos n) h = ne-eqb n 0 (λ e. h n refl (omega arith))
 point-broken false (negsuc n) h = ne-eqb (suc n) 0 (λ e. omega arith)
 
 -- that is all that is asked of number i
-number-asked : (left i : ℕ) (ns : List ℤ) {v : ℤ} {b : Bool} → i < 14 → at ns i ≡ v
-    → isPoint (ltb (i / 2) left) v ≡ b → cond b 0 6 ≡ firstAsked (askedOf (Coordinates left) i ns)
+number-asked : (left i : ℕ) (t : List ℕ) (ns : List ℤ) {v : ℤ} {b : Bool} → i < 14 → at ns i ≡ v
+    → isPoint (ltb (i / 2) left) v ≡ b → cond b 0 6 ≡ firstAsked (askedOf (Coordinates left) t i ns)
 unfolding askedOf asksOf coordinateAsks firstAsked
-number-asked left i ns l e h =
+number-asked left i t ns l e h =
     let q = ap (isPoint (ltb (i / 2) left)) e ∙ h in
     sym (ap firstAsked (row-at _ 14 i [] l) ∙ ap (λ b. firstAsked (permitted b ∷ [])) q)
 
 module _ {left i : ℕ} {t : List ℕ} (g : Glancing left t i) (l : i < 14) where
   -- number i, with the value v that stands there
-  asked : (v : ℤ) {b : Bool} → isPoint (ltb (i / 2) left) v ≡ b → cond b 0 6 ≡ firstAsked (askedOf (Coordinates left) i (set (g .numbers) i v))
+  asked : (v : ℤ) {b : Bool} → isPoint (ltb (i / 2) left) v ≡ b → cond b 0 6 ≡ firstAsked (askedOf (Coordinates left) t i (set (g .numbers) i v))
   asked v h =
       let w : i < length (g .numbers) = rw (g .going 0 .many) (omega arith) in
-      number-asked left i (set (g .numbers) i v) l (getD-set-same (g .numbers) i v (pos 0) w) h
+      number-asked left i t (set (g .numbers) i v) l (getD-set-same (g .numbers) i v (pos 0) w) h
 
   -- it may be what it is
   pub number-glanced : {n : ℕ} → numberAt t (1 + 5 * i) 5 ≡ Value (pos n) → n ≤ cond (ltb (i / 2) left) 10000 0 → Glancing left t (i + 1)

@@ -33,7 +33,7 @@ pub by-due : (P : Due → Type 0) (s : State)
     → (0 < s .area .entries → P (Loop (s .area .begun) (s .area .count) (s .area .entries)))
     → (s .area .begun < s .area .loops → P (Loop (s .area .begun) (s .area .count) 0))
     → (s .layer .node < s .layer .nodes → P (Node (s .layer .code) (s .layer .node)))
-    → (s .layer .line < s .layer .lines → P (Line (s .layer .code) (s .layer .line)))
+    → (s .layer .line < s .layer .lines → P (Line (s .layer .code) (s .layer .line) (s .layer .letters)))
     → (s .area .loops ≤ s .area .begun → s .layer .area < s .layer .areas → P (Area (s .layer .code) (s .layer .area)))
     → (Idle s → P (Layer (s .layer .code)))
     → (Idle s → P (Mesh (s .mesh .code)))
@@ -63,7 +63,7 @@ grown-one : (d : Due) (c : Counts) (t : List ℕ) → Grown c (countedFor d c t)
 grown-one (Mesh last) c t = record { layers = le-refl _; lines = le-refl _; areas = le-refl _ }
 grown-one (Layer last) c t = record { layers = omega arith; lines = le-refl _; areas = le-refl _ }
 grown-one (Node layer last) c t = record { layers = le-refl _; lines = le-refl _; areas = le-refl _ }
-grown-one (Line layer last) c t = record { layers = le-refl _; lines = omega arith; areas = le-refl _ }
+grown-one (Line layer last letters) c t = record { layers = le-refl _; lines = omega arith; areas = le-refl _ }
 grown-one (Coordinates left) c t = grown-self c
 grown-one (Area layer last) c t = record { layers = le-refl _; lines = le-refl _; areas = omega arith }
 grown-one (Loop last count left) c t = grown-self c

@@ -36,7 +36,7 @@ row-one : (d : Due) (t : List ℕ) (r : ℕ) (c : Counts) → rowLength * c .lay
 row-one (Mesh last) t r c = omega arith
 row-one (Layer last) t r c = omega arith
 row-one (Node layer last) t r c = omega arith
-row-one (Line layer last) t r c = omega arith
+row-one (Line layer last letters) t r c = omega arith
 row-one (Coordinates left) t r c = omega arith
 row-one (Area layer last) t r c = omega arith
 row-one (Loop last count left) t r c = omega arith
@@ -45,7 +45,7 @@ line-one : (d : Due) (t : List ℕ) (r : ℕ) (c : Counts) → c .lines + length
 line-one (Mesh last) t r c = omega arith
 line-one (Layer last) t r c = omega arith
 line-one (Node layer last) t r c = omega arith
-line-one (Line layer last) t r c = omega arith
+line-one (Line layer last letters) t r c = omega arith
 line-one (Coordinates left) t r c = omega arith
 line-one (Area layer last) t r c = omega arith
 line-one (Loop last count left) t r c = omega arith
@@ -54,7 +54,7 @@ area-one : (d : Due) (t : List ℕ) (r : ℕ) (c : Counts) → c .areas + length
 area-one (Mesh last) t r c = omega arith
 area-one (Layer last) t r c = omega arith
 area-one (Node layer last) t r c = omega arith
-area-one (Line layer last) t r c = omega arith
+area-one (Line layer last letters) t r c = omega arith
 area-one (Coordinates left) t r c = omega arith
 area-one (Area layer last) t r c = omega arith
 area-one (Loop last count left) t r c = omega arith
@@ -154,7 +154,7 @@ turn (Layer last) t r c b xs ys zs o p q ex ey ez fx fy fz bl ba =
     put-rows xs ys zs o p q (omega arith) (omega arith) (omega arith) (rowWords (Layer last) t r) (rowLength * c .layers) (sym ex) (omega arith)
     ∙ rw (append-nil, append-nil)
 turn (Node layer last) t r c b xs ys zs o p q ex ey ez fx fy fz bl ba = rw (append-nil, append-nil, append-nil)
-turn (Line layer last) t r c b xs ys zs o p q ex ey ez fx fy fz bl ba =
+turn (Line layer last letters) t r c b xs ys zs o p q ex ey ez fx fy fz bl ba =
     put-lines xs ys zs o p q (omega arith) (omega arith) (omega arith) (r ∷ []) (b .lines + c .lines) (omega arith) (omega arith) ∙ rw (append-nil, append-nil)
 turn (Coordinates left) t r c b xs ys zs o p q ex ey ez fx fy fz bl ba = rw (append-nil, append-nil, append-nil)
 turn (Area layer last) t r c b xs ys zs o p q ex ey ez fx fy fz bl ba =
@@ -168,7 +168,7 @@ room-one : (d : Due) (t : List ℕ) (c : Counts) (b : Bases) (p q n : ℕ)
 room-one (Mesh last) t c b p q n fx fy fz bl ba = omega arith
 room-one (Layer last) t c b p q n fx fy fz bl ba = omega arith
 room-one (Node layer last) t c b p q n fx fy fz bl ba = omega arith
-room-one (Line layer last) t c b p q n fx fy fz bl ba = omega arith
+room-one (Line layer last letters) t c b p q n fx fy fz bl ba = omega arith
 room-one (Coordinates left) t c b p q n fx fy fz bl ba = omega arith
 room-one (Area layer last) t c b p q n fx fy fz bl ba = omega arith
 room-one (Loop last count left) t c b p q n fx fy fz bl ba = omega arith

@@ -79,7 +79,7 @@ by-quiet P node coordinates = by
     by (Mesh last) q = absurd (false≢true q)
     by (Layer last) q = absurd (false≢true q)
     by (Node layer last) q = node layer last
-    by (Line layer last) q = absurd (false≢true q)
+    by (Line layer last letters) q = absurd (false≢true q)
     by (Coordinates left) q = coordinates left
     by (Area layer last) q = absurd (false≢true q)
     by (Loop last count left) q = absurd (false≢true q)
@@ -108,6 +108,7 @@ pub past-nodes : (s : State) (h : ℕ) {n : ℕ} → s .line .points ≤ 0 → n
         line = s .layer .line;
         areas = s .layer .areas;
         area = s .layer .area;
+        letters = s .layer .letters;
       };
       line = s .line;
       area = s .area;
@@ -155,7 +156,7 @@ abbrev isPoints : Due → Bool
 isPoints (Mesh last) = false
 isPoints (Layer last) = false
 isPoints (Node layer last) = false
-isPoints (Line layer last) = false
+isPoints (Line layer last letters) = false
 isPoints (Coordinates left) = true
 isPoints (Area layer last) = false
 isPoints (Loop last count left) = false
@@ -164,7 +165,7 @@ abbrev isNode : Due → Bool
 isNode (Mesh last) = false
 isNode (Layer last) = false
 isNode (Node layer last) = true
-isNode (Line layer last) = false
+isNode (Line layer last letters) = false
 isNode (Coordinates left) = false
 isNode (Area layer last) = false
 isNode (Loop last count left) = false

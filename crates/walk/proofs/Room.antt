@@ -64,7 +64,7 @@ row-most : (d : Due) (c : Counts) (t : List ℕ)
 row-most (Mesh last) c t = omega arith
 row-most (Layer last) c t = omega arith
 row-most (Node layer last) c t = omega arith
-row-most (Line layer last) c t = omega arith
+row-most (Line layer last letters) c t = omega arith
 row-most (Coordinates left) c t = omega arith
 row-most (Area layer last) c t = omega arith
 row-most (Loop last count left) c t = omega arith

@@ -114,7 +114,7 @@ counted-small (Layer last) t h =
 counted-small (Node layer last) t h =
     let g = upto-more h in
     record { meshes = g .meshes; layers = g .layers; nodes = omega (arith, h .nodes); lines = g .lines; areas = g .areas; words = g .words }
-counted-small (Line layer last) t h =
+counted-small (Line layer last letters) t h =
     let g = upto-more h in
     record { meshes = g .meshes; layers = g .layers; nodes = g .nodes; lines = omega (arith, h .lines); areas = g .areas; words = g .words }
 counted-small (Coordinates left) t h = upto-more h

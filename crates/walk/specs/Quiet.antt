@@ -25,7 +25,7 @@ abbrev pub isQuiet : Due → Bool
 isQuiet (Mesh last) = false
 isQuiet (Layer last) = false
 isQuiet (Node layer last) = true
-isQuiet (Line layer last) = false
+isQuiet (Line layer last letters) = false
 isQuiet (Coordinates left) = true
 isQuiet (Area layer last) = false
 isQuiet (Loop last count left) = false

@@ -7,9 +7,9 @@
 use mathlib.Core.List.{List, [], _∷_}
 use Prim.Native.Nat.{ℕ, _+_, _*_}
 
--- RULES 8.1: the H record, nodes, lines, areas
+-- RULES 8.1: the H record, nodes, lines, areas, letters
 abbrev pub rowLength : ℕ
-rowLength = 4
+rowLength = 5
 
 abbrev pub headWord : ℕ
 headWord = 0
@@ -23,8 +23,11 @@ linesWord = 2
 abbrev pub areasWord : ℕ
 areasWord = 3
 
-abbrev pub rowOf : ℕ → ℕ → ℕ → ℕ → List ℕ
-rowOf head nodes lines areas = head ∷ nodes ∷ lines ∷ areas ∷ []
+abbrev pub lettersWord : ℕ
+lettersWord = 4
+
+abbrev pub rowOf : ℕ → ℕ → ℕ → ℕ → ℕ → List ℕ
+rowOf head nodes lines areas letters = head ∷ nodes ∷ lines ∷ areas ∷ letters ∷ []
 
 -- RULES 8.2: its row, and a word for each line and each area: two numbers of at most six digits
 abbrev pub mostLayerWords : ℕ

@@ -53,7 +53,7 @@ abbrev pub mayEnd : Due → Bool
 mayEnd (Mesh last) = true
 mayEnd (Layer last) = false
 mayEnd (Node layer last) = false
-mayEnd (Line layer last) = false
+mayEnd (Line layer last letters) = false
 mayEnd (Coordinates left) = false
 mayEnd (Area layer last) = false
 mayEnd (Loop last count left) = false

@@ -13,6 +13,7 @@ use lib.Dec.{ltb}
 use Rattle.fields.specs.Number.{numberAt}
 use Rattle.fields.specs.Answer.{valueOf}
 use Rattle.records.specs.View.{recordOf}
+use Rattle.records.specs.Reading.{headLetters}
 use Rattle.records.specs.Columns.{Column, spanOf, meshCode, meshLayers, layerCode, layerNodes, layerLines, layerAreas, linePoints, areaLoops, loopCount}
 use Rattle.permitted.specs.Permitted.{size}
 use Rattle.rules.specs.declared.Due.{Due}
@@ -38,7 +39,7 @@ dueOf s =
     (cond (ltb 0 (s .area .entries)) (Loop (s .area .begun) (s .area .count) (s .area .entries))
     (cond (ltb (s .area .begun) (s .area .loops)) (Loop (s .area .begun) (s .area .count) 0)
     (cond (ltb (s .layer .node) (s .layer .nodes)) (Node (s .layer .code) (s .layer .node))
-    (cond (ltb (s .layer .line) (s .layer .lines)) (Line (s .layer .code) (s .layer .line))
+    (cond (ltb (s .layer .line) (s .layer .lines)) (Line (s .layer .code) (s .layer .line) (s .layer .letters))
     (cond (ltb (s .layer .area) (s .layer .areas)) (Area (s .layer .code) (s .layer .area))
     (cond (ltb 0 (s .mesh .layers)) (Layer (s .layer .code)) (Mesh (s .mesh .code))))))))
 
@@ -48,7 +49,7 @@ abbrev pub noMeshPart : MeshPart
 noMeshPart = record { code = 0; layers = 0 }
 
 abbrev pub noLayerPart : LayerPart
-noLayerPart = record { code = 0; nodes = 0; node = 0; lines = 0; line = 0; areas = 0; area = 0 }
+noLayerPart = record { code = 0; nodes = 0; node = 0; lines = 0; line = 0; areas = 0; area = 0; letters = 0 }
 
 abbrev pub noLinePart : LinePart
 noLinePart = record { points = 0 }
@@ -64,7 +65,7 @@ meshPart t = record { code = sizeAt t meshCode; layers = sizeAt t meshLayers }
 abbrev pub layerLess : MeshPart → MeshPart
 layerLess m = record { code = m .code; layers = m .layers - 1 }
 
--- RULES 2.5: an H has the layer code and how many nodes, lines and areas follow
+-- RULES 2.5: an H has the layer code and how many nodes, lines and areas follow; RULES 1.7: its letters are the layer's
 abbrev pub layerPart : List ℕ → LayerPart
 layerPart t = record {
   code = sizeAt t layerCode;
@@ -74,6 +75,7 @@ layerPart t = record {
   line = 0;
   areas = sizeAt t layerAreas;
   area = 0;
+  letters = headLetters t;
 }
 
 -- n more of the layer's nodes came, a line, an area
@@ -86,6 +88,7 @@ nodesMore l n = record {
   line = l .line;
   areas = l .areas;
   area = l .area;
+  letters = l .letters;
 }
 
 abbrev pub lineMore : LayerPart → LayerPart
@@ -97,6 +100,7 @@ lineMore l = record {
   line = l .line + 1;
   areas = l .areas;
   area = l .area;
+  letters = l .letters;
 }
 
 abbrev pub areaMore : LayerPart → LayerPart
@@ -108,6 +112,7 @@ areaMore l = record {
   line = l .line;
   areas = l .areas;
   area = l .area + 1;
+  letters = l .letters;
 }
 
 -- RULES 2.5: an L has how many points follow
@@ -170,7 +175,7 @@ abbrev pub nextFor : Due → State → List ℕ → State
 nextFor (Mesh last) s t = meshed t
 nextFor (Layer last) s t = headed s t
 nextFor (Node layer last) s t = noded s
-nextFor (Line layer last) s t = lined s t
+nextFor (Line layer last letters) s t = lined s t
 nextFor (Coordinates left) s t = pointed s
 nextFor (Area layer last) s t = areaBegun s t
 nextFor (Loop last count zero) s t = begunLoop s (sizeAt t loopCount)
@@ -214,7 +219,7 @@ countedFor (Layer last) c t = record {
   words = c .words + layerWords t;
 }
 countedFor (Node layer last) c t = record { meshes = c .meshes; layers = c .layers; nodes = c .nodes + 1; lines = c .lines; areas = c .areas; words = c .words }
-countedFor (Line layer last) c t = record { meshes = c .meshes; layers = c .layers; nodes = c .nodes; lines = c .lines + 1; areas = c .areas; words = c .words }
+countedFor (Line layer last letters) c t = record { meshes = c .meshes; layers = c .layers; nodes = c .nodes; lines = c .lines + 1; areas = c .areas; words = c .words }
 countedFor (Coordinates left) c t = c
 countedFor (Area layer last) c t = record { meshes = c .meshes; layers = c .layers; nodes = c .nodes; lines = c .lines; areas = c .areas + 1; words = c .words }
 countedFor (Loop last count left) c t = c

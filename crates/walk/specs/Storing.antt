@@ -18,7 +18,7 @@ abbrev pub storedAt : Due → Counts → Bases → ℕ
 storedAt (Mesh last) c b = 0
 storedAt (Layer last) c b = rowLength * c .layers
 storedAt (Node layer last) c b = 0
-storedAt (Line layer last) c b = b .lines + c .lines
+storedAt (Line layer last letters) c b = b .lines + c .lines
 storedAt (Coordinates left) c b = 0
 storedAt (Area layer last) c b = b .areas + c .areas
 storedAt (Loop last count left) c b = 0
@@ -28,7 +28,7 @@ abbrev pub manyOf : Due → ℕ
 manyOf (Mesh last) = 0
 manyOf (Layer last) = rowLength
 manyOf (Node layer last) = 0
-manyOf (Line layer last) = 1
+manyOf (Line layer last letters) = 1
 manyOf (Coordinates left) = 0
 manyOf (Area layer last) = 1
 manyOf (Loop last count left) = 0

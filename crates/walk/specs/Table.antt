@@ -9,6 +9,7 @@ use mathlib.Core.List.{List, [], _∷_, _++_}
 use Prim.Native.Nat.{ℕ, zero, suc}
 use lib.ListN.{length, drop}
 use Rattle.records.specs.View.{recordOf}
+use Rattle.records.specs.Reading.{headLetters}
 use Rattle.records.specs.Columns.{layerNodes, layerLines, layerAreas}
 use Rattle.verdict.specs.declared.Verdict.{Verdict}
 use Rattle.verdict.specs.declared.Verdict.the-variants.{Fine, Broken}
@@ -23,9 +24,9 @@ use Rattle.walk.specs.Stages.{recordsOf, walkedOf, early}
 -- RULES 8.1: a layer's row
 abbrev pub rowWords : Due → List ℕ → ℕ → List ℕ
 rowWords (Mesh last) t r = []
-rowWords (Layer last) t r = rowOf r (sizeAt t layerNodes) (sizeAt t layerLines) (sizeAt t layerAreas)
+rowWords (Layer last) t r = rowOf r (sizeAt t layerNodes) (sizeAt t layerLines) (sizeAt t layerAreas) (headLetters t)
 rowWords (Node layer last) t r = []
-rowWords (Line layer last) t r = []
+rowWords (Line layer last letters) t r = []
 rowWords (Coordinates left) t r = []
 rowWords (Area layer last) t r = []
 rowWords (Loop last count left) t r = []
@@ -35,7 +36,7 @@ abbrev pub lineWords : Due → List ℕ → ℕ → List ℕ
 lineWords (Mesh last) t r = []
 lineWords (Layer last) t r = []
 lineWords (Node layer last) t r = []
-lineWords (Line layer last) t r = r ∷ []
+lineWords (Line layer last letters) t r = r ∷ []
 lineWords (Coordinates left) t r = []
 lineWords (Area layer last) t r = []
 lineWords (Loop last count left) t r = []
@@ -45,7 +46,7 @@ abbrev pub areaWords : Due → List ℕ → ℕ → List ℕ
 areaWords (Mesh last) t r = []
 areaWords (Layer last) t r = []
 areaWords (Node layer last) t r = []
-areaWords (Line layer last) t r = []
+areaWords (Line layer last letters) t r = []
 areaWords (Coordinates left) t r = []
 areaWords (Area layer last) t r = r ∷ []
 areaWords (Loop last count left) t r = []

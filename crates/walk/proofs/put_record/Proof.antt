@@ -19,18 +19,22 @@ size-at-requires-2 c κs = search needs
 size-at-requires-3 : tie.Need-size-at-requires-3
 size-at-requires-3 c κs = search needs
 
+head-letters-requires : tie.Need-head-letters-requires
+head-letters-requires c κs = search needs
+
 mul-put-row : tie.Need-mul-put-row
 mul-put-row c =
-    let a = c .before .before .before .before .before in
+    let a = c .before .before .before .before .before .before in
     let r = rw (a .enum-told2 .given .1) at (a .before .before .before .before .pre .room) in
     omega (arith, r, a .before .before .before .before .good .0 .0)
 
 put-row-requires : tie.Need-put-row-requires
 put-row-requires c κs =
-    let a = c .before .before .before .before .before in
+    let a = c .before .before .before .before .before .before in
     let r = rw (a .enum-told2 .given .1) at (a .before .before .before .before .pre .room) in (
       omega (arith, r),
-      (c .before .before .before .before .size-at .ensures .1, c .before .before .before .size-at2 .ensures .1, c .before .before .size-at3 .ensures .1),
+      (c .before .before .before .before .before .size-at .ensures .1, c .before .before .before .before .size-at2 .ensures .1,
+          c .before .before .before .size-at3 .ensures .1),
     )
 
 enum-told-3 : tie.Need-enum-told-3
@@ -92,9 +96,16 @@ same-length c = search needs
 
 returns-2 : tie.Need-returns-2
 returns-2 c =
-    let z = c .before .before .before .before .before in
+    let h = c .before .before .before .before .before in
+    let z = h .before in
     let a = z .before .before .before in
-    rw (a .enum-told2 .given .1, ← z .before .before .size-at .ensures .0, ← z .before .size-at2 .ensures .0, ← z .size-at3 .ensures .0)
+    rw (
+      a .enum-told2 .given .1,
+      ← z .before .before .size-at .ensures .0,
+      ← z .before .size-at2 .ensures .0,
+      ← z .size-at3 .ensures .0,
+      ← h .head-letters .ensures,
+    )
     (c .before .before .put-row .ensures)
 
 returns-3 : tie.Need-returns-3
@@ -127,6 +138,7 @@ put-record-spec =
     size-at-requires
     size-at-requires-2
     size-at-requires-3
+    head-letters-requires
     mul-put-row
     put-row-requires
     enum-told-3

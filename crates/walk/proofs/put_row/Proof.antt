@@ -1,6 +1,6 @@
--- `walk::put_row` meets its contract: four stores in a row. Assumes nothing.
+-- `walk::put_row` meets its contract: five stores in a row. Assumes nothing.
 use native.Mathlib.Nat.{add-zero}
-use native.Mathlib.Numerals.{add-one, add-two, add-three}
+use native.Mathlib.Numerals.{add-one, add-two, add-three, add-four}
 use native.Mathlib.Omega.{arith}
 use lib.ListN.{length-set}
 use borrow.Author.Needs.{needs}
@@ -52,11 +52,20 @@ mul-table-4 c = search needs
 slice-write-table-4 : tie.Need-slice-write-table-4
 slice-write-table-4 c = simp length-set (omega (arith, c .pre))
 
+add-table-5 : tie.Need-add-table-5
+add-table-5 c = search needs
+
+mul-table-5 : tie.Need-mul-table-5
+mul-table-5 c = search needs
+
+slice-write-table-5 : tie.Need-slice-write-table-5
+slice-write-table-5 c = simp length-set (omega (arith, c .pre))
+
 same-length : tie.Need-same-length
 same-length c = search needs
 
 returns : tie.Need-returns
-returns c = simp (add-zero, add-one, add-two, add-three)
+returns c = simp (add-zero, add-one, add-two, add-three, add-four)
 
 pub put-row-spec : {M : Type 1} → statement M
 put-row-spec =
@@ -77,5 +86,8 @@ put-row-spec =
     add-table-4
     mul-table-4
     slice-write-table-4
+    add-table-5
+    mul-table-5
+    slice-write-table-5
     same-length
     returns)
