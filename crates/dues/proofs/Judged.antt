@@ -144,7 +144,7 @@ may-end : (d : Due) → mayEnd d ≡ isMesh (kindOf d)
 may-end (due.Mesh last) = refl
 may-end (due.Layer last) = refl
 may-end (due.Node layer last) = refl
-may-end (due.Line layer last) = refl
+may-end (due.Line layer last letters) = refl
 may-end (due.Coordinates left) = refl
 may-end (due.Area layer last) = refl
 may-end (due.Loop last count left) = refl

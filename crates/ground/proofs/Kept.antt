@@ -141,10 +141,10 @@ slot-kept file p i a k x e m =
     let o : q < recordsTo file (suc k) (loopsAt file (suc k)) = omega arith in
     let v = inside file k (x .due) q o in
     let w = complete file k (recordsOf file) (x .within) (ended file (p .two)) (x .due) q o in
-    let n : stateAt file j .layer .area ≡ suc a = omega (arith, v .area, number-of areas file k (x .within) _ _ (x .due) .0) in
+    let n : stateAt file j .layer .area ≡ suc a = omega (arith, v .area, number-of areas file k (x .within) _ 0 _ (x .due) .0) in
     let f : layerAt file t b j ≡ layerOf file i = ap (λ (c : ℕ). layerIn t b (c - 1)) (v .layers) ∙ x .layer in
     let four = rw f at (four-holds file p j w (v .due)) in
     let five = rw (f, n) at (five-holds file p j w (v .due)) in
     let y : suc a - 1 ≡ a = omega arith in
-    let z : getD t (layerOf file i .area + (suc a - 1)) 0 ≡ suc k = rw y (rw (x .layer) at (word-of areas file k (x .within) _ _ (x .due))) in
+    let z : getD t (layerOf file i .area + (suc a - 1)) 0 ≡ suc k = rw y (rw (x .layer) at (word-of areas file k (x .within) _ 0 _ (x .due))) in
     slot-by file t (layerOf file i) (suc a) (suc k) (v .count) (v .left) (j + 1) (e % 12) e (omega arith) refl (omega arith) z four five

@@ -57,7 +57,7 @@ an-h : (d : Due) → isLayer d ≡ true → (last : ℕ) × (d ≡ due.Layer las
 an-h (due.Mesh last) h = absurd (false≢true h)
 an-h (due.Layer last) h = (last, refl)
 an-h (due.Node layer last) h = absurd (false≢true h)
-an-h (Line layer last) h = absurd (false≢true h)
+an-h (Line layer last letters) h = absurd (false≢true h)
 an-h (Coordinates left) h = absurd (false≢true h)
 an-h (due.Area layer last) h = absurd (false≢true h)
 an-h (due.Loop last count left) h = absurd (false≢true h)
@@ -132,7 +132,7 @@ module _ (file : List ℕ) (h : firstBroken (stageTwo file) ≡ Fine) (k : ℕ) 
 
 -- the line whose L is record k + 1
 line-sound : (file : List ℕ) → firstBroken (stageTwo file) ≡ Fine → (k : ℕ) → k < recordsOf file
-    → {layer m : ℕ} → dueOf (stateAt file k) ≡ Line layer m → Sound file (suc k)
+    → {layer m letters : ℕ} → dueOf (stateAt file k) ≡ Line layer m letters → Sound file (suc k)
 unfolding stateAt nextOf pointCount numberIn sizeIn pairBy pointBy
 line-sound file h k l e =
     let few = count-most (valueOf (numberAt (recordOf file (suc k)) 50 6)) in

@@ -59,10 +59,10 @@ unfolding measuresOf areaOfLayer layerAt
 measure-place file k l {last = m} e =
     let t = tableOf file in
     let i = countsAt file k .layers - 1 in
-    let x = place-of areas file k l _ _ e in
+    let x = place-of areas file k l _ 0 _ e in
     rw (x .place)
     (layer-measure file t (basesIn file) (countsAt file (recordsOf file) .layers) i m (counts-few file refl .0) (x .layer) (x .inside)
-    ∙ ap (areaMeasureIn file t (layerOf file i)) (named areas t (layerOf file i) m (x .inside) ∙ word-of areas file k l _ _ e ∙ sym (add-one k)))
+    ∙ ap (areaMeasureIn file t (layerOf file i)) (named areas t (layerOf file i) m (x .inside) ∙ word-of areas file k l _ 0 _ e ∙ sym (add-one k)))
 
 -- the measure in place n is that of the A before which n others stand: the record behind the first k
 pub record MeasureAt (file : List ℕ) (n k : ℕ) : Type 0 where

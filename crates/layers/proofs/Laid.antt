@@ -109,9 +109,9 @@ count-is : {v w : Tally} → v ≡ w → v .count ≡ w .count
 count-is e = ap (λ (v : Tally). v .count) e
 
 -- a record of the section has a word
-wordless : {A : Type 0} (x : Section) (d : Due) (r : List ℕ) (code m : ℕ) → wordsFor x d r 0 ≡ [] → d ≡ dueIn x code m → A
-wordless x d r code m n e =
-    let z : _≡_ {A = ℕ} 1 0 = ap length (sym (own-word x code m r 0) ∙ ap (λ d. wordsFor x d r 0) (sym e) ∙ n) in
+wordless : {A : Type 0} (x : Section) (d : Due) (r : List ℕ) (code letters m : ℕ) → wordsFor x d r 0 ≡ [] → d ≡ dueIn x code letters m → A
+wordless x d r code letters m n e =
+    let z : _≡_ {A = ℕ} 1 0 = ap length (sym (own-word x code letters m r 0) ∙ ap (λ d. wordsFor x d r 0) (sym e) ∙ n) in
     absurd (omega arith)
 
 module _ {x : Section} {s : State} {c : Counts} {r : List ℕ} {d : Due} where
@@ -123,11 +123,11 @@ module _ {x : Section} {s : State} {c : Counts} {r : List ℕ} {d : Due} where
   part-next (other n q) o h p = part-is q p
 
   -- where one is due: its number, and that the layer has not all yet
-  due-by : (code m : ℕ) → Effect x s c r d → d ≡ dueIn x code m → (m ≡ cameIn x s) × (cameIn x s < ownIn x s)
-  due-by code m (own e l q) f = (due-number x code _ m (cameIn x s) (sym f ∙ e), l)
-  due-by code m (head n e l q) f = wordless x d r code m n f
-  due-by code m (mesh n l q) f = wordless x d r code m n f
-  due-by code m (other n q) f = wordless x d r code m n f
+  due-by : (code letters m : ℕ) → Effect x s c r d → d ≡ dueIn x code letters m → (m ≡ cameIn x s) × (cameIn x s < ownIn x s)
+  due-by code letters m (own e l q) f = (due-number x code letters _ _ m (cameIn x s) (sym f ∙ e), l)
+  due-by code letters m (head n e l q) f = wordless x d r code letters m n f
+  due-by code letters m (mesh n l q) f = wordless x d r code letters m n f
+  due-by code letters m (other n q) f = wordless x d r code letters m n f
 
   -- where their count comes past p, one is due
   passed : {p : ℕ} → Effect x s c r d → countIn x c ≤ p → p < countIn x (countedFor d c r) → (d ≡ dueNow x s (cameIn x s)) × (countIn x c ≡ p)
@@ -173,10 +173,10 @@ pub record Place (x : Section) (file : List ℕ) (k i m : ℕ) : Type 0 where
   pub place : countIn x (countsAt file k) ≡ wordsBefore (tableOf file) (wordOf x) i + m
 
 -- where record m of a section is due
-module _ (x : Section) (file : List ℕ) (k : ℕ) (l : k < recordsOf file) (code m : ℕ) (e : dueOf (stateAt file k) ≡ dueIn x code m) where
+module _ (x : Section) (file : List ℕ) (k : ℕ) (l : k < recordsOf file) (code letters m : ℕ) (e : dueOf (stateAt file k) ≡ dueIn x code letters m) where
   -- m of the layer came, and it has not all yet
   pub number-of : (m ≡ cameIn x (stateAt file k)) × (cameIn x (stateAt file k) < ownIn x (stateAt file k))
-  number-of = due-by code m (effect-at x file k) e
+  number-of = due-by code letters m (effect-at x file k) e
 
   -- the layers that came up to here are among those of the file
   here : countsAt file k .layers - 1 ≤ countsAt file (recordsOf file) .layers
@@ -198,7 +198,7 @@ module _ (x : Section) (file : List ℕ) (k : ℕ) (l : k < recordsOf file) (cod
   there =
       let r = recordOf file (suc k) in
       let before = length (gather (wordsFor x) file k) in
-      let v : wordsFor x (dueOf (stateAt file k)) r (suc k) ≡ suc k ∷ [] = ap (λ d. wordsFor x d r (suc k)) e ∙ own-word x code m r (suc k) in
+      let v : wordsFor x (dueOf (stateAt file k)) r (suc k) ≡ suc k ∷ [] = ap (λ d. wordsFor x d r (suc k)) e ∙ own-word x code letters m r (suc k) in
       let w = gathered (wordsFor x) file k (recordsOf file) 0 l (rw v (lit≤ tt)) in
       let z : countIn x (countsAt file k) ≡ before + 0 = omega (arith, many-words x file k) in
       rw z (word-in x file (before + 0) (w .short) ∙ w .word ∙ ap (λ ws. getD ws 0 0) v)
@@ -232,8 +232,8 @@ laid x file h i m l a =
     let k = q .0 in
     let s = stateAt file k in
     let c = q .1 .within in
-    let d = number-of x file k c _ (cameIn x s) (q .1 .due) in
+    let d = number-of x file k c _ _ (cameIn x s) (q .1 .due) in
     let y = only (next (parts x file k (omega (arith, c))) (d .1)) (q .1 .before) b in
     let e : dueOf s ≡ dueNow x s m = q .1 .due ∙ ap (dueNow x s) (y .1) in
     let f : layerAt file t (basesIn file) k ≡ layerOf file i = ap (layerOf file) (y .0) in
-    (k, record { within = c; due = e; layer = f; word = named x t (layerOf file i) m a ∙ rw f at (word-of x file k c _ m e) })
+    (k, record { within = c; due = e; layer = f; word = named x t (layerOf file i) m a ∙ rw f at (word-of x file k c _ _ m e) })

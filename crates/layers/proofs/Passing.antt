@@ -22,7 +22,7 @@ counted-layers : (d : Due) (c : Counts) (t : List ℕ) → countedFor d c t .lay
 counted-layers (due.Mesh last) c t = omega arith
 counted-layers (due.Layer last) c t = omega arith
 counted-layers (due.Node layer last) c t = omega arith
-counted-layers (due.Line layer last) c t = omega arith
+counted-layers (due.Line layer last letters) c t = omega arith
 counted-layers (due.Coordinates left) c t = omega arith
 counted-layers (due.Area layer last) c t = omega arith
 counted-layers (due.Loop last count left) c t = omega arith

@@ -100,7 +100,7 @@ head-words : (d : Due) (t : List ℕ) (r : ℕ) → isLayer d ≡ true → rowWo
 head-words (due.Mesh last) t r e = cc
 head-words (due.Layer last) t r e = refl
 head-words (due.Node layer last) t r e = cc
-head-words (due.Line layer last) t r e = cc
+head-words (due.Line layer last letters) t r e = cc
 head-words (due.Coordinates left) t r e = cc
 head-words (due.Area layer last) t r e = cc
 head-words (due.Loop last count left) t r e = cc

@@ -73,14 +73,14 @@ abbrev pub totalIn : Section → List ℕ → ℕ
 totalIn lines t = sizeAt t layerLines
 totalIn areas t = sizeAt t layerAreas
 
--- record m of it in a layer, counted from 0: an L or an A with the layer's code
-abbrev pub dueIn : Section → ℕ → ℕ → Due
-dueIn lines code m = Line code m
-dueIn areas code m = Area code m
+-- record m of it in a layer, counted from 0: an L with the layer's code and letters, or an A with its code
+abbrev pub dueIn : Section → ℕ → ℕ → ℕ → Due
+dueIn lines code letters m = Line code m letters
+dueIn areas code letters m = Area code m
 
 -- the same in the layer of a state
 abbrev pub dueNow : Section → State → ℕ → Due
-dueNow x s m = dueIn x (s .layer .code) m
+dueNow x s m = dueIn x (s .layer .code) (s .layer .letters) m
 
 -- how many records of it came
 abbrev pub countIn : Section → Counts → ℕ
@@ -178,13 +178,13 @@ came-all lines i = i .lines
 came-all areas i = i .areas
 
 -- a record of it gives it a word, its number
-pub own-word : (x : Section) (code m : ℕ) (t : List ℕ) (r : ℕ) → wordsFor x (dueIn x code m) t r ≡ r ∷ []
-own-word lines code m t r = refl
-own-word areas code m t r = refl
+pub own-word : (x : Section) (code letters m : ℕ) (t : List ℕ) (r : ℕ) → wordsFor x (dueIn x code letters m) t r ≡ r ∷ []
+own-word lines code letters m t r = refl
+own-word areas code letters m t r = refl
 
-pub due-number : (x : Section) (code last m n : ℕ) → dueIn x code m ≡ dueIn x last n → m ≡ n
-due-number lines code last m n e = cc
-due-number areas code last m n e = cc
+pub due-number : (x : Section) (a b c d m n : ℕ) → dueIn x a b m ≡ dueIn x c d n → m ≡ n
+due-number lines a b c d m n e = cc
+due-number areas a b c d m n e = cc
 
 -- a row has what its H says
 pub head-total : (x : Section) (file : List ℕ) (k : ℕ) → k < recordsOf file → isLayer (dueOf (stateAt file k)) ≡ true

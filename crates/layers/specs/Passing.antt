@@ -21,7 +21,7 @@ abbrev pub isLayer : Due → Bool
 isLayer (Mesh last) = false
 isLayer (Layer last) = true
 isLayer (Node layer last) = false
-isLayer (Line layer last) = false
+isLayer (Line layer last letters) = false
 isLayer (Coordinates left) = false
 isLayer (Area layer last) = false
 isLayer (Loop last count left) = false

@@ -58,7 +58,7 @@ link-orderly : (d : Due) (file t : List ℕ) (l : Layer) (line r : ℕ) → Orde
 link-orderly (due.Mesh last) file t l line r = (refl, refl)
 link-orderly (due.Layer last) file t l line r = (refl, refl)
 link-orderly (due.Node layer last) file t l line r = node-orderly file t l r
-link-orderly (due.Line layer last) file t l line r = line-orderly file t l r
+link-orderly (due.Line layer last letters) file t l line r = line-orderly file t l r
 link-orderly (due.Coordinates left) file t l line r = point-orderly file l _ r left
 link-orderly (due.Area layer last) file t l line r = (refl, refl)
 link-orderly (due.Loop last count left) file t l line r = entry-orderly file l r

@@ -182,7 +182,7 @@ abbrev pub linkChecks : Due → List ℕ → List ℕ → layers.Layer → ℕ �
 linkChecks (Mesh last) file t l line r = []
 linkChecks (Layer last) file t l line r = []
 linkChecks (Node layer last) file t l line r = nodeChecks file t l r
-linkChecks (Line layer last) file t l line r = lineChecks file t l r
+linkChecks (Line layer last letters) file t l line r = lineChecks file t l r
 linkChecks (Coordinates left) file t l line r = pointChecks file l (getD t (l .line + (line - 1)) 0) r left
 linkChecks (Area layer last) file t l line r = []
 linkChecks (Loop last count left) file t l line r = entryChecks file l r

@@ -36,7 +36,7 @@ area-orderly : (d : Due) (file t : List ℕ) (l : Layer) (area r : ℕ) → Orde
 area-orderly (due.Mesh last) file t l area r = (refl, refl)
 area-orderly (due.Layer last) file t l area r = (refl, refl)
 area-orderly (due.Node layer last) file t l area r = (refl, refl)
-area-orderly (due.Line layer last) file t l area r = (refl, refl)
+area-orderly (due.Line layer last letters) file t l area r = (refl, refl)
 area-orderly (due.Coordinates left) file t l area r = (refl, refl)
 area-orderly (due.Area layer last) file t l area r = (refl, refl)
 area-orderly (due.Loop last count left) file t l area r = loop-orderly file t l area count left r

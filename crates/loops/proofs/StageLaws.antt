@@ -97,7 +97,7 @@ module _ (file t : List ℕ) (l : Layer) (ms : List ℤ) where
   any-kept (due.Mesh last) h = tt
   any-kept (due.Layer last) h = tt
   any-kept (due.Node layer last) h = tt
-  any-kept (due.Line layer last) h = tt
+  any-kept (due.Line layer last letters) h = tt
   any-kept (due.Coordinates left) h = tt
   any-kept (due.Area layer last) h = tt
   any-kept (due.Loop last count left) h = h
@@ -139,7 +139,7 @@ module _ (file t : List ℕ) (l y : Layer) (s : State) (w : List ℕ) where
   known-by (due.Mesh last) h = none-known _ h
   known-by (due.Layer last) h = none-known _ h
   known-by (due.Node layer last) h = none-known _ h
-  known-by (due.Line layer last) h = none-known _ h
+  known-by (due.Line layer last letters) h = none-known _ h
   known-by (due.Coordinates left) h = none-known _ h
   known-by (due.Area layer last) h = h
   known-by (due.Loop last count zero) h = h

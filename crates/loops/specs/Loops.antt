@@ -95,7 +95,7 @@ abbrev pub areaChecks : Due → List ℕ → List ℕ → layers.Layer → ℕ �
 areaChecks (Mesh last) file t l area r = []
 areaChecks (Layer last) file t l area r = []
 areaChecks (Node layer last) file t l area r = []
-areaChecks (Line layer last) file t l area r = []
+areaChecks (Line layer last letters) file t l area r = []
 areaChecks (Coordinates left) file t l area r = []
 areaChecks (Area layer last) file t l area r = []
 areaChecks (Loop last count left) file t l area r = loopChecks file t l area count left r

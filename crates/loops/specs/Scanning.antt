@@ -39,7 +39,7 @@ abbrev pub KeptFor : Due → List ℕ → List ℕ → Layer → List ℤ → Ty
 KeptFor (due.Mesh last) file t l ms = Unit {0}
 KeptFor (due.Layer last) file t l ms = Unit {0}
 KeptFor (due.Node layer last) file t l ms = Unit {0}
-KeptFor (due.Line layer last) file t l ms = Unit {0}
+KeptFor (due.Line layer last letters) file t l ms = Unit {0}
 KeptFor (due.Coordinates left) file t l ms = Unit {0}
 KeptFor (due.Area layer last) file t l ms = Unit {0}
 KeptFor (due.Loop last count left) file t l ms = Kept file t l ms
@@ -59,7 +59,7 @@ abbrev pub KnownBehind : Due → List ℕ → List ℕ → Layer → ℕ → ℕ
 KnownBehind (due.Mesh last) file t l area r = r ≡ 0
 KnownBehind (due.Layer last) file t l area r = r ≡ 0
 KnownBehind (due.Node layer last) file t l area r = r ≡ 0
-KnownBehind (due.Line layer last) file t l area r = r ≡ 0
+KnownBehind (due.Line layer last letters) file t l area r = r ≡ 0
 KnownBehind (due.Coordinates left) file t l area r = r ≡ 0
 KnownBehind (due.Area layer last) file t l area r = Unrepeated file (areaRecord t l (area + 1)) r
 KnownBehind (due.Loop last count left) file t l area r = Unrepeated file (areaRecord t l area) r

@@ -25,7 +25,7 @@ pub area-small : (d : Due) → areaCount d ≤ 1
 area-small (Mesh last) = omega arith
 area-small (Layer last) = omega arith
 area-small (Node layer last) = omega arith
-area-small (Line layer last) = omega arith
+area-small (Line layer last letters) = omega arith
 area-small (Coordinates left) = omega arith
 area-small (Area layer last) = omega arith
 area-small (Loop last count left) = omega arith
@@ -52,7 +52,7 @@ counted-areas : (d : Due) (c : Counts) (t : List ℕ) → countedFor d c t .area
 counted-areas (Mesh last) c t = omega arith
 counted-areas (Layer last) c t = omega arith
 counted-areas (Node layer last) c t = omega arith
-counted-areas (Line layer last) c t = omega arith
+counted-areas (Line layer last letters) c t = omega arith
 counted-areas (Coordinates left) c t = omega arith
 counted-areas (Area layer last) c t = omega arith
 counted-areas (Loop last count left) c t = omega arith
@@ -86,7 +86,7 @@ unfolding recordText
 same-record (Mesh last) s t h = refl
 same-record (Layer last) s t h = refl
 same-record (Node layer last) s t h = refl
-same-record (Line layer last) s t h = refl
+same-record (Line layer last letters) s t h = refl
 same-record (Coordinates left) s t h = refl
 same-record (Area layer last) s t h = rw (h refl)
 same-record (Loop last count left) s t h = refl

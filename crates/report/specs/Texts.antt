@@ -161,7 +161,7 @@ unfoldable pub recordText : Due → State → List ℕ → ℤ → List ℕ
 recordText (Mesh last) s t m = []
 recordText (Layer last) s t m = []
 recordText (Node layer last) s t m = []
-recordText (Line layer last) s t m = []
+recordText (Line layer last letters) s t m = []
 recordText (Coordinates left) s t m = []
 recordText (Area layer last) s t m = areaText (shownIn s t) m
 recordText (Loop last count left) s t m = []
@@ -171,7 +171,7 @@ abbrev pub areaCount : Due → ℕ
 areaCount (Mesh last) = 0
 areaCount (Layer last) = 0
 areaCount (Node layer last) = 0
-areaCount (Line layer last) = 0
+areaCount (Line layer last letters) = 0
 areaCount (Coordinates left) = 0
 areaCount (Area layer last) = 1
 areaCount (Loop last count left) = 0

@@ -19,7 +19,7 @@ unfolding listChecks
 list-orderly (due.Mesh last) file t l r = (refl, refl)
 list-orderly (due.Layer last) file t l r = (refl, refl)
 list-orderly (due.Node layer last) file t l r = (refl, refl)
-list-orderly (due.Line layer last) file t l r = (refl, refl)
+list-orderly (due.Line layer last letters) file t l r = (refl, refl)
 list-orderly (due.Coordinates left) file t l r = (refl, refl)
 list-orderly (due.Area layer last) file t l r = (refl, refl)
 list-orderly (due.Loop last count left) file t l r = (refl, refl)

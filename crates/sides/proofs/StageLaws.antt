@@ -70,7 +70,7 @@ lines-next : (d : Due) (s : State) (t : List ℕ) → s .layer .lines ≤ 999999
 lines-next (due.Mesh last) s t h = lit≤ tt
 lines-next (due.Layer last) s t h = size-small t 10 5
 lines-next (due.Node layer last) s t h = h
-lines-next (due.Line layer last) s t h = h
+lines-next (due.Line layer last letters) s t h = h
 lines-next (due.Coordinates left) s t h = h
 lines-next (due.Area layer last) s t h = h
 lines-next (due.Loop last count zero) s t h = h
@@ -88,7 +88,7 @@ pub due-countable : (file : List ℕ) (k : ℕ) {s : State} {d : Due} → s ≡ 
 due-countable file k e f = rw (f, e) (state-countable (stateAt file k) (lines-small file k))
 
 -- the line behind line `last`
-pub line-countable : {d : Due} {layer last : ℕ} → d ≡ due.Line layer last → LineCountable d → last ≤ 999999
+pub line-countable : {d : Due} {layer last letters : ℕ} → d ≡ due.Line layer last letters → LineCountable d → last ≤ 999999
 line-countable e h = rw e at h
 
 -- ---- a quiet record is no line

@@ -31,7 +31,7 @@ abbrev pub LineCountable : Due → Type 0
 LineCountable (Mesh last) = Unit {0}
 LineCountable (Layer last) = Unit {0}
 LineCountable (Node layer last) = Unit {0}
-LineCountable (Line layer last) = last ≤ 999999
+LineCountable (Line layer last letters) = last ≤ 999999
 LineCountable (Coordinates left) = Unit {0}
 LineCountable (Area layer last) = Unit {0}
 LineCountable (Loop last count left) = Unit {0}

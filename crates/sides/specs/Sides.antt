@@ -41,7 +41,7 @@ abbrev pub lineListChecks : Due → List ℕ → List ℕ → layers.Layer → �
 lineListChecks (Mesh last) file t l r = []
 lineListChecks (Layer last) file t l r = []
 lineListChecks (Node layer last) file t l r = []
-lineListChecks (Line layer last) file t l r = listChecks file t l r (last + 1)
+lineListChecks (Line layer last letters) file t l r = listChecks file t l r (last + 1)
 lineListChecks (Coordinates left) file t l r = []
 lineListChecks (Area layer last) file t l r = []
 lineListChecks (Loop last count left) file t l r = []

@@ -61,7 +61,7 @@ added-addable k (Mesh last) s t a = one-addable k a refl (omega arith) (omega ar
 added-addable k (Layer last) s t a =
     one-addable k a refl (omega (arith, size-small t 5 5)) (omega (arith, size-small t 10 5)) (omega (arith, size-small t 15 5)) (omega arith)
 added-addable k (Node layer last) s t a = one-addable k a refl (omega arith) (omega arith) (omega arith) (omega arith)
-added-addable k (Line layer last) s t a = one-addable k a refl (omega arith) (omega arith) (omega arith) (omega arith)
+added-addable k (Line layer last letters) s t a = one-addable k a refl (omega arith) (omega arith) (omega arith) (omega arith)
 added-addable k (Coordinates left) s t a = one-addable k a refl (omega arith) (omega arith) (omega arith) (omega arith)
 added-addable k (Area layer last) s t a = one-addable k a refl (omega arith) (omega arith) (omega arith) (omega arith)
 added-addable k (Loop last count zero) s t a = one-addable k a refl (omega arith) (omega arith) (omega arith) (omega (arith, size-small t 6 4))
@@ -211,7 +211,7 @@ unfolding meshTotals layerTotals areaTotals
 total-rising (Mesh last) file k = refl
 total-rising (Layer last) file k = refl
 total-rising (Node layer last) file k = refl
-total-rising (Line layer last) file k = refl
+total-rising (Line layer last letters) file k = refl
 total-rising (Coordinates left) file k = refl
 total-rising (Area layer last) file k = refl
 total-rising (Loop last count left) file k = refl
@@ -230,7 +230,7 @@ unfolding meshTotals layerTotals areaTotals
 total-numbered (Mesh last) file k = refl
 total-numbered (Layer last) file k = refl
 total-numbered (Node layer last) file k = refl
-total-numbered (Line layer last) file k = refl
+total-numbered (Line layer last letters) file k = refl
 total-numbered (Coordinates left) file k = refl
 total-numbered (Area layer last) file k = refl
 total-numbered (Loop last count left) file k = refl

@@ -25,7 +25,7 @@ abbrev pub rankOf : Due → ℕ
 rankOf (Mesh last) = 0
 rankOf (Layer last) = 1
 rankOf (Node layer last) = 2
-rankOf (Line layer last) = 2
+rankOf (Line layer last letters) = 2
 rankOf (Coordinates left) = 2
 rankOf (Area layer last) = 2
 rankOf (Loop last count left) = 3
@@ -55,7 +55,7 @@ abbrev pub addedFor : Due → Sums → List ℕ → Sums
 addedFor (Mesh last) s t = oneMore s
 addedFor (Layer last) s t = layerMore s t
 addedFor (Node layer last) s t = oneMore s
-addedFor (Line layer last) s t = oneMore s
+addedFor (Line layer last letters) s t = oneMore s
 addedFor (Coordinates left) s t = oneMore s
 addedFor (Area layer last) s t = oneMore s
 addedFor (Loop last count zero) s t = loopMore s t
@@ -103,7 +103,7 @@ abbrev pub totalChecks : Due → List ℕ → ℕ → List Check
 totalChecks (Mesh last) file k = meshTotals (recordOf file (k + 1)) (sumsBehind 0 file (k + 1))
 totalChecks (Layer last) file k = layerTotals (recordOf file (k + 1)) (sumsBehind 1 file (k + 1))
 totalChecks (Node layer last) file k = []
-totalChecks (Line layer last) file k = []
+totalChecks (Line layer last letters) file k = []
 totalChecks (Coordinates left) file k = []
 totalChecks (Area layer last) file k = areaTotals (recordOf file (k + 1)) (sumsBehind 2 file (k + 1))
 totalChecks (Loop last count left) file k = []
