@@ -91,7 +91,7 @@ module _ (n : ℕ) (s : List ℕ) {m : Meant} (e : m ≡ meantBy n) where
         number = r .number;
         place = r .place;
         column = r .column;
-        value = record { kind = j; numbers = r .value .numbers; name = r .value .name; marks = r .value .marks };
+        value = record { kind = j; numbers = r .value .numbers; name = r .value .name; marks = r .value .marks; letters = r .value .letters };
       }
       ≡ foundOf n s
   unfolding foundOf

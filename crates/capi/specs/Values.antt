@@ -47,12 +47,12 @@ abbrev pub owedNumber : Owed → ℕ
 owedNumber (owed.A k) = kindNumber k
 owedNumber owed.Nothing = 0
 
--- RULES 4.8: a record's value is its kind, its numbers in column order, its name bytes and the marks of its codes
+-- RULES 4.8: a record's value is its kind, its numbers in column order, its name bytes, the marks of its codes and the letters of an H
 abbrev pub meantRecord : Kind → Value → Record
-meantRecord k v = record { kind = k; numbers = v .numbers; name = v .name; marks = v .marks }
+meantRecord k v = record { kind = k; numbers = v .numbers; name = v .name; marks = v .marks; letters = v .letters }
 
 abbrev pub givenValue : Record → Value
-givenValue r = record { kind = kindNumber (r .kind); numbers = r .numbers; name = r .name; marks = r .marks }
+givenValue r = record { kind = kindNumber (r .kind); numbers = r .numbers; name = r .name; marks = r .marks; letters = r .letters }
 
 -- ---- reading
 
@@ -61,7 +61,12 @@ foundIn r = record { number = r .number; place = r .place; column = r .column; v
 
 -- RULES 9.7: a number that stands for no kind is 3 at record 1, column 1, whatever the bytes: no letters are those of a kind that there isn't. All else is 0
 abbrev pub noKind : Found
-noKind = record { number = 3; place = 1; column = 1; value = record { kind = 0; numbers = zeros; name = noName; marks = unmarked } }
+noKind = record {
+  number = 3;
+  place = 1;
+  column = 1;
+  value = record { kind = 0; numbers = zeros; name = noName; marks = unmarked; letters = 0 };
+}
 
 abbrev pub foundBy : Meant → List ℕ → Found
 foundBy (A k) s = foundIn (readingOf k s)

@@ -1,7 +1,7 @@
 -- The kind that is told of a record and what is judged there. Stage 2 judges each record by what the walk says is due, and what is told is its
 -- kind; so the rules go along that kind's layout, a record that keeps them is read by it, and the end is judged by what is told behind the
 -- last record. Assumes nothing.
-use mathlib.Core.Bool.{Bool, true, false, cond, not, _&&_, false≢true}
+use mathlib.Core.Bool.{Bool, true, false, cond, not, _&&_, false≢true, _||_}
 use mathlib.Core.List.{List, [], _∷_}
 use mathlib.Core.Path.{_≡_, refl, sym, _∙_}
 use Prim.Native.Nat.{ℕ, suc, _+_, _≤_, _<_}
@@ -51,7 +51,8 @@ module _ (file : List ℕ) (k : ℕ) {j : Kind} (e : dueAt file (k + 1) ≡ A j)
 
   -- JUDGED AS TOLD: the rules of record k + 1 in stage 2 go along the layout of the kind that is told of it
   pub judged-as-told : k < recordsOf file
-      → stageTwoRules file k ≡ block 2 (k + 1) (along (askedOf (dueOf (stateAt file k))) (layoutOf j) 0 zeros (recordOf file (k + 1)))
+      → stageTwoRules file k
+      ≡ block 2 (k + 1) (along (askedOf (dueOf (stateAt file k)) (recordOf file (k + 1))) (layoutOf j) 0 zeros (recordOf file (k + 1)))
   unfolding checksOf
   judged-as-told l = rw (← told-is (omega arith))
 
@@ -70,19 +71,16 @@ code-free : (x : Code) → not (eqb (codeRefusal x) 5) ≡ true → codeRefusal 
 code-free (code.Value v m) h = refl
 code-free code.Refused h = absurd (false≢true h)
 
-letters-free : (p q : Bool) → not (eqb (cond p 0 (cond q 7 3)) 3) ≡ true → not (eqb (cond p 0 (cond q 7 3)) 7) ≡ true
-    → _≡_ {A = ℕ} (cond p 0 (cond q 7 3)) 0
-letters-free true q h g = refl
-letters-free false true h g = absurd (false≢true g)
-letters-free false false h g = absurd (false≢true h)
+letters-free : (p : Bool) → not (eqb (cond p 0 3) 3) ≡ true → _≡_ {A = ℕ} (cond p 0 3) 0
+letters-free true h = refl
+letters-free false h = absurd (false≢true h)
 
 module _ (t : List ℕ) where
   -- a field whose form is kept has no fault
   formed : (f : Field) → Holding (formChecks f t) → faultOf f t ≡ 0
   unfolding formChecks faultOf
   formed field.End h = refl
-  formed (field.Letters a b) h =
-      letters-free (eqb (getD t 0 0) a && eqb (getD t 1 0) b) (eqb a 72 && (eqb (getD t 0 0) 72 && eqb (getD t 1 0) 49)) (h .0) (h .1 .0)
+  formed (field.Letters a b c) h = letters-free (eqb (getD t 0 0) a && (eqb (getD t 1 0) b || eqb (getD t 1 0) c)) (h .0)
   formed (field.Number c w) h = number-free (numberAt t c w) (h .0)
   formed (field.Code c w) h = code-free (codeIn t c w) (h .0)
   formed (field.Name c w) h = text-free (textAt isName t c w) (h .0)
@@ -97,9 +95,9 @@ module _ (t : List ℕ) where
   unfolding along firstFault
   no-fault a [] i ns h = refl
   no-fault a (field.End ∷ L) i ns h = rw end-none (no-fault a L i ns h)
-  no-fault a (field.Letters x y ∷ L) i ns h =
-      let b = both-hold (formChecks (field.Letters x y) t) _ h in
-      rw (formed (field.Letters x y) (b .0)) (no-fault a L i ns (b .1))
+  no-fault a (field.Letters x y z ∷ L) i ns h =
+      let b = both-hold (formChecks (field.Letters x y z) t) _ h in
+      rw (formed (field.Letters x y z) (b .0)) (no-fault a L i ns (b .1))
   no-fault a (field.Number c w ∷ L) i ns h =
       let b = both-hold (formChecks (field.Number c w) t) _ h in
       let v = both-hold (valueChecks c (a i (withNumber ns i t c w))) _ (b .1) in
@@ -125,7 +123,7 @@ read-as-told file one two k l {j} e =
     let w = whole file one in
     let n : length t ≡ 74 = record-length file (k + 1) (omega arith) (omega (arith, w .all)) in
     let b = all-hold 1 (k + 1) _ (row-fine (endsOf file) (recordsOf file) (both-fine _ _ one .0) k l) in
-    let f = no-fault t (askedOf d) (layoutOf (kindOf d)) 0 zeros (two-holds file two k l refl) in
+    let f = no-fault t (askedOf d t) (layoutOf (kindOf d)) 0 zeros (two-holds file two k l refl) in
     rw (eq-eqb (length t) 74 n, b .0, b .1 .0, ← told-is file k e (omega arith), f)
 
 -- ---- the end

@@ -3,13 +3,15 @@
 --   sheetS                    sheet S, 518 bytes
 --   changed k c bytes         S with these bytes in record k, from column c on; withMesh: with another M
 --   landSheet                 S as a sheet of layer 5 with land on its whole ground, by the texts of its codes (RULES 11.3)
---   cases                     the cases of RULES 11.2 and 11.3, each with its answer
+--   bareSheet                 S as an unstructured layer (RULES 11.4); bareFive: in layer 5, by the text of its left code
+--   cases                     the cases of RULES 11.2 to 11.4, each with its answer
 --   further                   more files, of each refusal
 --   twoMeshes, sheetT, sheetU accepted files: two meshes; two lines round one area; a lake in an area, with a hole for it
+--   twoLayers, bareMeshes     accepted files: two layers in one mesh; two meshes with unstructured layers alone
 use mathlib.Core.List.{List, [], _∷_, _++_}
 use Prim.Native.Nat.{ℕ, zero, suc, _+_, _-_, _*_}
 use lib.IntN.{ℤ, pos, negsuc}
-use lib.ListN.{length, take}
+use lib.ListN.{length, take, drop}
 use Rattle.fields.specs.declared.Number.{Number}
 use Rattle.fields.specs.declared.Number.the-variants.{Value, Refused}
 use Rattle.fields.specs.Place.{put}
@@ -30,9 +32,13 @@ abbrev pub wide : ℕ → List ℕ
 wide zero = []
 wide (suc n) = 0x81 ∷ 0x40 ∷ wide n
 
--- a record of kind k with the numbers ns; those that are not listed, and the marks, are 0
+-- a record of kind k with the numbers ns and these letters; the numbers that are not listed, and the marks, are 0
+unfoldable pub writtenAs : ℕ → Kind → List ℤ → List ℕ
+writtenAs letters k ns = recordBytes (record { kind = k; numbers = ns; name = wide 20; marks = []; letters = letters })
+
+-- one of a kind that has no letters of its own
 unfoldable pub written : Kind → List ℤ → List ℕ
-written k ns = recordBytes (record { kind = k; numbers = ns; name = wide 20; marks = [] })
+written k ns = writtenAs 0 k ns
 
 -- RULES 11.1: record 1, M, by its mesh code, layers and records
 unfoldable pub mRecord : ℕ → ℕ → ℕ → List ℕ
@@ -40,7 +46,7 @@ mRecord code layers records = written Mesh (pos code ∷ pos layers ∷ pos 1 �
 
 -- RULES 11.1: record 2, H, by its records
 unfoldable pub hRecord : ℕ → List ℕ
-hRecord records = written Layer (pos 1 ∷ pos 1 ∷ pos 1 ∷ pos 1 ∷ pos 0 ∷ pos records ∷ pos 0 ∷ pos 0 ∷ [])
+hRecord records = writtenAs 2 Layer (pos 1 ∷ pos 1 ∷ pos 1 ∷ pos 1 ∷ pos 0 ∷ pos records ∷ pos 0 ∷ pos 0 ∷ [])
 
 -- RULES 11.1: record 3, N, by its layer, frame, count and second slot
 unfoldable pub nRecord : ℕ → ℕ → ℕ → ℤ → List ℕ
@@ -104,6 +110,19 @@ unfoldable pub landSheet : List ℕ → List ℕ → List ℕ → List ℕ
 landSheet left right own =
     also (also (also (also (also (also (changed 2 3 five) 3 3 (five ++ spell 2 (pos 1))) 4 3 five) 4 30 left) 4 40 right) 6 3 five) 6 5 own
 
+-- RULES 11.4: records 1 to 5 of S, with H1, no areas, and 0 for both codes and both area numbers of the L
+unfoldable pub bareSheet : List ℕ
+bareSheet =
+    written Mesh (pos 533945 ∷ pos 1 ∷ pos 1 ∷ pos 1 ∷ pos 0 ∷ pos 0 ∷ pos 5 ∷ [])
+    ++ (writtenAs 1 Layer (pos 1 ∷ pos 1 ∷ pos 1 ∷ pos 0 ∷ pos 0 ∷ pos 4 ∷ pos 0 ∷ pos 0 ∷ [])
+    ++ (nRecord 1 1 2 (negsuc 0)
+    ++ (lRecord 0 0 0 0
+    ++ points 0 0)))
+
+-- RULES 11.4: the same in layer 5: the layer code in records 2, 3 and 4, node item 1, and the text of the left code
+unfoldable pub bareFive : List ℕ → List ℕ
+bareFive left = also (also (also (also bareSheet 2 3 five) 3 3 (five ++ spell 2 (pos 1))) 4 3 five) 4 30 left
+
 -- five zeros, and three at the end
 abbrev pub fiveZeros : List ℕ
 fiveZeros = 48 ∷ 48 ∷ 48 ∷ 48 ∷ 48 ∷ []
@@ -118,7 +137,7 @@ pub data Case : Type 0 where
   field : List ℕ → Number → Case
   codeField : List ℕ → Code → Case
 
--- RULES 11.2, 11.3: S, then S changed in one place, then fields of five columns, in that order; then land
+-- RULES 11.2 to 11.4: S, then S changed in one place, then fields of five columns, in that order; then land; then an unstructured layer
 unfoldable pub cases : List Case
 cases =
     sheet sheetS Fine  -- S is accepted
@@ -130,7 +149,7 @@ cases =
     ∷ sheet (changed 7 1 (loopRecord 1 (negsuc 0))) (Broken 16 7 1)  -- loop entry -1: 16 at 7,1
     ∷ sheet (changed 4 1 (lRecord 13101 1 88888 0)) (Broken 17 7 10)  -- left and right exchanged: 17 at 7,10
     ∷ sheet (take (74 * 6) sheetS) (Broken 4 7 1)  -- without record 7: 4 at 7,1
-    ∷ sheet (changed 2 2 (49 ∷ [])) (Broken 7 2 1)  -- H1: 7 at 2,1
+    ∷ sheet (changed 2 2 (49 ∷ [])) (Broken 6 2 15)  -- H1: 6 at 2,15
     ∷ sheet (withMesh 533985 1 7) (Broken 6 1 3)  -- mesh 533985: 6 at 1,3
     ∷ field (32 ∷ 32 ∷ 32 ∷ 45 ∷ 49 ∷ []) (Value (negsuc 0))  -- width 5: "   -1" is -1
     ∷ field (48 ∷ 48 ∷ 48 ∷ 48 ∷ 49 ∷ []) Refused  -- "00001" is 5
@@ -146,6 +165,17 @@ cases =
     ∷ sheet (landSheet (number 88888) landText threeZeros) (Broken 5 6 5)  -- A's code "  000": 5 at 6,5
     ∷ sheet (landSheet landText landText (number 0)) (Broken 6 4 35)  -- left code " 0000", left area 0: 6 at 4,35
     ∷ sheet (changed 4 40 landText) (Broken 5 4 40)  -- S itself, of layer 1, with right code " 0000": 5 at 4,40
+    ∷ sheet bareSheet Fine  -- S as an unstructured layer
+    ∷ sheet (bareFive landText) Fine  -- the same in layer 5, left code " 0000"
+    ∷ sheet (also bareSheet 2 2 (50 ∷ [])) (Broken 6 4 30)  -- H2: 6 at 4,30
+    ∷ sheet (also bareSheet 2 2 (51 ∷ [])) (Broken 3 2 1)  -- H3: 3 at 2,1
+    ∷ sheet (also bareSheet 2 15 (number 1)) (Broken 6 2 15)  -- H's areas 1: 6 at 2,15
+    ∷ sheet (also bareSheet 4 30 (number 88888)) (Broken 6 4 30)  -- left code 88888: 6 at 4,30
+    ∷ sheet (also bareSheet 4 35 (number 1)) (Broken 6 4 35)  -- left area 1: 6 at 4,35
+    ∷ sheet (also bareSheet 4 40 (number 13101)) (Broken 6 4 40)  -- right code 13101: 6 at 4,40
+    ∷ sheet (also bareSheet 4 45 (number 1)) (Broken 6 4 45)  -- right area 1: 6 at 4,45
+    ∷ sheet (also bareSheet 3 1 (nRecord 1 1 1 (pos 0))) (Broken 14 4 24)  -- node count 1, second slot 0: 14 at 4,24
+    ∷ sheet (also bareSheet 1 42 (number 1)) (Broken 10 1 42)  -- M's areas 1: 10 at 1,42
     ∷ []
 
 -- ---- further files
@@ -153,6 +183,17 @@ cases =
 -- RULES 2.2: meshes follow one another, codes rise strictly, the first four digits are the same
 unfoldable pub twoMeshes : List ℕ
 twoMeshes = sheetS ++ withMesh 533946 1 7
+
+-- RULES 1.7: layers 1 and 5 in one mesh, those of two sheets, the one structured and the other not
+unfoldable pub twoLayers : List ℕ → List ℕ → List ℕ
+twoLayers one other = written Mesh (pos 533945 ∷ pos 2 ∷ pos 2 ∷ pos 2 ∷ pos 1 ∷ pos 0 ∷ pos 11 ∷ []) ++ (drop 74 one ++ drop 74 other)
+
+unfoldable pub landLayer : List ℕ
+landLayer = landSheet (number 88888) landText (number 0)
+
+-- two meshes, with unstructured layers alone
+unfoldable pub bareMeshes : List ℕ
+bareMeshes = bareSheet ++ also (bareFive (number 0)) 1 3 (spell 6 (pos 533946))
 
 -- a node: serial, X, Y, frame, and its two entries
 unfoldable pub node : ℕ → ℕ → ℕ → ℕ → ℤ → ℤ → List ℕ
@@ -184,7 +225,7 @@ loop serial es = written Loop (serial ∷ pos (length es) ∷ es)
 unfoldable pub heads : ℕ → ℕ → ℕ → ℕ → List ℕ
 heads nodes lines areas behind =
     written Mesh (pos 533945 ∷ pos 1 ∷ pos nodes ∷ pos lines ∷ pos areas ∷ pos 0 ∷ pos (2 + behind) ∷ [])
-    ++ written Layer (pos 1 ∷ pos nodes ∷ pos lines ∷ pos areas ∷ pos 0 ∷ pos (1 + behind) ∷ pos 0 ∷ pos 0 ∷ [])
+    ++ writtenAs 2 Layer (pos 1 ∷ pos nodes ∷ pos lines ∷ pos areas ∷ pos 0 ∷ pos (1 + behind) ∷ pos 0 ∷ pos 0 ∷ [])
 
 -- sheet T: the frame is cut at two corners into two lines, and the area's loop has the entries es
 unfoldable pub sheetT : List ℤ → List ℕ
@@ -234,6 +275,11 @@ withoutHole =
 unfoldable pub further : List (List ℕ × Verdict)
 further =
     (twoMeshes, Fine)
+    ∷ (twoLayers bareSheet landLayer, Fine)  -- H1, then H2
+    ∷ (twoLayers sheetS (bareFive (number 0)), Fine)  -- H2, then H1
+    ∷ (bareMeshes, Fine)  -- H1 alone
+    ∷ (twoLayers bareSheet (bareFive (number 0)), Broken 10 1 42)  -- H1 twice, where the M says an area
+    ∷ (twoLayers bareSheet sheetS, Broken 8 6 3)  -- H1 and H2 with the same layer code
     ∷ (sheetT (pos 1 ∷ pos 2 ∷ []), Fine)
     ∷ (sheetU 2 (negsuc 1 ∷ []) (pos 2 ∷ []), Fine)
     ∷ ([], Broken 1 1 1)  -- no byte
