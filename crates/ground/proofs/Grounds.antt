@@ -6,18 +6,21 @@ use Prim.Native.Nat.{ℕ, zero, suc, _≤_, _<_}
 use native.Mathlib.Omega.{arith}
 use lib.IntN.{pos}
 use Rattle.walk.specs.States.{countsAt}
+use Rattle.walk.specs.Row.{lettersWord}
 use Rattle.walk.specs.Stages.{recordsOf}
 use Rattle.walk.specs.Table.{tableOf}
 use Rattle.walk.proofs.Judging.{ended}
-use Rattle.layers.specs.Naming.{areaOf}
+use Rattle.layers.specs.Naming.{rowWord, areaOf}
 use Rattle.layers.specs.Passing.{layerOf}
 use Rattle.layers.proofs.Sections.{lines, areas}
 use Rattle.layers.proofs.Laid.{laid}
+use Rattle.measures.specs.Sum.{sum, upTo}
 use Rattle.entries.specs.Entries.{slotsOf}
 use Rattle.ground.specs.Layers.{areasSum, outsideSum}
 use Rattle.ground.specs.Standing.{LineKept, SlotKept, LayerKept}
 use Rattle.ground.proofs.Standing.{layer-ground}
 use Rattle.ground.proofs.Kept.{Passed, line-kept, slot-kept}
+use Rattle.ground.proofs.Soundness.{bare-areas}
 
 module _ (file : List ℕ) (p : Passed file) (i : ℕ) (l : i < countsAt file (recordsOf file) .layers) where
   -- each line keeps stages 4 and 6
@@ -43,3 +46,8 @@ module _ (file : List ℕ) (p : Passed file) (i : ℕ) (l : i < countsAt file (r
   -- RULES 7.5: the sum of all areas' measures is the outside sum
   pub ground-agrees : areasSum file (tableOf file) (layerOf file i) ≡ outsideSum file (tableOf file) (layerOf file i)
   ground-agrees = layer-ground file (tableOf file) (layerOf file i) layer-kept
+
+  -- RULES 5.10, 7.5: an unstructured layer has no areas, so what they measure together is 0
+  pub bare-ground : rowWord (tableOf file) i lettersWord ≡ 1 → areasSum file (tableOf file) (layerOf file i) ≡ pos 0
+  unfolding areasSum sum upTo
+  bare-ground e = rw (bare-areas file (p .two) i l e)

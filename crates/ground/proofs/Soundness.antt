@@ -9,35 +9,37 @@ use native.Mathlib.Numerals.{add-one}
 use native.Mathlib.Omega.{arith}
 use lib.Dec.{ltb, eqb}
 use lib.IntN.{ℤ, pos, negsuc}
-use borrow.Author.Tests.{lt-ltb, ltb-true, ltb-false}
+use borrow.Author.Tests.{lt-ltb, ltb-true, ltb-false, eqb-true}
 use Rattle.fields.specs.Answer.{numberRefusal, valueOf}
 use Rattle.fields.specs.Number.{numberAt}
 use Rattle.fields.specs.declared.Number as numbers
 use Rattle.fields.specs.declared.Number.the-variants as number
 use Rattle.records.specs.View.{recordOf, numberIn}
-use Rattle.records.specs.Columns.{layerLines}
+use Rattle.records.specs.Columns.{layerLines, layerAreas}
 use Rattle.records.specs.Layout.{layoutOf}
-use Rattle.records.specs.Reading.{faultOf}
+use Rattle.records.specs.Reading.{headLetters, faultOf}
 use Rattle.records.specs.declared.Field.the-variants as field
 use Rattle.verdict.specs.declared.Verdict.the-variants.{Fine}
 use Rattle.verdict.specs.Rules.{firstBroken}
 use Rattle.verdict.proofs.Holding.{Holding}
+use Rattle.verdict.proofs.Orders.{and-both}
 use Rattle.rules.specs.declared.Due.{Due}
 use Rattle.rules.specs.declared.Due.the-variants as due
 use Rattle.rules.specs.declared.Due.the-variants.{Line, Coordinates}
-use Rattle.permitted.specs.Permitted.{size, within, isPoint}
+use Rattle.permitted.specs.Permitted.{natural, size, within, ofAreas, isPoint}
 use Rattle.permitted.proofs.Bounds.{within-most}
 use Rattle.asks.specs.Asks.{Ask, permitted, at, layerAsks, coordinateAsks}
 use Rattle.rules.specs.Checks.{asksOf, askedOf, checksOf}
 use Rattle.rules.proofs.Asked.{row-number, number-formed, number-permitted}
 use Rattle.asks.proofs.Slots.{row-at}
 use Rattle.walk.specs.States.{sizeIn, sizeAt, dueOf, nextOf, stateAt, countsAt}
+use Rattle.walk.specs.Row.{lettersWord}
 use Rattle.walk.specs.Stages.{recordsOf, mayEnd, stageTwo}
 use Rattle.walk.specs.Table.{tableOf}
 use Rattle.walk.specs.Quiet.{Quiet}
 use Rattle.walk.proofs.Judging.{two-holds, ended}
 use Rattle.walk.proofs.Passing.{quiet-points, passed-due}
-use Rattle.layers.specs.Naming.{lineOf}
+use Rattle.layers.specs.Naming.{rowWord, lineOf}
 use Rattle.layers.specs.Passing.{isLayer, basesIn, layerOf}
 use Rattle.layers.proofs.Rows.{row-laid}
 use Rattle.layers.proofs.Sections.{lines, named}
@@ -71,6 +73,24 @@ lines-limit file f i l =
     let d = an-h (dueOf (stateAt file k)) (r .due) in
     let h : sizeAt (recordOf file (k + 1)) layerLines ≤ 9999 = head-lines (d .0) (recordOf file (k + 1)) (two-holds file f k (r .within) (d .1)) in
     rw (r .lines) (rw add-one at h)
+
+-- an H's number 3 counts its areas: 0 under H1
+head-areas : (last : ℕ) (t : List ℕ) → Holding (checksOf (due.Layer last) t) → headLetters t ≡ 1 → sizeAt t layerAreas ≡ 0
+unfolding layoutOf layerAsks asksOf askedOf sizeIn ofAreas
+head-areas last t h e =
+    let v = valueOf (numberAt t 15 5) in
+    let p = number-permitted (due.Layer last) t h 3 refl (λ v. ofAreas (headLetters t) v (natural v)) (λ ns. refl) in
+    eqb-true _ 0 (and-both (natural v) (eqb (size v) 0) (rw e at p) .1)
+
+-- RULES 5.10: an unstructured layer has no areas
+pub bare-areas : (file : List ℕ) → firstBroken (stageTwo file) ≡ Fine → (i : ℕ) → i < countsAt file (recordsOf file) .layers
+    → rowWord (tableOf file) i lettersWord ≡ 1 → layerOf file i .areas ≡ 0
+bare-areas file f i l e =
+    let q = row-laid file i l in
+    let k = q .0 in
+    let r = q .1 in
+    let d = an-h (dueOf (stateAt file k)) (r .due) in
+    r .areas ∙ head-areas (d .0) (recordOf file (suc k)) (rw add-one at (two-holds file f k (r .within) (d .1))) (sym (r .letters) ∙ e)
 
 -- ---- a coordinate
 

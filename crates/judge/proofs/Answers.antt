@@ -14,7 +14,7 @@ use Rattle.verdict.specs.declared.Verdict.the-variants.{Fine, Broken}
 use Rattle.verdict.specs.Rules.{Rule, Check, toldOf}
 use Rattle.verdict.specs.Order.{In, Answer, Sorted}
 use Rattle.verdict.proofs.Orders.{answers, only, block-sorted, block-in, UpTo, Of, turn-sorted, turn-up}
-use Rattle.verdict.proofs.Numbers.{unlike, between-unlike, Numbered, block-numbered, append-numbered, not-told}
+use Rattle.verdict.proofs.Numbers.{unlike, between-unlike, given-unlike, Numbered, block-numbered, append-numbered, not-told}
 use Rattle.walk.specs.declared.Counts.{Counts}
 use Rattle.walk.specs.States.{countsAt}
 use Rattle.walk.specs.Stages.{recordsOf, third, early, needOf}
@@ -121,23 +121,27 @@ pairs-only file room ss v a = ap (λ v. lentBy v (allSumsOf file) ss) (verdict-o
 
 -- ---- the number 0
 
--- the rules of a file bear numbers from 1 to 18
-pub rules-unlike : (file : List ℕ) (room m : ℕ) → (1 ≤ m → m ≤ 18 → ⊥) → Numbered (unlike m) (rulesOf file room)
+-- the rules of a file bear numbers from 1 to 18, but 7
+pub rules-unlike : (file : List ℕ) (room m : ℕ) → (1 ≤ m → m ≤ 18 → (m ≡ 7 → ⊥) → ⊥) → Numbered (unlike m) (rulesOf file room)
 unfolding rulesOf
 rules-unlike file room m o =
     append-numbered (unlike m) (early file room) (late file)
-    (λ a i. between-unlike 1 9 m (a .number) (λ l h. o l (omega arith)) (early-numbered file room a i))
-    (λ a i. between-unlike 10 18 m (a .number) (λ l h. o (omega arith) h) (late-numbered file a i))
+    (λ a i. given-unlike 9 m (a .number) (λ l h n. o l (omega arith) n) (early-numbered file room a i))
+    (λ a i. between-unlike 10 18 m (a .number) (λ l h. o (omega arith) h (λ e. omega arith)) (late-numbered file a i))
 
--- what a call asks last bears another number than 0
+-- a number that neither they nor what a call asks last bear is told of no refusal
+unborne-fine : (m : ℕ) → (1 ≤ m → m ≤ 18 → (m ≡ 7 → ⊥) → ⊥) → (file : List ℕ) (room : ℕ) (last : Counts → Check)
+    → unlike m (last (countsAt file (recordsOf file)) .number) ≡ true → toldOf (callVerdict file room last) .number ≡ m → callVerdict file room last ≡ Fine
+unfolding callVerdict
+unborne-fine m o file room last h =
+    not-told m (callRules file room last)
+    (append-numbered (unlike m) (rulesOf file room) _ (rules-unlike file room m o)
+    (block-numbered (unlike m) eighth 0 (last (countsAt file (recordsOf file)) ∷ []) (rw h)))
+    (callVerdict file room last) refl
+
 zero-fine : (file : List ℕ) (room : ℕ) (last : Counts → Check) → unlike 0 (last (countsAt file (recordsOf file)) .number) ≡ true
     → toldOf (callVerdict file room last) .number ≡ 0 → callVerdict file room last ≡ Fine
-unfolding callVerdict
-zero-fine file room last h =
-    not-told 0 (callRules file room last)
-    (append-numbered (unlike 0) (rulesOf file room) _ (rules-unlike file room 0 (λ l h. omega arith))
-    (block-numbered (unlike 0) eighth 0 (last (countsAt file (recordsOf file)) ∷ []) (rw h)))
-    (callVerdict file room last) refl
+zero-fine = unborne-fine 0 (λ l h n. omega arith)
 
 told-by : (v : Verdict) (c : Counts) (records need : ℕ) → outcomeBy v c records need .number ≡ toldOf v .number
 told-by Fine c records need = refl
@@ -167,3 +171,21 @@ zero-sums file room i e = zero-fine file room (layerRule i) refl (sym (sums-numb
 -- and by all sums
 pub zero-all : (file : List ℕ) (room places : ℕ) → outcomeOfAll file room places .number ≡ 0 → allVerdict file room places ≡ Fine
 zero-all file room places e = zero-fine file room (pairRule places) refl (sym (outcome-number file room (pairRule places)) ∙ e)
+
+-- ---- the number 7
+
+seven-fine : (file : List ℕ) (room : ℕ) (last : Counts → Check) → unlike 7 (last (countsAt file (recordsOf file)) .number) ≡ true
+    → toldOf (callVerdict file room last) .number ≡ 7 → ⊥
+seven-fine file room last h t =
+    let f = unborne-fine 7 (λ l g n. n refl) file room last h t in
+    let z : _≡_ {A = ℕ} 0 7 = rw f at t in
+    omega arith
+
+-- RULES 6.2: it is never given, by the judge, the layer sums or all sums
+pub never-seven : (file : List ℕ) (room n : ℕ)
+    → (outcomeOf file room n .number ≡ 7 → ⊥) × (sumsOf file room n .number ≡ 7 → ⊥) × (outcomeOfAll file room n .number ≡ 7 → ⊥)
+never-seven file room n = (
+  λ e. seven-fine file room (measureRule n) refl (sym (outcome-number file room (measureRule n)) ∙ e),
+  λ e. seven-fine file room (layerRule n) refl (sym (sums-number file room n) ∙ e),
+  λ e. seven-fine file room (pairRule n) refl (sym (outcome-number file room (pairRule n)) ∙ e),
+)

@@ -13,7 +13,7 @@ use Rattle.verdict.specs.declared.Verdict.the-variants.{Fine, Broken}
 use Rattle.verdict.specs.Rules.{firstBroken}
 use Rattle.verdict.proofs.Parts.{stands, goes-on, both-fine}
 use Rattle.verdict.proofs.Orders.{and-both}
-use Rattle.verdict.proofs.Numbers.{upTo9, tenTo18, between-both, Numbered, append-numbered, broken-number}
+use Rattle.verdict.proofs.Numbers.{between, unlike, upTo9, tenTo18, between-both, Numbered, append-numbered, broken-number}
 use Rattle.walk.specs.declared.Tabled.{Tabled}
 use Rattle.walk.specs.declared.Counts.{Counts}
 use Rattle.walk.specs.States.{countsAt}
@@ -126,7 +126,8 @@ module _ (file : List ℕ) (room : ℕ) {t : Tabled} (e : t ≡ tabledOf file ro
     early-table words after l h =
         let v : firstBroken (early file room) ≡ Broken n r c = sym tabled ∙ q in
         let u : firstBroken (rulesOf file room) ≡ Broken n r c = sym early-verdict ∙ q in
-        let b : leb n 9 ≡ true = and-both (leb 1 n) (leb n 9) (broken-number upTo9 (early file room) (early-numbered file room) v) .1 in
+        let g = and-both (between 1 9 n) (unlike 7 n) (broken-number upTo9 (early file room) (early-numbered file room) v) in
+        let b : leb n 9 ≡ true = and-both (leb 1 n) (leb n 9) (g .0) .1 in
         rw (← l, u, b) (rw v at h)
 
   -- not refused so: the counts are those of all records, and the first words of the table are the file's table

@@ -1,11 +1,12 @@
 -- THE THEOREM OF DEMAND 3, no ground lost (RULES 13.3): in every layer of an accepted file the sum of all areas' measures is the sum walked
--- along the lines between an area and the outside, and these are the figures reported. Both sums are whole numbers that RULES 7 defines
+-- along the lines between an area and the outside, and these are the figures reported. In an unstructured layer both are 0. Both sums are whole numbers that RULES 7 defines
 -- from the coordinates (`areasSum` and `outsideSum` of `ground`). By 11, 13, 17 and 18 each side of each line stands once in its area and
 -- nowhere else. Assumes nothing.
 use mathlib.Core.List.{List, []}
 use mathlib.Core.Path.{_≡_, refl, sym, _∙_}
 use Prim.Native.Nat.{ℕ, _-_, _≤_}
 use native.Mathlib.Omega.{arith}
+use lib.IntN.{pos}
 use borrow.Author.Tests.{leb-true, le-leb}
 use Rattle.verdict.specs.declared.Verdict.{Verdict}
 use Rattle.verdict.specs.declared.Verdict.the-variants.{Fine, Broken}
@@ -14,11 +15,13 @@ use Rattle.verdict.proofs.Orders.{and-both}
 use Rattle.verdict.proofs.Parts.{goes-on, check-none, check-kept}
 use Rattle.walk.specs.declared.Counts.{Counts}
 use Rattle.walk.specs.States.{countsAt}
+use Rattle.walk.specs.Row.{lettersWord}
 use Rattle.walk.specs.Stages.{recordsOf}
 use Rattle.walk.specs.Table.{tableOf}
+use Rattle.layers.specs.Naming.{rowWord}
 use Rattle.layers.specs.Passing.{layerOf}
 use Rattle.ground.specs.Layers.{areasSum, outsideSum}
-use Rattle.ground.proofs.Grounds.{ground-agrees}
+use Rattle.ground.proofs.Grounds.{ground-agrees, bare-ground}
 use Rattle.judge.specs.Rulebook.{rulesOf, eighth, layerRule, callVerdict, sumsVerdict}
 use Rattle.judge.specs.Outcomes.{sumsWith, sumsBy, sumsOf}
 use Rattle.judge.proofs.Calling.{passed, rules-fine, last-fine}
@@ -33,15 +36,18 @@ module _ (file : List ℕ) (room i : ℕ) (first : 1 ≤ i) (last : i ≤ counts
       goes-on (rulesOf file room) _ refl (sym kept)
       (check-none eighth 0 ∙ sym (check-kept eighth 0 0 22 _ [] (rw (le-leb 1 i first, le-leb i _ last))))
 
--- whichever call accepts the file
+-- whichever call accepts the file, and whichever letters its layers have, those of the table's rows
 pub no-ground-lost : (file : List ℕ) (room : ℕ) (last : Counts → Check) → callVerdict file room last ≡ Fine
     → (i : ℕ) → 1 ≤ i → i ≤ countsAt file (recordsOf file) .layers
     → (areasSum file (tableOf file) (layerOf file (i - 1)) ≡ outsideSum file (tableOf file) (layerOf file (i - 1)))
     × (sumsOf file room i ≡ sumsWith Fine (areasSum file (tableOf file) (layerOf file (i - 1))) (outsideSum file (tableOf file) (layerOf file (i - 1))))
+    × (rowWord (tableOf file) (i - 1) lettersWord ≡ 1 → sumsOf file room i ≡ sumsWith Fine (pos 0) (pos 0))
 unfolding sumsOf
 no-ground-lost file room last h i p q =
     let kept = rules-fine file room last h in
-    (layer-agrees file room i p q kept, rw (← reported file room i p q kept))
+    let same = layer-agrees file room i p q kept in
+    let told = rw (← reported file room i p q kept) in
+    (same, told, λ e. told ∙ rw (← same, bare-ground file (passed file room kept) (i - 1) (omega arith) e))
 
 -- so the two figures that are reported are equal, whatever the file, the room and the layer number
 pub sums-equal : (file : List ℕ) (room i : ℕ) → sumsOf file room i .areas ≡ sumsOf file room i .outside

@@ -11,7 +11,7 @@ use borrow.Author.Tests.{le-leb}
 use Rattle.verdict.specs.declared.Verdict.{Verdict}
 use Rattle.verdict.specs.declared.Verdict.the-variants.{Fine, Broken}
 use Rattle.verdict.specs.Rules.{Rule, Check, block, firstBroken, toldOf}
-use Rattle.verdict.proofs.Numbers.{unlike, between-unlike, numbered, Numbered, block-numbered, append-numbered, not-told}
+use Rattle.verdict.proofs.Numbers.{unlike, between-unlike, given-unlike, numbered, Numbered, block-numbered, append-numbered, not-told}
 use Rattle.verdict.proofs.Parts.{_orElse_, in-turn, both-fine, check-none, check-kept}
 use Rattle.walk.specs.declared.Counts.{Counts}
 use Rattle.walk.specs.States.{countsAt}
@@ -102,7 +102,7 @@ own-unlike : (file : List ℕ) (cs : List Check) → numbered (unlike 9) cs ≡ 
 own-unlike file cs h =
     append-numbered (unlike 9) (ownRules file) (block eighth 0 cs)
     (append-numbered (unlike 9) (stageOne file ++ stageTwo file) (late file)
-    (λ a i. between-unlike 1 8 9 (a .number) (λ l g. omega arith) (stages-numbered file a i))
+    (λ a i. given-unlike 8 9 (a .number) (λ l g h. omega arith) (stages-numbered file a i))
     (λ a i. between-unlike 10 18 9 (a .number) (λ l g. omega arith) (late-numbered file a i)))
     (block-numbered (unlike 9) eighth 0 cs h)
 
@@ -122,7 +122,7 @@ never-last : (file : List ℕ) (room : ℕ) (last : Counts → Check) → (walke
 never-last file room last p m g e =
     let v = callVerdict file room last in
     let t = sym (outcome-number file room last) ∙ e in
-    let z = zero-told t (not-told m (rulesOf file room) (rules-unlike file room m (λ l h. omega arith)) v (verdict-placed file room last p) t) in
+    let z = zero-told t (not-told m (rulesOf file room) (rules-unlike file room m (λ l h n. omega arith)) v (verdict-placed file room last p) t) in
     omega arith
 
 -- THE JUDGE DOES NOT ANSWER 9 to a table as long as the need

@@ -13,10 +13,11 @@ use lib.ListN.{length, getD, length-append, List·getD-append}
 use lib.Seq.{getD-append-add}
 use borrow.Author.Tests.{ltb-true, ltb-false, le-leb}
 use Rattle.records.specs.View.{recordOf}
+use Rattle.records.specs.Reading.{headLetters}
 use Rattle.records.specs.Columns.{layerNodes, layerLines, layerAreas}
 use Rattle.rules.specs.declared.Due.{Due}
 use Rattle.rules.specs.declared.Due.the-variants as due
-use Rattle.walk.specs.Row.{rowLength, headWord, nodesWord, linesWord, areasWord}
+use Rattle.walk.specs.Row.{rowLength, headWord, nodesWord, linesWord, areasWord, lettersWord}
 use Rattle.walk.specs.States.{sizeAt, dueOf, stateAt, countsAt}
 use Rattle.walk.specs.Stages.{recordsOf}
 use Rattle.walk.specs.Table.{rowWords, lineWords, areaWords, gather, tableOf}
@@ -114,6 +115,7 @@ pub record RowAt (file : List ℕ) (i k : ℕ) : Type 0 where
   pub nodes : layerOf file i .nodes ≡ sizeAt (recordOf file (suc k)) layerNodes
   pub lines : layerOf file i .lines ≡ sizeAt (recordOf file (suc k)) layerLines
   pub areas : layerOf file i .areas ≡ sizeAt (recordOf file (suc k)) layerAreas
+  pub letters : rowWord (tableOf file) i lettersWord ≡ headLetters (recordOf file (suc k))
 
 module _ (file : List ℕ) (k : ℕ) (l : k < recordsOf file) (h : isLayer (dueOf (stateAt file k)) ≡ true) where
   -- word j of the row of an H
@@ -139,6 +141,7 @@ module _ (file : List ℕ) (k : ℕ) (l : k < recordsOf file) (h : isLayer (dueO
         nodes = rw e (head-word nodesWord (lit≤ tt));
         lines = rw e (head-word linesWord (lit≤ tt));
         areas = rw e (head-word areasWord (lit≤ tt));
+        letters = head-word lettersWord (lit≤ tt);
       }
 
 rising : (b : Bool) {x y i : ℕ} → y ≡ x + cond b 1 0 → x ≤ i → i < y → (b ≡ true) × (x ≡ i)

@@ -167,8 +167,8 @@ pub fn write_record(buf: &mut [u8], r: Record) -> u32
     if buf.len() < 74 {
         return 21;
     }
-    let kind = r.kind;
-    if !may_letter(kind, r.letters) {
+    let own = r.kind;
+    if !may_letter(own, r.letters) {
         return 20;
     }
     let spelled = spell_record(r);

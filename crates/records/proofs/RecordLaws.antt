@@ -1,5 +1,5 @@
 -- THE LAWS OF RECORDS, over all kinds at once. docs/PROMISES.md leads here. Assumes nothing.
-use mathlib.Core.Bool.{Bool, true, false, cond, _||_, false≢true}
+use mathlib.Core.Bool.{Bool, true, false, cond, _&&_, _||_, false≢true}
 use mathlib.Core.List.{List, [], _∷_, _++_}
 use mathlib.Core.Logic.{⊎-elim}
 use mathlib.Core.Path.{_≡_, refl, sym, ap, _∙_}
@@ -10,14 +10,25 @@ use lib.IntN.{ℤ, pos}
 use lib.ListN.{length, getD, take, drop, replicate, length-append, take-append-drop, drop-of-length-le}
 use lib.Seq.{length-sets, getD-at, getD-append-add, drop-cons}
 use borrow.Author.Tests.{eq-eqb, eqb-true}
-use Rattle.records.specs.Layout.{layoutOf, numbersOf, bytesOf, marksOf, total}
+use Rattle.records.specs.Layout.{layoutOf, startOf, numbersOf, bytesOf, marksOf, total}
 use Rattle.records.specs.Reading.{lettersFault, headLetters, lettersIn, inLayerFive, numbersIn, nameIn, marksIn, over, firstFault, zeros, noName, unmarked}
-use Rattle.records.specs.Reading.{accepted, refusedAt, valueIn, fieldsBy, fieldsOf, readingOf}
+use Rattle.records.specs.Reading.{Fault, codeIn, faultOf, faultAt, accepted, refusedAt, valueIn, fieldsBy, fieldsOf, readingOf}
 use Rattle.records.specs.Writing.{secondLetter, fieldText, textOf, fits, recordBytes, ofLayerFive, fieldsFit, lettersFit, fitsAll}
 use Rattle.permitted.specs.Permitted.{isZero, is}
 use Rattle.records.specs.declared.Kind.{Kind}
 use Rattle.records.specs.declared.Kind.the-variants.{Mesh, Layer, Node, Line, Coordinates, Area, Loop}
-use Rattle.fields.specs.Answer.{valueOf}
+use Rattle.fields.specs.Answer.{valueOf, numberRefusal, textRefusal}
+use Rattle.fields.specs.Number.{numberAt}
+use Rattle.fields.specs.Text.{isName, isBlanks, textAt}
+use Rattle.fields.specs.declared.Number as numbers
+use Rattle.fields.specs.declared.Number.the-variants as number
+use Rattle.fields.specs.declared.Text as texts
+use Rattle.fields.specs.declared.Text.the-variants as text
+use Rattle.codes.specs.Code.{codeRefusal}
+use Rattle.codes.specs.declared.Code as codes-code
+use Rattle.codes.specs.declared.Code.the-variants as code
+use Rattle.records.specs.declared.Field.{Field}
+use Rattle.records.specs.declared.Field.the-variants.{End, Letters, Number, Code, Name, Blank}
 use Rattle.records.specs.declared.Reading.{Reading}
 use Rattle.records.specs.declared.Record.{Record}
 use Rattle.fields.proofs.Places.{both}
@@ -241,3 +252,54 @@ reading-only k s r z q h e = rw (← q, ← e) (written-then-read r z h)
 -- .. so bytes that are refused are no value's
 pub reading-refused : (k : Kind) (s : List ℕ) (r : Record) → Sized r → r .kind ≡ k → fitsAll r ≡ true → recordBytes r ≡ s → (readingOf k s .number ≡ 0 → ⊥) → ⊥
 reading-refused k s r z q h e n = n (rw (reading-only k s r z q h e))
+
+-- ---- the number 7
+
+-- a field gives 3, 5 or nothing
+letters-not : (t : Bool) → _≡_ {A = ℕ} (cond t 0 3) 7 → ⊥
+letters-not true e = omega arith
+letters-not false e = omega arith
+
+number-not : (r : numbers.Number) → numberRefusal r ≡ 7 → ⊥
+number-not (number.Value v) e = omega arith
+number-not number.Refused e = omega arith
+
+code-not : (r : codes-code.Code) → codeRefusal r ≡ 7 → ⊥
+code-not (code.Value v m) e = omega arith
+code-not code.Refused e = omega arith
+
+text-not : (r : texts.Text) → textRefusal r ≡ 7 → ⊥
+text-not text.WellFormed e = omega arith
+text-not text.Refused e = omega arith
+
+field-not : (f : Field) (s : List ℕ) → faultOf f s ≡ 7 → ⊥
+unfolding faultOf
+field-not End s e = omega arith
+field-not (Letters a b c) s e = letters-not (eqb (getD s 0 0) a && (eqb (getD s 1 0) b || eqb (getD s 1 0) c)) e
+field-not (Number c w) s e = number-not (numberAt s c w) e
+field-not (Code c w) s e = code-not (codeIn s c w) e
+field-not (Name c w) s e = text-not (textAt isName s c w) e
+field-not (Blank c w) s e = text-not (textAt isBlanks s c w) e
+
+first-not : (n c : ℕ) (p : Fault) → (n ≡ 7 → ⊥) → (p .number ≡ 7 → ⊥) → faultAt n c p .number ≡ 7 → ⊥
+first-not zero c p h g e = g e
+first-not (suc n) c p h g e = h e
+
+fault-not : (L : List Field) (s : List ℕ) → firstFault L s .number ≡ 7 → ⊥
+unfolding firstFault
+fault-not [] s e = omega arith
+fault-not (f ∷ fs) s e = first-not (faultOf f s) (startOf f) (firstFault fs s) (field-not f s) (fault-not fs s) e
+
+answer-not : (k : Kind) (s : List ℕ) (t u v : Bool) (n c : ℕ) → (n ≡ 7 → ⊥) → answer k s t u v n c .number ≡ 7 → ⊥
+answer-not k s true true true zero c h e = omega arith
+answer-not k s true true true (suc n) c h e = h e
+answer-not k s true true false n c h e = omega arith
+answer-not k s true false v n c h e = omega arith
+answer-not k s false u v n c h e = omega arith
+
+-- RULES 6.2: it is never given
+pub reading-seven : (k : Kind) (s : List ℕ) → readingOf k s .number ≡ 7 → ⊥
+unfolding readingOf fieldsOf
+reading-seven k s e =
+    answer-not k s (eqb (length s) 74) (eqb (getD s 72 0) 13) (eqb (getD s 73 0) 10)
+    (firstFault (layoutOf k) s .number) (firstFault (layoutOf k) s .column) (fault-not (layoutOf k) s) e

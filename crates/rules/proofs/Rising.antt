@@ -22,7 +22,7 @@ checks-rising (Coordinates left) t = refl
 checks-rising (Area layer last) t = refl
 checks-rising (Loop last count left) t = refl
 
--- and none has a number above 8
+-- and none has a number above 8, or 7
 pub checks-numbered : (d : Due) (t : List ℕ) → numbered upTo8 (checksOf d t) ≡ true
 unfolding layoutOf from meshAsks layerAsks nodeAsks lineAsks coordinateAsks areaAsks loopAsks asksOf askedOf formChecks valueChecks along checksOf
 checks-numbered (Mesh last) t = refl

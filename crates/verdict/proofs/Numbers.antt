@@ -17,35 +17,47 @@ use Rattle.verdict.proofs.Orders.{in-append, and-both}
 abbrev pub between : ℕ → ℕ → ℕ → Bool
 between a b n = leb a n && leb n b
 
--- the refusals of stages 1 and 2; refusal 9 with them; those of the later stages
-abbrev pub upTo8 : ℕ → Bool
-upTo8 = between 1 8
-
-abbrev pub upTo9 : ℕ → Bool
-upTo9 = between 1 9
-
-abbrev pub tenTo18 : ℕ → Bool
-tenTo18 = between 10 18
-
 -- n is not m
 abbrev pub unlike : ℕ → ℕ → Bool
 unlike m n = not (eqb n m)
+
+-- n is one of 1 to b that are given: 7 is not (RULES 6.2)
+abbrev pub given : ℕ → ℕ → Bool
+given b n = between 1 b n && unlike 7 n
+
+-- the refusals of stages 1 and 2; refusal 9 with them; those of the later stages
+abbrev pub upTo8 : ℕ → Bool
+upTo8 = given 8
+
+abbrev pub upTo9 : ℕ → Bool
+upTo9 = given 9
+
+abbrev pub tenTo18 : ℕ → Bool
+tenTo18 = between 10 18
 
 pub between-both : (a b n : ℕ) → between a b n ≡ true → (a ≤ n) × (n ≤ b)
 between-both a b n h =
     let c = and-both (leb a n) (leb n b) h in
     (leb-true a n (c .0), leb-true n b (c .1))
 
-pub between-wider : (a b c n : ℕ) → b ≤ c → between a b n ≡ true → between a c n ≡ true
-between-wider a b c n l h =
-    let d = between-both a b n h in
-    rw (le-leb a n (d .0), le-leb n c (omega (arith, d .1)))
+pub given-wider : (b c n : ℕ) → b ≤ c → given b n ≡ true → given c n ≡ true
+given-wider b c n l h =
+    let e = and-both (between 1 b n) (unlike 7 n) h in
+    let d = between-both 1 b n (e .0) in
+    rw (le-leb 1 n (d .0), le-leb n c (omega (arith, d .1))) (e .1)
 
 -- m is none of a to b
 pub between-unlike : (a b m n : ℕ) → (a ≤ m → m ≤ b → ⊥) → between a b n ≡ true → unlike m n ≡ true
 between-unlike a b m n o h =
     let d = between-both a b n h in
     rw (ne-eqb n m (λ e. o (rw e at (d .0)) (rw e at (d .1))))
+
+-- m is none of those that are given
+pub given-unlike : (b m n : ℕ) → (1 ≤ m → m ≤ b → (m ≡ 7 → ⊥) → ⊥) → given b n ≡ true → unlike m n ≡ true
+given-unlike b m n o h =
+    let e = and-both (between 1 b n) (unlike 7 n) h in
+    let d = between-both 1 b n (e .0) in
+    rw (ne-eqb n m (λ q. o (rw q at (d .0)) (rw q at (d .1)) (λ z. false≢true (rw (q, eq-eqb m 7 z) at (e .1)))))
 
 module _ (p : ℕ → Bool) where
   -- of a record's checks; it computes

@@ -9,7 +9,7 @@ use lib.Dec.{leb, lit≤, lit<}
 use lib.ListN.{length}
 use Rattle.verdict.specs.Rules.{Check, check, block, rows}
 use Rattle.verdict.specs.Order.{Sorted, rising}
-use Rattle.verdict.proofs.Numbers.{upTo8, upTo9, between-wider, numbered, Numbered, block-numbered, append-numbered, rows-numbered}
+use Rattle.verdict.proofs.Numbers.{upTo8, upTo9, given-wider, numbered, Numbered, block-numbered, append-numbered, rows-numbered}
 use Rattle.verdict.proofs.Orders.{UpTo, Of, turn-sorted, turn-up, in-append, sorted-append, earlier-row, block-in, block-sorted, rows-in, rows-sorted}
 use Rattle.records.specs.View.{recordOf}
 use Rattle.rules.specs.declared.Due.{Due}
@@ -105,7 +105,7 @@ two-numbered file =
     (recordsOf file) (lastChecks (dueOf (stateAt file (recordsOf file)))) upTo8
     (λ k. checks-numbered (dueOf (stateAt file k)) (recordOf file (k + 1))) (last-numbered (dueOf (stateAt file (recordsOf file))))
 
--- none of stages 1 and 2 has a number above 8
+-- none of stages 1 and 2 has a number above 8, or 7
 pub stages-numbered : (file : List ℕ) → Numbered upTo8 (stageOne file ++ stageTwo file)
 stages-numbered file = append-numbered upTo8 (stageOne file) (stageTwo file) (one-numbered file) (two-numbered file)
 
@@ -114,7 +114,7 @@ pub early-numbered : (file : List ℕ) (room : ℕ) → Numbered upTo9 (early fi
 unfolding early roomRule
 early-numbered file room =
     append-numbered upTo9 (stageOne file ++ stageTwo file) (roomRule file room)
-    (λ a i. between-wider 1 8 9 (a .number) (lit≤ tt) (stages-numbered file a i))
+    (λ a i. given-wider 8 9 (a .number) (lit≤ tt) (stages-numbered file a i))
     (block-numbered upTo9 third 0 (check 0 9 (leb (wordsOf file) room) ∷ []) refl)
 
 -- they are in order
