@@ -26,6 +26,9 @@ make_files() {
     with_text "${unstructured[0]}" 2 1 H3 >$made/h3
     with_text "${unstructured[0]}" 2 1 H2 >$made/h2-without-areas
     { cat "${unstructured[0]}"; tail -c 148 $smallest; } >$made/areas-left
+    # a code in an unstructured layer behind a structured one, and an area number 0 in a structured layer behind an unstructured one
+    with_text "${unstructured[1]}" 36 40 88888 >$made/h1-behind-h2
+    with_text "${unstructured[1]}" 11 45 '    0' >$made/h2-behind-h1
     # S as it comes out of a transfer that means well
     tr -d '\r' <$smallest >$made/line-feeds
     LC_ALL=C sed 's/ *\r$/\r/' $smallest >$made/stripped
@@ -68,6 +71,7 @@ by_unstructured() {
     expect find-unstructured 0 find "${unstructured[1]}" 544002 5 line 2
     expect find-area-behind 0 find "${unstructured[1]}" 544012 5 area 2
     expect explain-unstructured 1 explain $made/h1-*
+    expect explain-structured 1 explain $made/h2-*
     expect explain-unstructured-json 1 explain --json $made/h1-left-code
     expect explain-7 0 explain 7
     says_refused "H3" 3 2 1 check $made/h3
@@ -269,7 +273,7 @@ told() {
 }
 
 by_small_programs() {
-    local name
+    local name sheet
     for name in check measure; do
         if [ ! -x target/bin/${name}_sheet ]; then
             skip "the program $name" "rt check ${name}_sheet builds it"
@@ -278,6 +282,12 @@ by_small_programs() {
         small ${name}_sheet <$smallest >"$work/out" 2>"$work/err"
         status=$?
         hold "the program $name" 0 host/expected/$name-smallest
+        for sheet in "${unstructured[@]}" $samples/refused-06-areas-under-h1.dat; do
+            "${run[@]}" $name "$sheet" >"$work/text" 2>"$work/err"
+            small ${name}_sheet <"$sheet" >"$work/out" 2>"$work/err"
+            status=$?
+            hold "the program $name on $sheet" 0 "$work/text"
+        done
         small ${name}_sheet <$smallest >/dev/full 2>"$work/err"
         told "the program $name on a full disk" "$name: standard output: not everything could be written: No space left on device"
         small ${name}_sheet <samples >"$work/out" 2>"$work/err"
