@@ -5,10 +5,14 @@ records are left out, the H's areas and every L's codes and area numbers are 0, 
 else is changed. It needs Python alone, and nothing of the library that judges the samples.
 """
 
+from __future__ import annotations
+
 import sys
 from pathlib import Path
 
 HERE = Path(__file__).resolve().parent
+
+Records = list[bytes]
 
 # By sample: what it is made of, and by mesh code the letters of each of its layers.
 SAMPLES = {
@@ -20,23 +24,23 @@ SAMPLES = {
 }
 
 
-def number(record, start, end):
+def number(record: bytes, start: int, end: int) -> int:
     """The number in columns start to end, both counted from 1."""
     return int(record[start - 1 : end])
 
 
-def put(record, start, end, value):
+def put(record: bytes, start: int, end: int, value: int) -> bytes:
     """The record with that number there."""
     return record[: start - 1] + str(value).rjust(end - start + 1).encode("ascii") + record[end:]
 
 
-def parts(records, letter):
+def parts(records: Records, letter: bytes) -> list[Records]:
     """Records in parts: each begins with one that has the letter. Coordinates and loops begin with none."""
     starts = [i for i, record in enumerate(records) if record[:1] == letter]
     return [records[i:j] for i, j in zip(starts, [*starts[1:], len(records)])]
 
 
-def line_without_areas(record):
+def line_without_areas(record: bytes) -> bytes:
     """An L with both codes and both area numbers 0; any other record as it is."""
     if record[:1] == b"L":
         for start in (30, 35, 40, 45):
@@ -44,14 +48,14 @@ def line_without_areas(record):
     return record
 
 
-def unstructured(layer):
+def unstructured(layer: Records) -> Records:
     """The layer as an H1: its A records stand behind all others, so what is kept ends before the first one."""
     first = next((i for i, record in enumerate(layer) if record[:1] == b"A"), len(layer))
     h = b"H1" + put(put(layer[0], 15, 19, 0), 25, 29, first)[2:]
     return [h, *map(line_without_areas, layer[1:first])]
 
 
-def turned(mesh, letters):
+def turned(mesh: Records, letters: list[str]) -> Records:
     """The mesh with layers of these letters."""
     layers = parts(mesh[1:], b"H")
     layers = [unstructured(layer) if letter == "H1" else layer for layer, letter in zip(layers, letters)]
@@ -60,7 +64,7 @@ def turned(mesh, letters):
     return [m, *(record for layer in layers for record in layer)]
 
 
-def made(name):
+def made(name: str) -> bytes:
     """The sample's bytes."""
     source, letters = SAMPLES[name]
     data = (HERE / source).read_bytes()
