@@ -1,4 +1,4 @@
-# Further tests of the tool, for host/test.sh: files with faults of their bytes, the forms of output, names, many files at a time, the
+# Further tests of the tool, for host/test.sh: unstructured layers, files with faults of their bytes, the forms of output, names, many files at a time, the
 # programs that try a part of the C side alone, the two small programs, and the README's program.
 
 # ---- files that are made here
