@@ -1,5 +1,7 @@
 """The areas of a sheet for a map: areas_geojson.py FILE prints GeoJSON (RFC 7946), a feature an area, in degrees.
 
+An unstructured layer has no areas, and so no feature.
+
 Our rings run clockwise around an area and counterclockwise around a hole; GeoJSON asks for the other way, so each is turned.
 """
 

@@ -1,7 +1,7 @@
 """A layer's figures: layer_figures.py FILE prints a line a layer with its counts and both its sums, and below it a line an area.
 
 Measures are doubled areas, in sheet coordinates. The areas' sum and the sum along the lines between an area and the outside are equal in every
-layer of an accepted sheet; that is proved, and printed here for whoever wants to see it.
+layer of an accepted sheet; that is proved, and printed here for whoever wants to see it. An unstructured layer has no areas, and both of its sums are 0.
 """
 
 import sys

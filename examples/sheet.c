@@ -78,7 +78,7 @@ void sheet_close(Sheet *sheet)
 /* ---- layers */
 
 /* The row of a layer in the table (stragumella.h): which word is what, and how many there are. */
-enum { HEADER_WORD, NODES_WORD, LINES_WORD, AREAS_WORD, ROW_WORDS };
+enum { HEADER_WORD, NODES_WORD, LINES_WORD, AREAS_WORD, LETTERS_WORD, ROW_WORDS };
 
 /* The words behind all rows: the lines' records, then the areas'. */
 static const uint32_t *behind_rows(const Sheet *sheet)
@@ -109,6 +109,7 @@ int next_layer(const Sheet *sheet, Layer *layer)
     layer->nodes = row[NODES_WORD];
     layer->lines = row[LINES_WORD];
     layer->areas = row[AREAS_WORD];
+    layer->letters = row[LETTERS_WORD];
     layer->code = record_at(sheet, LAYER, layer->header).numbers[0];
     if (layer->to_come == 0) {
         enter_mesh(sheet, layer);

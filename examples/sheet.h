@@ -11,6 +11,10 @@
 /* The kinds of record, by the library's numbers. */
 enum { MESH = 1, LAYER, NODE, LINE, COORDINATES, AREA, LOOP };
 
+/* The letters of a layer's H, H1 and H2, by the library's numbers. An unstructured layer has lines and no areas, and 0 in each L's codes
+ * and area numbers, which say nothing there. */
+enum { UNSTRUCTURED = 1, STRUCTURED };
+
 typedef struct {
     uint8_t *file;
     size_t length;
@@ -28,6 +32,7 @@ typedef struct {
     int32_t code;           /* the layer code, 1 or 5 */
     uint32_t header;        /* the H record; its nodes' records follow it */
     uint32_t nodes, lines, areas;
+    uint32_t letters;       /* UNSTRUCTURED or STRUCTURED */
     const uint32_t *line_records;
     const uint32_t *area_records;
     const int64_t *measures;

@@ -10,6 +10,7 @@ trap 'rm -rf "$work"' EXIT
 smallest=samples/smallest.dat
 refused=samples/refused-16-loop-walked-backwards.dat
 coasts=(samples/kasumigaura-5440.dat samples/kyushu-4830.dat)
+unstructured=(samples/unstructured.dat samples/kasumigaura-5440-h1.dat)
 export PYTHONPATH=$PWD/target/python
 
 # ---- C
@@ -68,6 +69,16 @@ by_smallest() {
   area=1 code=13101 measure=200000000" "$@" "$folder/layer_figures" $smallest
 }
 
+# An unstructured layer: a line as of S, and no area.
+by_unstructured() {
+    local folder=$1
+    shift
+    says "the points of a line of an unstructured layer" 0 "$frame" "$@" "$folder/line_points" "${unstructured[0]}" 533945 1 1
+    complains "the rings of no area" 2 "no such area" "$@" "$folder/area_rings" "${unstructured[0]}" 533945 1 1
+    says "the figures of an unstructured layer" 0 "mesh=533945 layer=1 nodes=1 lines=1 areas=0 sum=0 outside=0" \
+        "$@" "$folder/layer_figures" "${unstructured[0]}"
+}
+
 by_misuse() {
     local folder=$1
     complains "area 0 is nobody" 2 "no such area" "$folder/area_rings" $smallest 533945 1 0
@@ -80,10 +91,10 @@ by_misuse() {
     complains "a refused sheet" 1 "refused: 16 at 7,1" "$folder/layer_figures" $refused
 }
 
-# The figures of the coast sheets are the tool's.
+# The figures of the coast sheets, and of those with unstructured layers, are the tool's.
 by_tool() {
     local file
-    for file in "${coasts[@]}"; do
+    for file in "${coasts[@]}" "${unstructured[@]}"; do
         "$1/layer_figures" "$file" >"$work/figures"
         sed -n 's/ nodes=.* sum=\(.*\)/ areas=\1/p' "$work/figures" >"$work/sums"
         sed -n 's/.*measure=//p' "$work/figures" >"$work/measures"
@@ -109,21 +120,28 @@ same() {
     return 1
 }
 
+# same_things FILE FEWEST: each line and area of the file's layers that have more lines than that.
+same_things() {
+    local mesh layer lines areas n shown=0
+    while read -r mesh layer lines areas; do
+        for ((n = 1; n <= lines; n++)); do same line_points "$1" "$mesh" "$layer" $n && shown=$((shown + 1)); done
+        for ((n = 1; n <= areas; n++)); do same area_rings "$1" "$mesh" "$layer" $n && shown=$((shown + 1)); done
+    done < <("$folder/layer_figures" "$1" | sed -n 's/mesh=\(.*\) layer=\(.*\) nodes=.* lines=\(.*\) areas=\(.*\) sum=.*/\1 \2 \3 \4/p' |
+        awk -v fewest="$2" '$3 > fewest')
+    if [ $shown -gt 30 ]; then
+        pass "Python and C: $shown lines and areas of $1"
+    else
+        fail "Python and C" "only $shown lines and areas of $1 were compared"
+    fi
+}
+
 by_python() {
-    local folder=$1 file mesh layer lines areas n shown=0
-    for file in $smallest "${coasts[@]}"; do
+    local folder=$1 file n
+    for file in $smallest "${coasts[@]}" "${unstructured[@]}"; do
         same layer_figures "$file" && pass "Python and C: the figures of $file"
     done
-    while read -r mesh layer lines areas; do
-        for ((n = 1; n <= lines; n++)); do same line_points "${coasts[0]}" "$mesh" "$layer" $n && shown=$((shown + 1)); done
-        for ((n = 1; n <= areas; n++)); do same area_rings "${coasts[0]}" "$mesh" "$layer" $n && shown=$((shown + 1)); done
-    done < <("$folder/layer_figures" "${coasts[0]}" | sed -n 's/mesh=\(.*\) layer=\(.*\) nodes=.* lines=\(.*\) areas=\(.*\) sum=.*/\1 \2 \3 \4/p' |
-        awk '$3 > 3')
-    if [ $shown -gt 30 ]; then
-        pass "Python and C: $shown lines and areas of ${coasts[0]}"
-    else
-        fail "Python and C" "only $shown lines and areas were compared"
-    fi
+    same_things "${coasts[0]}" 3
+    same_things "${unstructured[1]}" 2
     for n in 12 13 40; do
         python3 python/tests/made.py $n >"$work/made.dat"
         same area_rings "$work/made.dat" 533945 1 1 && same line_points "$work/made.dat" 533945 1 $((n + 1)) &&
@@ -138,9 +156,9 @@ by_python() {
     fi
 }
 
-# The GeoJSON of a sheet: each ring closed, the first counterclockwise and the others clockwise, as many features as areas.
-by_geojson() {
-    if python3 examples/areas_geojson.py "${coasts[1]}" >"$work/geojson" 2>"$work/err" && python3 - "$work/geojson" >"$work/out" 2>"$work/err" <<'END'; then
+# The GeoJSON of a sheet: each ring closed, the first counterclockwise and the others clockwise, as many features as areas. geojson FILE AREAS
+geojson() {
+    if python3 examples/areas_geojson.py "$1" >"$work/geojson" 2>"$work/err" && python3 - "$work/geojson" >"$work/out" 2>"$work/err" <<'END'; then
 import json, sys
 features = json.load(open(sys.argv[1]))["features"]
 for feature in features:
@@ -149,10 +167,16 @@ for feature in features:
         assert ring[0] == ring[-1] and len(ring) > 3 and (around > 0) == (i == 0), feature["properties"]
 print(len(features), "areas")
 END
-        says "GeoJSON" 0 "349 areas" echo "$(cat "$work/out")"
+        says "GeoJSON of $1" 0 "$2" echo "$(cat "$work/out")"
     else
-        fail "GeoJSON" "$(tail -n 1 "$work/err")"
+        fail "GeoJSON of $1" "$(tail -n 1 "$work/err")"
     fi
+}
+
+by_geojson() {
+    geojson "${coasts[1]}" "349 areas"
+    geojson "${unstructured[0]}" "0 areas"
+    geojson "${unstructured[1]}" "6 areas"
 }
 
 # ---- all of it
@@ -163,6 +187,7 @@ if make -s own-library 2>"$work/err"; then
     [ "$(uname -m)" = x86_64 ] || archive=target/native/libstragumella.a
     compiles "$work/plain" cc -std=c11
     by_smallest "$work/plain"
+    by_unstructured "$work/plain"
     by_misuse "$work/plain"
     by_tool "$work/plain"
     if has_check address,undefined; then
@@ -171,6 +196,7 @@ if make -s own-library 2>"$work/err"; then
         [ "$(uname -m)" = x86_64 ] || export ASAN_OPTIONS=detect_leaks=0
         compiles "$work/sanitized" cc -std=c11 -g -fsanitize=address,undefined -fno-sanitize-recover=all
         by_smallest "$work/sanitized"
+        by_unstructured "$work/sanitized"
         by_misuse "$work/sanitized"
         by_tool "$work/sanitized"
         way=
@@ -180,6 +206,7 @@ if make -s own-library 2>"$work/err"; then
     if command -v valgrind >/dev/null; then
         way="valgrind: "
         by_smallest "$work/plain" valgrind -q --error-exitcode=99 --leak-check=full
+        by_unstructured "$work/plain" valgrind -q --error-exitcode=99 --leak-check=full
         way=
     else
         skip "valgrind" "not here"

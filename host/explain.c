@@ -56,7 +56,7 @@ static Explanation explanation(const Sheet *sheet)
     e.due = stragumella_due(file->bytes, file->length, e.record);
     if (!is_bytes(&e)) {
         e.where = whereabouts(file, e.record, e.due);
-        e.hint = refusal_hint(e.number, e.due, e.column);
+        e.hint = refusal_hint(e.number, e.due, e.column, e.where.letters);
     }
     if (e.number != 1 && e.number != 4) {
         e.field = field_at(e.due, e.column);
@@ -118,8 +118,8 @@ static void print_steering(FILE *out, const Whereabouts *where)
         print_wrapped(out, "Counts:", text);
     }
     if (where->layer.record != 0) {
-        snprintf(text, sizeof text, "the H is record %u: nodes %d, lines %d, areas %d", (unsigned)where->layer.record, (int)h[1], (int)h[2],
-                 (int)h[3]);
+        snprintf(text, sizeof text, "the H is record %u: %snodes %d, lines %d, areas %d", (unsigned)where->layer.record,
+                 where->letters == UNSTRUCTURED ? "unstructured (H1), " : "", (int)h[1], (int)h[2], (int)h[3]);
         print_wrapped(out, "       ", text);
     }
     if (where->item.record != 0 && where->item.kind == LINE) {

@@ -54,24 +54,31 @@ static int no_layer(Writer *w, Sought sought)
     return put_complaint(w, message);
 }
 
-static int no_item(Writer *w, Sought sought, uint32_t last)
+/* An unstructured layer has no areas at all: that is said in place of the last one's number. */
+static int no_item(Writer *w, Sought sought, const Place *place)
 {
     const char *kind = sought.kind == NODE ? "node" : sought.kind == LINE ? "line" : "area";
+    char last[48];
     char message[120];
-    snprintf(message, sizeof message, "no %s %d in layer %d of mesh %d, the last one is %u", kind, (int)sought.number,
-             (int)sought.layer, (int)sought.mesh, (unsigned)last);
+    if (sought.kind == AREA && place->row.letters == UNSTRUCTURED) {
+        snprintf(last, sizeof last, "the layer is unstructured (H1)");
+    } else {
+        snprintf(last, sizeof last, "the last one is %u", (unsigned)count_of(place, sought.kind));
+    }
+    snprintf(message, sizeof message, "no %s %d in layer %d of mesh %d, %s", kind, (int)sought.number, (int)sought.layer,
+             (int)sought.mesh, last);
     return put_complaint(w, message);
 }
 
 static int put_in_table(Writer *w, const Sheet *sheet, Sought sought)
 {
-    Place place;
+    Place place = {0};
     size_t all;
     if (!find_layer(sheet, sought, &place, &all)) {
         return no_layer(w, sought);
     }
     if (sought.number < 1 || (uint32_t)sought.number > count_of(&place, sought.kind)) {
-        return no_item(w, sought, count_of(&place, sought.kind));
+        return no_item(w, sought, &place);
     }
     uint32_t record = record_in(sheet, &place, sought.kind, (uint32_t)sought.number, all);
     return put_record(w, sheet->file, record, 0);

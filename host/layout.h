@@ -9,6 +9,9 @@
 /* The kinds of record, by the library's numbers. */
 enum { MESH = 1, LAYER, NODE, LINE, COORDINATES, AREA, LOOP };
 
+/* The letters of an H, H1 and H2, by the library's numbers. An unstructured layer has lines and no areas. */
+enum { UNSTRUCTURED = 1, STRUCTURED };
+
 typedef enum { LETTERS, NUMBER, CODE, NAME, BLANK, LINE_END, WHOLE } What;
 
 typedef struct {

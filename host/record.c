@@ -90,6 +90,14 @@ static void put_mark(Writer *w, const char *key, uint32_t mark)
     }
 }
 
+/* The letters of an H are part of its value; those of other kinds say no more than the kind does. */
+static void put_letters(Writer *w, const char *key, uint32_t letters)
+{
+    if (letters != 0) {
+        put_number(w, key, letters);
+    }
+}
+
 static void put_fields(Writer *w, uint32_t kind, const stragumella_record *value)
 {
     const int32_t *number = value->numbers;
@@ -104,6 +112,8 @@ static void put_fields(Writer *w, uint32_t kind, const stragumella_record *value
             put_mark(w, field->key, *mark++);
         } else if (field->what == NAME) {
             put_name(w, value->name, field->width);
+        } else if (field->what == LETTERS) {
+            put_letters(w, field->key, value->letters);
         }
     }
     object_end(w);

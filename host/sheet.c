@@ -35,12 +35,16 @@ void sheet_free(Sheet *sheet)
 }
 
 /* A row of the table (stragumella.h): how many words it has, and which word is what. */
-enum { HEADER_WORD, NODES_WORD, LINES_WORD, AREAS_WORD, ROW_WORDS };
+enum { HEADER_WORD, NODES_WORD, LINES_WORD, AREAS_WORD, LETTERS_WORD, ROW_WORDS };
 
 Row sheet_row(const Sheet *sheet, size_t layer)
 {
     const uint32_t *w = sheet->table + ROW_WORDS * layer;
-    return (Row){.header = w[HEADER_WORD], .nodes = w[NODES_WORD], .lines = w[LINES_WORD], .areas = w[AREAS_WORD]};
+    return (Row){.header = w[HEADER_WORD],
+                 .nodes = w[NODES_WORD],
+                 .lines = w[LINES_WORD],
+                 .areas = w[AREAS_WORD],
+                 .letters = w[LETTERS_WORD]};
 }
 
 /* The words of a table are a row, the lines and the areas of each layer, so the rows end where these add up. */

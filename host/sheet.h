@@ -1,7 +1,7 @@
 /* A file with the library's answer, and its table read by rows.
  *
- * The table (docs/RULES.md 8.1): a row for each layer, in file order: H record, nodes, lines, areas; behind all rows
- * each line's L record; then each area's A record.
+ * The table (docs/RULES.md 8.1): a row for each layer, in file order: H record, nodes, lines, areas, letters; behind all
+ * rows each line's L record; then each area's A record.
  */
 #ifndef SHEET_H
 #define SHEET_H
@@ -15,6 +15,7 @@ typedef struct {
     uint32_t nodes;
     uint32_t lines;
     uint32_t areas;
+    uint32_t letters; /* of its H: UNSTRUCTURED or STRUCTURED (layout.h) */
 } Row;
 
 typedef struct {

@@ -14,6 +14,7 @@ trap 'rm -rf "$work"' EXIT
 machine=$(uname -m)
 samples=samples
 smallest=$samples/smallest.dat
+unstructured=("$samples/unstructured.dat" "$samples/kasumigaura-5440-h1.dat")
 made=target/host/made
 most=473595264
 version=$(make -s version)
@@ -110,6 +111,7 @@ by_few() {
     expect check-all 1 check $samples/kasumigaura-5440.dat $samples/kyushu-4830.dat $samples/refused-*.dat $smallest
     expect measure-two 1 measure $smallest $samples/refused-16-loop-walked-backwards.dat
     expect sums-smallest 0 sums $smallest
+    expect sums-unstructured 0 sums "${unstructured[@]}"
     expect record-1 0 record 1 $smallest
     expect record-taken-out 1 record 26 $made/taken-out
     expect record-behind-the-end 1 record 7 $samples/refused-04-ends-too-early.dat
@@ -133,7 +135,7 @@ by_samples() {
     expect measure-smallest 0 measure $smallest
     expect measure-kasumigaura 0 measure $samples/kasumigaura-5440.dat
     expect sums-kasumigaura 0 sums $samples/kasumigaura-5440.dat
-    expect sums-refused 1 sums $samples/refused-07-unstructured-layer.dat
+    expect sums-refused 1 sums $samples/refused-06-areas-under-h1.dat
     for n in 2 3 4 5 6 7; do
         expect record-$n 0 record $n $smallest
     done
@@ -142,7 +144,7 @@ by_samples() {
     says "land is accepted" 0 $'status=ok\nmeshes=1\nlayers=1\nnodes=1\nlines=1\nareas=1\nrecords=7\n' check $samples/land-0000.dat
     says_refused "land as 00000" 5 4 40 check $made/land-00000
     says_refused "land printed so in layer 1" 5 4 40 check $made/land-layer-1
-    expect record-h1 1 record 2 $samples/refused-07-unstructured-layer.dat
+    by_unstructured
     expect record-late-refusal 0 record 7 $samples/refused-16-loop-walked-backwards.dat
     expect record-by-caller 1 record 1 $smallest N
     expect record-other-letters 1 record 6 $made/letters
@@ -221,6 +223,8 @@ by_misuse() {
     complains "find in no such layer" "no layer 5 of a mesh 533945" find $smallest 533945 5 line 1
     complains "find of no such line" "no line 2 in layer 1 of mesh 533945, the last one is 1" find $smallest 533945 1 line 2
     complains "find of line 0" "no line 0" find $smallest 533945 1 line 0
+    complains "find of an area in an unstructured layer" "no area 1 in layer 1 of mesh 533945, the layer is unstructured (H1)" \
+        find "${unstructured[0]}" 533945 1 area 1
     complains "standard input twice" "one - at most" check - - <$smallest
     complains "explain of no refusal's number" "no refusal has that number" explain 23
     complains "two forms" "not two" check --json --quiet $smallest
@@ -406,6 +410,7 @@ by_other_builds() {
 
 . host/test_forms.sh
 make_files
+by_made_samples
 by_samples
 by_inputs
 by_misuse

@@ -17,9 +17,10 @@ _Static_assert(sizeof(stragumella_sums) == 32 && offsetof(stragumella_sums, area
 _Static_assert(offsetof(stragumella_sums, outside) == 24, "sums");
 _Static_assert(sizeof(stragumella_place) == 24 && offsetof(stragumella_place, latitude) == 8, "place");
 _Static_assert(offsetof(stragumella_place, longitude) == 16, "place");
-_Static_assert(sizeof(stragumella_record) == 116 && offsetof(stragumella_record, numbers) == 4, "record");
+_Static_assert(sizeof(stragumella_record) == 120 && offsetof(stragumella_record, numbers) == 4, "record");
 _Static_assert(offsetof(stragumella_record, name) == 68 && offsetof(stragumella_record, marks) == 108, "record");
-_Static_assert(sizeof(stragumella_reading) == 128 && offsetof(stragumella_reading, value) == 12, "reading");
+_Static_assert(offsetof(stragumella_record, letters) == 116, "record");
+_Static_assert(sizeof(stragumella_reading) == 132 && offsetof(stragumella_reading, value) == 12, "reading");
 
 enum { RECORD = 74, SHEET = 7 * RECORD, TWO = 2 * SHEET };
 
@@ -156,78 +157,95 @@ static int same_bytes(const uint8_t *a, const uint8_t *b, size_t n) { return n =
 
 /* ---- the judge and the sums */
 
+/* what is told of a file: what it counts, its table, an area's measure each and two sums a layer */
+typedef struct {
+    uint32_t meshes, layers, nodes, lines, areas, records;
+    const uint32_t *table;
+    size_t need;
+    const int64_t *measures;
+    const int64_t *sums;
+} facts;
+
+/* a file's answer; the table stands where the refusal is past 9 */
 typedef struct {
     uint32_t number, record, column;
-    const uint32_t *table; /* what stands in the table where the refusal is past 9 */
-    size_t need;
+    const facts *of;
 } expected;
 
-static const uint32_t S_TABLE[6] = { 2, 1, 1, 1, 4, 6 };
-static const uint32_t TWO_TABLE[12] = { 2, 1, 1, 1, 9, 1, 1, 1, 4, 11, 6, 13 };
+#define WHOLE ((int64_t)200000000) /* what a whole sheet measures */
 
-static int table_is(const uint32_t *table, size_t words, uint32_t number, const expected *e)
+static const int64_t WHOLES[4] = { WHOLE, WHOLE, WHOLE, WHOLE };
+static const uint32_t S_TABLE[7] = { 2, 1, 1, 1, 2, 4, 6 };
+static const facts S_FACTS = { 1, 1, 1, 1, 1, 7, S_TABLE, 7, WHOLES, WHOLES };
+static const uint32_t TWO_TABLE[14] = { 2, 1, 1, 1, 2, 9, 1, 1, 1, 2, 4, 11, 6, 13 };
+static const facts TWO_FACTS = { 2, 2, 2, 2, 2, 14, TWO_TABLE, 14, WHOLES, WHOLES };
+
+static int table_is(const uint32_t *table, size_t words, uint32_t number, const facts *of)
 {
     int stands = number == 0 || number > 9;
     for (size_t i = 0; i < words; i++)
-        if (table[i] != (stands && i < e->need ? e->table[i] : word(i)))
+        if (table[i] != (stands && i < of->need ? of->table[i] : word(i)))
             return 0;
     return 1;
 }
 
-/* a call that judges and fills places, `each` of them for a mesh like S; with fewer it gives the number `few` */
+/* a call that judges and fills places: an area's measure each, or two sums a layer; with fewer it gives the number `few` */
 typedef struct {
     stragumella_outcome (*call)(const uint8_t *, size_t, uint32_t *, size_t, int64_t *, size_t);
-    size_t each;
+    int of_layers;
     uint32_t few;
 } filling;
 
-static const filling MEASURES = { stragumella_judge, 1, 19 }, ALL_SUMS = { stragumella_all_sums, 2, 48 };
+static const filling MEASURES = { stragumella_judge, 0, 19 }, ALL_SUMS = { stragumella_all_sums, 1, 48 };
 
-/* such a call on a file with `n` meshes like S if it is accepted, `words` words and `places` places */
-static void fills(filling f, const uint8_t *bytes, size_t length, size_t words, size_t places, expected e, uint32_t n)
+/* such a call on a file, with `words` words and `places` places */
+static void fills(filling f, const uint8_t *bytes, size_t length, size_t words, size_t places, expected e)
 {
+    static const facts nothing;
+    const int64_t *wanted = f.of_layers ? e.of->sums : e.of->measures;
+    size_t filled = f.of_layers ? 2 * (size_t)e.of->layers : e.of->areas;
     uint8_t *file = lent(bytes, length);
     uint32_t *table = lent_words(words);
     int64_t *figures = lent_places(places);
     uint64_t need = 0;
     if (e.number == 0 || e.number > 9) {
-        if (words < e.need) {
+        if (words < e.of->need) {
             e.number = 9, e.record = 0, e.column = 0;
-            need = e.need;
-        } else if (e.number == 0 && places < f.each * n)
+            need = e.of->need;
+        } else if (e.number == 0 && places < filled)
             e.number = f.few;
     }
-    uint32_t count = e.number == 0 ? n : 0;
+    const facts *told = e.number == 0 ? e.of : &nothing;
     stragumella_outcome o = f.call(file, length, table, words, figures, places);
     HOLD(o.number == e.number && o.record == e.record && o.column == e.column);
-    HOLD(o.meshes == count && o.layers == count && o.nodes == count && o.lines == count && o.areas == count);
-    HOLD(o.records == 7 * count);
+    HOLD(o.meshes == told->meshes && o.layers == told->layers && o.nodes == told->nodes && o.lines == told->lines);
+    HOLD(o.areas == told->areas && o.records == told->records);
     HOLD(o.need == need);
-    HOLD(table_is(table, words, e.number, &e));
+    HOLD(table_is(table, words, e.number, e.of));
     int ok = 1;
     for (size_t i = 0; i < places; i++)
-        ok &= figures[i] == (i < f.each * count ? 200000000 : place(i));
+        ok &= figures[i] == (e.number == 0 && i < filled ? wanted[i] : place(i));
     HOLD(ok);
     HOLD(same_bytes(file, bytes, length));
     free(file), free(table), free(figures);
 }
 
-/* the sums of layer number `layer` of a file that has `n` */
-static void sums(const uint8_t *bytes, size_t length, size_t words, uint32_t layer, expected e, uint32_t n)
+/* the sums of layer number `layer` of a file */
+static void sums(const uint8_t *bytes, size_t length, size_t words, uint32_t layer, expected e)
 {
     uint8_t *file = lent(bytes, length);
     uint32_t *table = lent_words(words);
     if (e.number == 0 || e.number > 9) {
-        if (words < e.need)
+        if (words < e.of->need)
             e.number = 9, e.record = 0, e.column = 0;
-        else if (e.number == 0 && (layer < 1 || layer > n))
+        else if (e.number == 0 && (layer < 1 || layer > e.of->layers))
             e.number = 22;
     }
-    int64_t sum = e.number == 0 ? 200000000 : 0;
+    int64_t sum = e.number == 0 ? e.of->sums[2 * (layer - 1)] : 0;
     stragumella_sums s = stragumella_layer_sums(file, length, table, words, layer);
     HOLD(s.number == e.number && s.record == e.record && s.column == e.column);
     HOLD(s.areas == sum && s.outside == sum);
-    HOLD(table_is(table, words, e.number, &e));
+    HOLD(table_is(table, words, e.number, e.of));
     HOLD(same_bytes(file, bytes, length));
     free(file), free(table);
 }
@@ -241,24 +259,24 @@ static void need(const uint8_t *bytes, size_t length, uint64_t words)
 }
 
 /* all file calls on a file, with tables and measures of every length up to two more than are wanted */
-static void all(const uint8_t *bytes, size_t length, expected e, uint32_t n)
+static void all(const uint8_t *bytes, size_t length, expected e)
 {
     int early = e.number != 0 && e.number <= 8;
-    need(bytes, length, early ? 0 : e.need);
-    for (size_t words = 0; words <= e.need + 2; words++) {
-        for (size_t places = 0; places <= 2 * n + 2u; places++) {
-            fills(MEASURES, bytes, length, words, places, e, n);
-            fills(ALL_SUMS, bytes, length, words, places, e, n);
+    need(bytes, length, early ? 0 : e.of->need);
+    for (size_t words = 0; words <= e.of->need + 2; words++) {
+        for (size_t places = 0; places <= 2 * e.of->layers + 2u; places++) {
+            fills(MEASURES, bytes, length, words, places, e);
+            fills(ALL_SUMS, bytes, length, words, places, e);
         }
-        for (uint32_t layer = 0; layer <= n + 1; layer++)
-            sums(bytes, length, words, layer, e, n);
-        sums(bytes, length, words, UINT32_MAX, e, n);
+        for (uint32_t layer = 0; layer <= e.of->layers + 1; layer++)
+            sums(bytes, length, words, layer, e);
+        sums(bytes, length, words, UINT32_MAX, e);
     }
 }
 
 static expected at(uint32_t number, uint32_t record, uint32_t column)
 {
-    return (expected){ number, record, column, S_TABLE, 6 };
+    return (expected){ number, record, column, &S_FACTS };
 }
 
 static void files(void)
@@ -269,33 +287,33 @@ static void files(void)
 
     /* lengths 0, short by one, exact, longer by one, a record short */
     sheet(s, 533945);
-    all(s, 0, at(1, 1, 1), 1);
-    all(s, 1, at(1, 1, 1), 1);
-    all(s, SHEET - 1, at(1, 7, 1), 1);
-    all(s, SHEET, at(0, 0, 0), 1);
-    all(s, SHEET + 1, at(1, 8, 1), 1);
-    all(s, SHEET - RECORD, at(4, 7, 1), 1);
+    all(s, 0, at(1, 1, 1));
+    all(s, 1, at(1, 1, 1));
+    all(s, SHEET - 1, at(1, 7, 1));
+    all(s, SHEET, at(0, 0, 0));
+    all(s, SHEET + 1, at(1, 8, 1));
+    all(s, SHEET - RECORD, at(4, 7, 1));
 
     /* two meshes: a buffer that is short by one is not an empty one */
     sheet(t, 533945);
     sheet(t + SHEET, 533946);
-    all(t, TWO, (expected){ 0, 0, 0, TWO_TABLE, 12 }, 2);
-    all(t, TWO - 1, (expected){ 1, 14, 1, TWO_TABLE, 12 }, 2);
-    all(t, TWO + 1, (expected){ 1, 15, 1, TWO_TABLE, 12 }, 2);
+    all(t, TWO, (expected){ 0, 0, 0, &TWO_FACTS });
+    all(t, TWO - 1, (expected){ 1, 14, 1, &TWO_FACTS });
+    all(t, TWO + 1, (expected){ 1, 15, 1, &TWO_FACTS });
     put(t + SHEET, 3, 6, 533945);
-    all(t, TWO, (expected){ 8, 8, 3, TWO_TABLE, 12 }, 2);
+    all(t, TWO, (expected){ 8, 8, 3, &TWO_FACTS });
     put(t + SHEET, 3, 6, 533946);
     put(t + SHEET, 52, 5, 8);
-    all(t, TWO, (expected){ 10, 8, 52, TWO_TABLE, 12 }, 2);
+    all(t, TWO, (expected){ 10, 8, 52, &TWO_FACTS });
 
     /* S's neighbours */
     uint8_t *m = s, *h = s + RECORD, *n = s + 2 * RECORD, *l = s + 3 * RECORD, *c = s + 4 * RECORD,
             *a = s + 5 * RECORD, *o = s + 6 * RECORD;
-#define NEIGHBOUR(change, ...)             \
-    do {                                   \
-        sheet(s, 533945);                  \
-        change;                            \
-        all(s, SHEET, at(__VA_ARGS__), 1); \
+#define NEIGHBOUR(change, ...)          \
+    do {                                \
+        sheet(s, 533945);               \
+        change;                         \
+        all(s, SHEET, at(__VA_ARGS__)); \
     } while (0)
     NEIGHBOUR(put(m, 52, 5, 6), 10, 1, 52);
     NEIGHBOUR(put(n, 22, 2, 0), 6, 3, 22);
@@ -304,7 +322,8 @@ static void files(void)
     NEIGHBOUR(put(c, 51, 5, 7), 6, 5, 51);
     NEIGHBOUR(put(o, 10, 5, -1), 16, 7, 1);
     NEIGHBOUR(row(l, 30, 5, 4, ((const int[]){ 13101, 1, 88888, 0 })), 17, 7, 10);
-    NEIGHBOUR(h[1] = '1', 7, 2, 1);
+    NEIGHBOUR(h[1] = '1', 6, 2, 15);
+    NEIGHBOUR(h[1] = '3', 3, 2, 1);
     NEIGHBOUR(h[1] = ' ', 3, 2, 1);
     NEIGHBOUR(put(m, 3, 6, 533985), 6, 1, 3);
     NEIGHBOUR(memcpy(m + 31, "00001", 5), 5, 1, 32);
@@ -401,10 +420,10 @@ static const int32_t S_NUMBERS[7][16] = {
 };
 
 /* without a mark */
-static int value_is(stragumella_record v, uint32_t kind, const int32_t *numbers, const uint8_t *name40)
+static int value_is(stragumella_record v, uint32_t kind, const int32_t *numbers, const uint8_t *name40, uint32_t letters)
 {
     return v.kind == kind && memcmp(v.numbers, numbers, sizeof v.numbers) == 0 && memcmp(v.name, name40, 40) == 0 &&
-           v.marks[0] == 0 && v.marks[1] == 0;
+           v.marks[0] == 0 && v.marks[1] == 0 && v.letters == letters;
 }
 
 /* reads `length` bytes as a record of the kind and holds the answer to a refusal with an empty value of kind `told` */
@@ -415,7 +434,7 @@ static void refuses(uint32_t kind, const uint8_t *from, size_t length, uint32_t 
     uint8_t *bytes = lent(from, length);
     stragumella_reading r = stragumella_read_record(kind, bytes, length);
     HOLD(r.number == number && r.record == 1 && r.column == column);
-    HOLD(value_is(r.value, told, zeros, none));
+    HOLD(value_is(r.value, told, zeros, none, 0));
     HOLD(same_bytes(bytes, from, length));
     free(bytes);
 }
@@ -452,7 +471,7 @@ static void records(void)
         uint8_t *bytes = lent(own, RECORD);
         stragumella_reading r = stragumella_read_record(kind, bytes, RECORD);
         HOLD(r.number == 0 && r.record == 0 && r.column == 0);
-        HOLD(value_is(r.value, kind, S_NUMBERS[kind - 1], name40));
+        HOLD(value_is(r.value, kind, S_NUMBERS[kind - 1], name40, kind == 2 ? 2 : 0));
         HOLD(same_bytes(bytes, own, RECORD));
         free(bytes);
 
@@ -499,11 +518,6 @@ static void records(void)
             refuses(NO_KINDS[k], own, RECORD, 3, 1, 0);
         }
     }
-    uint8_t h1[RECORD];
-    memcpy(h1, s + RECORD, RECORD);
-    h1[1] = '1';
-    refuses(2, h1, RECORD, 7, 1, 2);
-    refuses(1, h1, RECORD, 3, 1, 1);
 }
 
 /* the record of that kind in S, with that layer code and with the text from that column on */
@@ -558,13 +572,207 @@ static void land(void)
     land_line(line, 4, '5', 35, " 0000"); /* an area number is no code */
     refuses(4, line, RECORD, 5, 35, 4);
     for (uint32_t kind = 1; kind <= 7; kind++) {
-        stragumella_record v = {.kind = kind};
+        stragumella_record v = {.kind = kind, .letters = kind == 2 ? 2 : 0};
         memcpy(v.numbers, S_NUMBERS[kind - 1], sizeof v.numbers);
         for (size_t i = 0; i < 40; i++)
             v.name[i] = (uint8_t)(kind == 6 || (kind == 1 && i < 20) ? (i % 2 ? 0x40 : 0x81) : 0);
         v.marks[1] = 1; /* on a kind without codes, the second of an A, beside 13101 of an L */
         writes(v, RECORD, 20, line);
     }
+}
+
+/* ---- unstructured layers */
+
+/* the letters of an H are read and written back; no other letters are an H's, and no other kind has any */
+static void letters(void)
+{
+    static const char *const others[] = {"H3", "H0", "H ", "h1", "h2", "1H", "HH", " 1", "M "};
+    static const uint32_t values[] = {0, 1, 2, 3, 4, 255, 256, 257, 258, 0x80000001, UINT32_MAX};
+    static const uint8_t none[40];
+    uint8_t s[SHEET], line[RECORD];
+    sheet(s, 533945);
+    for (uint8_t letter = '1'; letter <= '2'; letter++) {
+        memcpy(line, s + RECORD, RECORD);
+        line[1] = letter;
+        stragumella_reading r = stragumella_read_record(2, line, RECORD);
+        HOLD(r.number == 0 && r.record == 0 && r.column == 0);
+        HOLD(value_is(r.value, 2, S_NUMBERS[1], none, letter - '0'));
+        writes(r.value, RECORD, 0, line);
+        refuses(1, line, RECORD, 3, 1, 1);
+        line[4] = 'x'; /* refused behind the letters, which are not told then */
+        refuses(2, line, RECORD, 5, 5, 2);
+    }
+    for (size_t i = 0; i < sizeof others / sizeof *others; i++) {
+        memcpy(line, s + RECORD, RECORD);
+        memcpy(line, others[i], 2);
+        refuses(2, line, RECORD, 3, 1, 2);
+    }
+    for (uint32_t kind = 1; kind <= 7; kind++) {
+        stragumella_record v = stragumella_read_record(kind, s + (kind - 1) * RECORD, RECORD).value;
+        for (size_t i = 0; i < sizeof values / sizeof *values; i++) {
+            int fits = kind == 2 ? values[i] == 1 || values[i] == 2 : values[i] == 0;
+            v.letters = values[i];
+            memcpy(line, s + (kind - 1) * RECORD, RECORD);
+            if (kind == 2)
+                line[1] = (uint8_t)('0' + values[i]);
+            writes(v, RECORD, fits ? 0 : 20, line);
+            writes(v, RECORD - 1, 21, line);
+        }
+    }
+}
+
+/* the layer of S with that layer code, structured or, with the letter 1, not; answers its bytes */
+static size_t layer_of(uint8_t *to, char letter, int code)
+{
+    uint8_t s[SHEET];
+    size_t count = letter == '1' ? 4 : 6;
+    sheet(s, 533945);
+    memcpy(to, s + RECORD, count * RECORD);
+    to[1] = (uint8_t)letter;
+    put(to, 25, 5, (int)count);
+    for (size_t i = 0; i < count; i++)
+        if (to[i * RECORD] != ' ')
+            put(to + i * RECORD, 3, 2, code);
+    if (code == 5)
+        put(to + RECORD, 5, 2, 1);
+    if (letter == '1') {
+        put(to, 15, 5, 0);
+        row(to + 2 * RECORD, 30, 5, 4, (const int[]){ 0, 0, 0, 0 });
+    }
+    return count * RECORD;
+}
+
+/* a mesh of layers with these letters, layer 1 and perhaps layer 5; answers its bytes */
+static size_t mesh_of(uint8_t *to, int mesh, const char *letters)
+{
+    int layers = (int)strlen(letters);
+    int areas = 0;
+    uint8_t s[SHEET];
+    size_t length = RECORD;
+    for (int i = 0; i < layers; i++) {
+        length += layer_of(to + length, letters[i], i == 0 ? 1 : 5);
+        areas += letters[i] == '2';
+    }
+    sheet(s, mesh);
+    memcpy(to, s, RECORD);
+    put(to, 29, 3, layers);
+    row(to, 32, 5, 5, (const int[]){ layers, layers, areas, 0, (int)(length / RECORD) });
+    return length;
+}
+
+/* every record of a file, read as what is due and written back */
+static void read_and_written(const uint8_t *bytes, size_t length)
+{
+    for (uint32_t k = 1; k <= length / RECORD; k++) {
+        const uint8_t *own = bytes + (k - 1) * RECORD;
+        uint32_t kind = stragumella_due(bytes, length, k);
+        stragumella_reading r = stragumella_read_record(kind, own, RECORD);
+        HOLD(r.number == 0 && r.value.letters == (kind == 2 ? (uint32_t)(own[1] - '0') : 0));
+        writes(r.value, RECORD, 0, own);
+    }
+}
+
+static const int64_t NO_SUMS[4] = { 0, 0, 0, 0 };
+static const uint32_t U_TABLE[6] = { 2, 1, 1, 0, 1, 4 };
+static const facts U_FACTS = { 1, 1, 1, 1, 0, 5, U_TABLE, 6, NULL, NO_SUMS };
+
+/* files of unstructured layers, alone, before and behind structured ones */
+static const struct {
+    const char *letters[2]; /* of the layers of each mesh */
+    const char *due;
+    facts of;
+} MIXED[] = {
+    { { "1", NULL }, "123451", { 1, 1, 1, 1, 0, 5, U_TABLE, 6, NULL, NO_SUMS } },
+    { { "11", NULL },
+      "1234523451",
+      { 1, 2, 2, 2, 0, 9, (const uint32_t[]){ 2, 1, 1, 0, 1, 6, 1, 1, 0, 1, 4, 8 }, 12, NULL, NO_SUMS } },
+    { { "12", NULL },
+      "123452345671",
+      { 1, 2, 2, 2, 1, 11, (const uint32_t[]){ 2, 1, 1, 0, 1, 6, 1, 1, 1, 2, 4, 8, 10 }, 13, WHOLES,
+        (const int64_t[]){ 0, 0, WHOLE, WHOLE } } },
+    { { "21", NULL },
+      "123456723451",
+      { 1, 2, 2, 2, 1, 11, (const uint32_t[]){ 2, 1, 1, 1, 2, 8, 1, 1, 0, 1, 4, 10, 6 }, 13, WHOLES,
+        (const int64_t[]){ WHOLE, WHOLE, 0, 0 } } },
+    { { "1", "21" },
+      "12345123456723451",
+      { 2, 3, 3, 3, 1, 16, (const uint32_t[]){ 2, 1, 1, 0, 1, 7, 1, 1, 1, 2, 13, 1, 1, 0, 1, 4, 9, 15, 11 }, 19, WHOLES,
+        (const int64_t[]){ 0, 0, WHOLE, WHOLE, 0, 0 } } },
+    { { "12", "12" },
+      "12345234567123452345671",
+      { 2, 4, 4, 4, 2, 22,
+        (const uint32_t[]){ 2, 1, 1, 0, 1, 6, 1, 1, 1, 2, 13, 1, 1, 0, 1, 17, 1, 1, 1, 2, 4, 8, 15, 19, 10, 21 }, 26, WHOLES,
+        (const int64_t[]){ 0, 0, WHOLE, WHOLE, 0, 0, WHOLE, WHOLE } } },
+};
+
+/* every call on each of them */
+static void mixed(void)
+{
+    uint8_t t[4 * TWO];
+    for (size_t i = 0; i < sizeof MIXED / sizeof *MIXED; i++) {
+        size_t length = 0;
+        for (int k = 0; k < 2 && MIXED[i].letters[k] != NULL; k++)
+            length += mesh_of(t + length, 533945 + k, MIXED[i].letters[k]);
+        HOLD(length == MIXED[i].of.records * (size_t)RECORD);
+        all(t, length, (expected){ 0, 0, 0, &MIXED[i].of });
+        due(t, length, MIXED[i].due);
+        read_and_written(t, length);
+    }
+}
+
+/* S as an unstructured layer, and its neighbours (RULES 11.4) */
+static void unstructured(void)
+{
+    uint8_t u[SHEET];
+    size_t length;
+    uint8_t *m = u, *h = u + RECORD, *n = u + 2 * RECORD, *l = u + 3 * RECORD, *c = u + 4 * RECORD;
+#define UNSTRUCTURED(layer, change, ...)                     \
+    do {                                                     \
+        mesh_of(u, 533945, "1");                             \
+        length = RECORD + layer_of(h, '1', layer);           \
+        change;                                              \
+        all(u, length, (expected){ __VA_ARGS__, &U_FACTS }); \
+    } while (0)
+    UNSTRUCTURED(1, (void)0, 0, 0, 0);
+    UNSTRUCTURED(5, (void)0, 0, 0, 0);
+    UNSTRUCTURED(5, memcpy(l + 29, " 0000", 5), 0, 0, 0);
+    UNSTRUCTURED(5, memcpy(l + 39, " 0000", 5), 0, 0, 0);
+    UNSTRUCTURED(1, memcpy(l + 29, " 0000", 5), 5, 4, 30);
+    UNSTRUCTURED(5, memcpy(l + 34, " 0000", 5), 5, 4, 35);
+    UNSTRUCTURED(1, h[1] = '2', 6, 4, 30);
+    UNSTRUCTURED(5, h[1] = '2', 6, 4, 35);
+    UNSTRUCTURED(1, h[1] = '3', 3, 2, 1);
+    UNSTRUCTURED(1, h[0] = 'h', 3, 2, 1);
+    for (int value = -1; value <= 1; value += 2) {
+        UNSTRUCTURED(1, put(h, 15, 5, value), 6, 2, 15);
+        for (int column = 30; column <= 45; column += 5) {
+            UNSTRUCTURED(1, put(l, column, 5, value), 6, 4, (uint32_t)column);
+            UNSTRUCTURED(5, put(l, column, 5, value), 6, 4, (uint32_t)column);
+        }
+    }
+    for (int column = 30; column <= 45; column += 5) {
+        UNSTRUCTURED(1, put(l, column, 5, 88888), 6, 4, (uint32_t)column);
+        UNSTRUCTURED(5, put(l, column, 5, 13101), 6, 4, (uint32_t)column);
+        UNSTRUCTURED(1, memcpy(l + column - 1, "     ", 5), 5, 4, (uint32_t)column);
+    }
+    UNSTRUCTURED(1, row(l, 30, 5, 4, ((const int[]){ 88888, 0, 13101, 1 })), 6, 4, 30);
+    UNSTRUCTURED(1, (put(n, 24, 2, 1), put(n, 31, 5, 0)), 14, 4, 24);
+    UNSTRUCTURED(1, put(n, 31, 5, 1), 13, 3, 31);
+    UNSTRUCTURED(1, put(l, 18, 5, 2), 11, 4, 18);
+    UNSTRUCTURED(1, put(l, 23, 1, 0), 12, 4, 23);
+    UNSTRUCTURED(1, put(c, 46, 5, 1), 12, 5, 41);
+    UNSTRUCTURED(1, put(m, 42, 5, 1), 10, 1, 42);
+    UNSTRUCTURED(1, put(h, 25, 5, 5), 10, 2, 25);
+    /* its areas left where they were: an A stands where a mesh is due */
+    mesh_of(u, 533945, "1");
+    uint8_t s[SHEET];
+    sheet(s, 533945);
+    memcpy(u + 5 * RECORD, s + 5 * RECORD, 2 * RECORD);
+    all(u, SHEET, (expected){ 3, 6, 1, &U_FACTS });
+    due(u, SHEET, "12345111");
+    /* counts steer whatever the letters are */
+    s[RECORD + 1] = '1';
+    due(s, SHEET, "12345671");
 }
 
 int main(void)
@@ -574,6 +782,9 @@ int main(void)
     positions();
     records();
     land();
+    letters();
+    mixed();
+    unstructured();
     if (failed)
         printf("test_api: %u of %u failed, the first at line %u\n", failed, tried, first);
     else

@@ -1,4 +1,4 @@
-# Further tests of the tool, for host/test.sh: files with faults of their bytes, the forms of output, names, many files at a time, the
+# Further tests of the tool, for host/test.sh: unstructured layers, files with faults of their bytes, the forms of output, names, many files at a time, the
 # programs that try a part of the C side alone, the two small programs, and the README's program.
 
 # ---- files that are made here
@@ -17,6 +17,18 @@ make_files() {
     # land with a zero too many, and in layer 1
     LC_ALL=C sed '4s/ 0000    1/00000    1/' $samples/land-0000.dat >$made/land-00000
     LC_ALL=C sed '4s/13101    1/ 0000    1/' $smallest >$made/land-layer-1
+    # S as an unstructured layer: with a code, with an area number, with areas and a field behind them that is ill formed, with a node that
+    # lists one end of the line alone; with other letters; with the areas of S
+    with_text "${unstructured[0]}" 4 30 88888 >$made/h1-left-code
+    with_text "${unstructured[0]}" 4 45 '    1' >$made/h1-right-area
+    with_text "${unstructured[0]}" 2 15 '    1   00' >$made/h1-areas
+    with_text "${unstructured[0]}" 3 24 ' 1    1    0' >$made/h1-end-not-listed
+    with_text "${unstructured[0]}" 2 1 H3 >$made/h3
+    with_text "${unstructured[0]}" 2 1 H2 >$made/h2-without-areas
+    { cat "${unstructured[0]}"; tail -c 148 $smallest; } >$made/areas-left
+    # a code in an unstructured layer behind a structured one, and an area number 0 in a structured layer behind an unstructured one
+    with_text "${unstructured[1]}" 36 40 88888 >$made/h1-behind-h2
+    with_text "${unstructured[1]}" 11 45 '    0' >$made/h2-behind-h1
     # S as it comes out of a transfer that means well
     tr -d '\r' <$smallest >$made/line-feeds
     LC_ALL=C sed 's/ *\r$/\r/' $smallest >$made/stripped
@@ -24,6 +36,48 @@ make_files() {
     { cat $smallest; printf '\032'; } >$made/ended
     gzip -nc $smallest >$made/packed
     iconv -f CP932 -t UTF-8 $smallest >$made/unicode
+}
+
+# with_text FILE RECORD COLUMN TEXT: the file with that text from a column of a record on.
+with_text() {
+    local before=$((($2 - 1) * 74 + $3 - 1))
+    head -c $before "$1"
+    printf '%s' "$4"
+    tail -c +$((before + ${#4} + 1)) "$1"
+}
+
+# ---- unstructured layers
+
+# samples/unstructured.py makes these two of others.
+by_made_samples() {
+    local sheet
+    for sheet in "${unstructured[@]}"; do
+        if ! command -v python3 >/dev/null; then
+            skip "$sheet, as it is made" "no python3"
+        elif python3 $samples/unstructured.py "${sheet##*/}" 2>"$work/err" | cmp - "$sheet" >"$work/out" 2>&1; then
+            pass "$sheet, as it is made"
+        else
+            fail "$sheet, as it is made" "$(cat "$work/out" "$work/err")"
+        fi
+    done
+}
+
+by_unstructured() {
+    expect check-unstructured 0 check "${unstructured[@]}"
+    expect measure-unstructured 0 measure "${unstructured[@]}"
+    expect record-h1 0 record 2 "${unstructured[0]}"
+    expect record-h1-json 0 record 2 "${unstructured[0]}" --json
+    expect record-h1-areas 0 record 2 $samples/refused-06-areas-under-h1.dat
+    expect find-unstructured 0 find "${unstructured[1]}" 544002 5 line 2
+    expect find-area-behind 0 find "${unstructured[1]}" 544012 5 area 2
+    expect explain-unstructured 1 explain $made/h1-*
+    expect explain-structured 1 explain $made/h2-*
+    expect explain-unstructured-json 1 explain --json $made/h1-left-code
+    expect explain-7 0 explain 7
+    says_refused "H3" 3 2 1 check $made/h3
+    says_refused "H2 where nothing tells of areas" 6 4 30 check $made/h2-without-areas
+    says_refused "H1 with its areas left behind it" 3 6 1 check $made/areas-left
+    expect record-other-digit 1 record 2 $made/h3
 }
 
 # ---- a first look at the bytes
@@ -219,7 +273,7 @@ told() {
 }
 
 by_small_programs() {
-    local name
+    local name sheet
     for name in check measure; do
         if [ ! -x target/bin/${name}_sheet ]; then
             skip "the program $name" "rt check ${name}_sheet builds it"
@@ -228,6 +282,12 @@ by_small_programs() {
         small ${name}_sheet <$smallest >"$work/out" 2>"$work/err"
         status=$?
         hold "the program $name" 0 host/expected/$name-smallest
+        for sheet in "${unstructured[@]}" $samples/refused-06-areas-under-h1.dat; do
+            "${run[@]}" $name "$sheet" >"$work/text" 2>"$work/err"
+            small ${name}_sheet <"$sheet" >"$work/out" 2>"$work/err"
+            status=$?
+            hold "the program $name on $sheet" 0 "$work/text"
+        done
         small ${name}_sheet <$smallest >/dev/full 2>"$work/err"
         told "the program $name on a full disk" "$name: standard output: not everything could be written: No space left on device"
         small ${name}_sheet <samples >"$work/out" 2>"$work/err"

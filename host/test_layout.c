@@ -1,4 +1,4 @@
-/* Tries layout.c alone: the fields of each kind follow one another from column 1 to the line end. */
+/* Tries layout.c alone: the fields of each kind follow one another from column 1 to the line end, the letters first where a kind has them. */
 #include "layout.h"
 
 static int failed;
@@ -26,6 +26,9 @@ int main(void)
                 if (field_at(kind, c) != field) {
                     wrong(kind, c, "another field is told");
                 }
+            }
+            if ((field->what == LETTERS) != (i == 0 && kind != COORDINATES && kind != LOOP)) {
+                wrong(kind, column, "letters where none are, or none where they are");
             }
             if (field->what == LINE_END && numbers_before(kind, field) != numbers_of[kind]) {
                 wrong(kind, column, "the numbers are not counted");

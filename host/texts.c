@@ -43,6 +43,8 @@ typedef struct {
 #define LOOP_SLOTS 10, 65, 5
 #define EACH_X 1, 61, 10
 #define EACH_Y 6, 66, 10
+#define BOTH_CODES 30, 40, 10
+#define BOTH_AREAS 35, 45, 10
 
 /* Texts that several fields share. */
 #define DUE_H "An H is due here: M's layers (column 29) say how many."
@@ -72,7 +74,7 @@ typedef struct {
 
 static const Hint hints[] = {
     {3, MESH, ONE(1), "An M is due here: a mesh begins. Its letters are \"M \", a capital M and a space."},
-    {3, LAYER, ONE(1), DUE_H " Its letters are \"H2\", with a capital H."},
+    {3, LAYER, ONE(1), DUE_H " Its letters are \"H1\" or \"H2\", with a capital H."},
     {3, NODE, ONE(1), DUE_N " Its letters are \"N \", a capital N and a space."},
     {3, LINE, ONE(1), DUE_L " Its letters are \"L \", a capital L and a space."},
     {3, AREA, ONE(1), DUE_A " Its letters are \"A \", a capital A and a space."},
@@ -212,17 +214,36 @@ static const Hint hints[] = {
     {18, LINE, ONE(45), "A loop of the right area holds the entry +n, where n is the line's serial (column 7)."},
 };
 
+/* Under an H1 (RULES 5.10) these go before the others. */
+#define WITHOUT_AREAS "The layer is unstructured: its H has the letters H1, and whatever tells of areas is 0 there."
+
+static const Hint unstructured_hints[] = {
+    {6, LAYER, ONE(15), WITHOUT_AREAS " H's areas are 0, and no A follows. A layer that has areas has the letters H2."},
+    {6, LINE, BOTH_CODES, WITHOUT_AREAS " Both codes of an L (columns 30 and 40) are 0; not even 88888 stands there."},
+    {6, LINE, BOTH_AREAS, WITHOUT_AREAS " Both area numbers of an L (columns 35 and 45) are 0."},
+};
+
 static int starts_at(const Hint *hint, uint32_t column)
 {
     return column >= hint->first && column <= hint->last && (column - hint->first) % hint->step == 0;
 }
 
-const char *refusal_hint(uint32_t number, uint32_t kind, uint32_t column)
+/* The first of `count` that is for the place, or NULL. */
+static const char *sought(const Hint *list, size_t count, uint32_t number, uint32_t kind, uint32_t column)
 {
-    for (size_t i = 0; i < sizeof hints / sizeof *hints; i++) {
-        if (hints[i].number == number && hints[i].kind == kind && starts_at(&hints[i], column)) {
-            return hints[i].text;
+    for (size_t i = 0; i < count; i++) {
+        if (list[i].number == number && list[i].kind == kind && starts_at(&list[i], column)) {
+            return list[i].text;
         }
     }
     return NULL;
+}
+
+const char *refusal_hint(uint32_t number, uint32_t kind, uint32_t column, uint32_t letters)
+{
+    const char *first = NULL;
+    if (letters == UNSTRUCTURED) {
+        first = sought(unstructured_hints, sizeof unstructured_hints / sizeof *unstructured_hints, number, kind, column);
+    }
+    return first != NULL ? first : sought(hints, sizeof hints / sizeof *hints, number, kind, column);
 }

@@ -31,6 +31,17 @@ static Bearer own(const Input *file, uint32_t record, uint32_t kind)
     return (Bearer){.kind = kind, .record = reading.number == 0 ? record : 0, .value = reading.value};
 }
 
+/* Read off the bytes: where a field of the H is ill formed, the library gives no value of it. */
+static uint32_t letters_of(const Input *file, uint32_t record)
+{
+    size_t length = 0;
+    const uint8_t *h = record == 0 ? NULL : record_bytes(file, record, &length);
+    if (length < 2 || h[0] != 'H') {
+        return 0;
+    }
+    return h[1] == '1' ? UNSTRUCTURED : h[1] == '2' ? STRUCTURED : 0;
+}
+
 Whereabouts whereabouts(const Input *file, uint32_t record, uint32_t due)
 {
     Whereabouts w = {.mesh = {.kind = MESH}, .layer = {.kind = LAYER}, .item = {.kind = item_kind(due)}};
@@ -43,9 +54,11 @@ Whereabouts whereabouts(const Input *file, uint32_t record, uint32_t due)
     w.mesh = bearer(file, before, 0, MESH);
     if (due == LAYER) {
         w.layer = own(file, record, LAYER);
+        w.letters = letters_of(file, record);
         return w;
     }
     w.layer = bearer(file, before, w.mesh.record, LAYER);
+    w.letters = letters_of(file, w.layer.record);
     w.item = bearer(file, before, w.layer.record, item_kind(due));
     w.serial = w.item.record == 0 ? 0 : serial_of(&w.item);
     if (due == item_kind(due)) {

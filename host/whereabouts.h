@@ -15,6 +15,7 @@ typedef struct {
 typedef struct {
     Bearer mesh;  /* the M, or the record itself where it is one and can be read */
     Bearer layer; /* the H, likewise */
+    uint32_t letters; /* of the H, also where what stands behind them cannot be read; 0: there is none, or they are wrong */
     Bearer item;  /* the N, L or A, where the record is behind it or is it itself */
     int32_t serial; /* of the node, line or area; where its record is refused itself, the number that is due; 0: of none */
 } Whereabouts;

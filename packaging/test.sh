@@ -398,6 +398,7 @@ by_page_example() {
             continue
         fi
         same "$name: a sheet" 200000000 "$(run "$work/prog" <$smallest)"
+        same "$name: a sheet without areas" "" "$(run "$work/prog" <samples/unstructured.dat)"
         same "$name: a refused one" "refused: 16 at 7,1" "$(run "$work/prog" <samples/refused-16-loop-walked-backwards.dat)"
         same "$name: no sheet" "too long, or cannot be read" "$(head -c 74001 /dev/zero | run "$work/prog")"
     done < <(sed -n '/^cc .*prog\.c/s/\\-/-/gp' "$1")

@@ -40,7 +40,13 @@ class Place(ctypes.Structure):
 
 
 class Record(ctypes.Structure):
-    _fields_ = [("kind", c_uint32), ("numbers", c_int32 * NUMBERS), ("name", c_uint8 * NAME_BYTES), ("marks", c_uint32 * MARKS)]
+    _fields_ = [
+        ("kind", c_uint32),
+        ("numbers", c_int32 * NUMBERS),
+        ("name", c_uint8 * NAME_BYTES),
+        ("marks", c_uint32 * MARKS),
+        ("letters", c_uint32),
+    ]
 
 
 class Reading(ctypes.Structure):

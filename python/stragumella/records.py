@@ -43,7 +43,7 @@ def fits_32_bits(number: int) -> bool:
     return -(2**31) <= number < 2**31
 
 
-def _is_mark(number: int) -> bool:
+def _fits_unsigned(number: int) -> bool:
     """Whether C's uint32_t holds it."""
     return 0 <= number < 2**32
 
@@ -61,20 +61,22 @@ def text_of(name: bytes) -> Optional[str]:
 
 @dataclass(frozen=True)
 class Record:
-    """A record's value: its kind, its numbers in column order, its name bytes (M and A have a name) and the marks of its codes.
+    """A record's value: its kind, its numbers in column order, its name bytes (M and A have a name), the marks of its codes and the letters of an H.
 
     `record["left_area"]` is a number by its field's name; the names are those of `stragumella record`. A mark is 1 where a code is spelled
-    " 0000", land in layer 5: an L has two, of its left and right code, an A one. Marks that are left out are 0.
+    " 0000", land in layer 5: an L has two, of its left and right code, an A one. Marks that are left out are 0. The letters of an H are 1 for
+    H1, an unstructured layer, and 2 for H2, a structured one; every other kind has 0.
     """
 
     kind: Kind
     numbers: tuple[int, ...]
     name: bytes = b""
     marks: tuple[int, ...] = ()
+    letters: int = 0
 
     @classmethod
     def read(cls, kind: int, data: Buffer) -> Record:
-        """Reads 74 bytes as a record of that kind. Only the form of the fields is judged: refused with 1, 2, 3, 5 or 7."""
+        """Reads 74 bytes as a record of that kind. Only the form of the fields is judged: refused with 1, 2, 3 or 5."""
         known = kind if kind in _NUMBERS else 0  # 0 is none of the kinds, as every other number, and fits C's
         lent = as_bytes(data)
         reading = _library.read_record(known, lent, len(lent))
@@ -83,15 +85,15 @@ class Record:
         value = reading.value
         found = Kind(value.kind)
         numbers = tuple(value.numbers[: len(_NUMBERS[found])])
-        return cls(found, numbers, bytes(value.name)[: _NAME_BYTES[found]], tuple(value.marks[: len(_CODES[found])]))
+        return cls(found, numbers, bytes(value.name)[: _NAME_BYTES[found]], tuple(value.marks[: len(_CODES[found])]), value.letters)
 
     def write(self) -> bytes:
-        """The record's 74 bytes. Refused with 20 where a number, the name or a mark doesn't fit."""
+        """The record's 74 bytes. Refused with 20 where a number, the name, a mark or the letters don't fit."""
         if len(self.numbers) > _library.NUMBERS or len(self.name) > _library.NAME_BYTES or len(self.marks) > _library.MARKS:
             raise Refused(_DOES_NOT_FIT)
-        if self.kind not in _NUMBERS or not all(map(fits_32_bits, self.numbers)) or not all(map(_is_mark, self.marks)):
+        if self.kind not in _NUMBERS or not all(map(fits_32_bits, self.numbers)) or not all(map(_fits_unsigned, (*self.marks, self.letters))):
             raise Refused(_DOES_NOT_FIT)
-        value = _library.Record(kind=self.kind)
+        value = _library.Record(kind=self.kind, letters=self.letters)
         value.numbers[: len(self.numbers)] = self.numbers
         value.name[: len(self.name)] = list(self.name)
         value.marks[: len(self.marks)] = self.marks
@@ -121,8 +123,10 @@ class Record:
         """The name as text (CP932), or None where it has none."""
         return text_of(self.name)
 
-    def replace(self, name: Optional[bytes] = None, marks: Optional[tuple[int, ...]] = None, **fields: int) -> Record:
-        """The same record with another name, other marks, or other numbers in these fields."""
+    def replace(
+        self, name: Optional[bytes] = None, marks: Optional[tuple[int, ...]] = None, letters: Optional[int] = None, **fields: int
+    ) -> Record:
+        """The same record with another name, other marks, other letters, or other numbers in these fields."""
         numbers = {**self.fields, **fields}
         if len(numbers) > len(self.numbers):
             raise KeyError(f"{self.kind.name} has no field {list(numbers)[-1]}")
@@ -131,4 +135,5 @@ class Record:
             numbers=tuple(numbers.values()),
             name=self.name if name is None else name,
             marks=self.marks if marks is None else marks,
+            letters=self.letters if letters is None else letters,
         )

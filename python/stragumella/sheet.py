@@ -1,7 +1,8 @@
 """Sheets: judged, and then gone through by mesh, layer, node, line and area.
 
 An accepted sheet keeps every rule, so nothing is checked here a second time. Serials count from 1, and number n of a layer's nodes, lines
-or areas stands at [n - 1]; `layer.area(n)` takes the serial itself. Area 0 is nobody: `line.left` is None there.
+or areas stands at [n - 1]; `layer.area(n)` takes the serial itself. Area 0 is nobody: `line.left` is None there. An unstructured layer (H1) has
+nodes and lines and no areas.
 """
 
 from __future__ import annotations
@@ -22,6 +23,7 @@ if TYPE_CHECKING:
     from numpy.typing import NDArray
 
 _NOT_PERMITTED = 6
+_STRUCTURED = 2
 _POINTS_A_RECORD = 7
 _ENTRIES_A_RECORD = 12
 
@@ -40,7 +42,7 @@ class Outcome(NamedTuple):
 class Sums(NamedTuple):
     """The two sums of a layer, doubled areas: of its areas' measures, and along the lines between an area and the outside.
 
-    They are equal in every layer of an accepted sheet: no ground is lost.
+    They are equal in every layer of an accepted sheet: no ground is lost. An unstructured layer has no areas, and both are 0.
     """
 
     areas: int
@@ -104,7 +106,8 @@ class Node:
 class Line:
     """A line, from its start node to its end node, with an area or nobody on either side.
 
-    An area number 0 is nobody, the outside of the sheet, and has code 88888 beside it. A code 0 in layer 5 is land.
+    An area number 0 is nobody, the outside of the sheet, and has code 88888 beside it. A code 0 in layer 5 is land. In an unstructured layer
+    (`layer.structured` is False) a line says nothing of its sides: both codes and both area numbers are 0, and left and right are None.
     """
 
     layer: Layer = field(repr=False)
@@ -145,12 +148,12 @@ class Line:
 
     @property
     def left(self) -> Optional[Area]:
-        """The area on the left, or None: nobody."""
+        """The area on the left, or None: nobody, and in an unstructured layer always."""
         return self.layer.area(self.left_area) if self.left_area else None
 
     @property
     def right(self) -> Optional[Area]:
-        """The area on the right, or None: nobody."""
+        """The area on the right, or None: nobody, and in an unstructured layer always."""
         return self.layer.area(self.right_area) if self.right_area else None
 
     def array(self) -> NDArray[numpy.int64]:
@@ -264,6 +267,7 @@ class Layer:
 
     number        from 1 through the whole sheet
     record        its H
+    letters       of its H: 1 for H1, an unstructured layer, which has nodes and lines and no areas; 2 for H2, a structured one
     first_made    and last_changed: year times 100 plus month; 0 is missing
     measures      of its areas, in order
     """
@@ -272,6 +276,7 @@ class Layer:
     number: int
     record: int
     code: int
+    letters: int
     first_made: int
     last_changed: int
     measures: memoryview
@@ -285,6 +290,7 @@ class Layer:
         self.number = number
         self.record = row.header
         self.code = h["layer"]
+        self.letters = row.letters
         self.first_made = h["first_made"]
         self.last_changed = h["last_changed"]
         self.measures = row.measures
@@ -295,6 +301,11 @@ class Layer:
 
     def __repr__(self) -> str:
         return f"<Layer {self.code} of mesh {self.mesh.code}>"
+
+    @property
+    def structured(self) -> bool:
+        """Whether it has areas and its lines tell what lies beside them (H2); an unstructured layer (H1) has lines alone."""
+        return self.letters == _STRUCTURED
 
     @property
     def sums(self) -> Sums:
@@ -404,12 +415,13 @@ class _Row(NamedTuple):
     nodes: int
     lines: int
     areas: int
+    letters: int
     line_records: memoryview
     area_records: memoryview
     measures: memoryview
 
 
-_ROW_WORDS = 4
+_ROW_WORDS = 5
 
 
 def _rows(table: memoryview, measures: memoryview, outcome: Outcome) -> tuple[_Row, ...]:
@@ -419,9 +431,9 @@ def _rows(table: memoryview, measures: memoryview, outcome: Outcome) -> tuple[_R
     area = line + outcome.lines
     measure = 0
     for at in range(0, _ROW_WORDS * outcome.layers, _ROW_WORDS):
-        header, nodes, lines, areas = table[at : at + _ROW_WORDS]
+        header, nodes, lines, areas, letters = table[at : at + _ROW_WORDS]
         parts = table[line : line + lines], table[area : area + areas], measures[measure : measure + areas]
-        rows.append(_Row(header, nodes, lines, areas, *parts))
+        rows.append(_Row(header, nodes, lines, areas, letters, *parts))
         line, area, measure = line + lines, area + areas, measure + areas
     return tuple(rows)
 

@@ -55,7 +55,7 @@ def framed(n):
     counts = (n + 1, n + 1, 2, 0)
     head = [
         Record(Kind.MESH, (533945, 1, *counts, len(layer) + 2), NAME * 10),
-        Record(Kind.LAYER, (1, *counts, len(layer) + 1, 0, 0)),
+        Record(Kind.LAYER, (1, *counts, len(layer) + 1, 0, 0), letters=2),
     ]
     return b"".join(record.write() for record in head + layer)
 

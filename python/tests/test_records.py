@@ -3,11 +3,12 @@
 import pickle
 import unittest
 
-from outside import LAND, SMALLEST, told
+from outside import LAND, SMALLEST, UNSTRUCTURED, told
 from stragumella import Kind, Position, Record, Refused, Sheet, position
 from stragumella._facts import FIELDS, REFUSALS
 
 S = SMALLEST.read_bytes()
+LAYER = S[74 : 2 * 74]
 LINE = S[3 * 74 : 4 * 74]
 
 
@@ -24,6 +25,7 @@ class Records(unittest.TestCase):
             (object_,) = told("record", k, SMALLEST)
             fields = {key: value for key, value in object_["fields"].items() if not key.startswith("name")}
             record = sheet.record(k)
+            self.assertEqual(record.letters, fields.pop("letters", 0))
             self.assertEqual(record.fields, fields)
             self.assertEqual(record.name.hex().upper(), object_["fields"].get("name", ""))
 
@@ -94,6 +96,33 @@ class Records(unittest.TestCase):
             line.mark("left_area")
         (object_,) = told("record", 4, LAND)
         self.assertEqual(object_["fields"]["right_code_mark"], 1)
+
+    def test_letters(self):
+        """1 for H1 and 2 for H2 in an H, 0 in every other kind."""
+        for letters in (1, 2):
+            bytes_ = b"H%d" % letters + LAYER[2:]
+            record = Record.read(Kind.LAYER, bytes_)
+            self.assertEqual((record.letters, record.write()), (letters, bytes_))
+            self.assertEqual(record.replace(nodes=3).letters, letters)
+            self.assertEqual(record.replace(letters=3 - letters).write()[:2], b"H%d" % (3 - letters))
+            self.assertEqual(Record(Kind.LAYER, record.numbers, letters=letters), record)
+        (object_,) = told("record", 2, UNSTRUCTURED)
+        self.assertEqual((object_["fields"]["letters"], Sheet.open(UNSTRUCTURED).record(2).letters), (1, 1))
+        for letters in (b"H3", b"H0", b"H ", b"h1", b"1H"):
+            self.refused(3, 1, 1, Record.read, Kind.LAYER, letters + LAYER[2:])
+        record = Record.read(Kind.LAYER, LAYER)
+        for number in (0, 3, -1, 257, 2**32, 2**32 + 1, 2**32 + 2, -(2**32) + 2, 2**70):
+            self.refused(20, 0, 0, record.replace(letters=number).write)
+        self.refused(20, 0, 0, Record(Kind.LAYER, record.numbers).write)
+        with self.assertRaises(TypeError):
+            record.replace(letters=1.5).write()
+        with self.assertRaises(KeyError):
+            record["letters"]
+        for k in (1, 3, 4, 5, 6, 7):
+            other = Sheet(S).record(k)
+            self.assertEqual((other.letters, len(other.write())), (0, 74))
+            for number in (1, 2, -1, 2**32):
+                self.refused(20, 0, 0, other.replace(letters=number).write)
 
     def test_kinds_are_the_lists(self):
         self.assertEqual([kind.name for kind in Kind], list(FIELDS))

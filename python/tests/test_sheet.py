@@ -7,10 +7,10 @@ import unittest
 from pathlib import Path
 
 from made import HOLE, framed
-from outside import COASTS, LAND, REFUSED, SMALLEST, told, with_bytes
+from outside import COASTS, LAND, MIXED, REFUSED, SMALLEST, UNSTRUCTURED, told, with_bytes
 from stragumella import Kind, Outcome, Refused, Sheet, Sums
 
-TAKEN = [SMALLEST, *COASTS, LAND]
+TAKEN = [SMALLEST, *COASTS, LAND, UNSTRUCTURED, MIXED]
 
 
 def doubled(points):
@@ -35,7 +35,7 @@ class Smallest(unittest.TestCase):
 
     def test_judge(self):
         self.assertEqual(self.sheet.judge(), Outcome(1, 1, 1, 1, 1, 7))
-        self.assertEqual(self.sheet.need, 6)
+        self.assertEqual(self.sheet.need, 7)
         self.assertEqual(self.sheet.record_count, 7)
         self.assertEqual(list(self.sheet.measures), [200000000])
         self.assertEqual(self.sheet.sums, (Sums(200000000, 200000000),))
@@ -45,6 +45,7 @@ class Smallest(unittest.TestCase):
         (layer,) = mesh
         self.assertEqual((mesh.code, mesh.record, mesh.name, mesh.name_text), (533945, 1, b"\x81\x40" * 10, "\u3000" * 10))
         self.assertEqual((layer.code, layer.record, layer.number, layer.first_made, layer.last_changed), (1, 2, 1, 0, 0))
+        self.assertEqual((layer.letters, layer.structured), (2, True))
         self.assertIs(self.sheet.mesh(533945).layer(1), layer)
         self.assertEqual(layer.sums, Sums(200000000, 200000000))
 
@@ -94,8 +95,66 @@ class Smallest(unittest.TestCase):
         self.assertEqual((len(areas), areas[-1], areas[:5], list(areas)), (1, areas[0], (areas[0],), [areas[0]]))
 
 
+class Unstructured(unittest.TestCase):
+    """Layers with the letters H1: nodes and lines, no areas."""
+
+    def test_alone(self):
+        """S as an unstructured layer (RULES 11.4)."""
+        sheet = Sheet.open(UNSTRUCTURED)
+        self.assertEqual((sheet.judge(), sheet.need), (Outcome(1, 1, 1, 1, 0, 5), 6))
+        (layer,) = sheet.layers
+        self.assertEqual((layer.letters, layer.structured, layer.sums), (1, False, Sums(0, 0)))
+        self.assertEqual((len(layer.nodes), len(layer.lines), len(layer.areas), list(layer.measures)), (1, 1, 0, []))
+        (line,) = layer.lines
+        self.assertEqual((line.left_code, line.left_area, line.right_code, line.right_area), (0, 0, 0, 0))
+        self.assertEqual((line.left, line.right), (None, None))
+        self.assertEqual(line.points, Sheet.open(SMALLEST).layers[0].lines[0].points)
+        for serial in (0, 1):
+            with self.assertRaises(LookupError):
+                layer.area(serial)
+
+    def test_beside_structured_ones(self):
+        """Each layer is that of the sheet that it was made of, with its areas or without."""
+        sheet, whole = Sheet.open(MIXED), Sheet.open(COASTS[0])
+        self.assertEqual([[layer.letters for layer in mesh] for mesh in sheet], [[1, 2], [2, 1], [1, 1], [2, 2], [1]])
+        for layer in sheet.layers:
+            same = whole.mesh(layer.mesh.code).layer(layer.code)
+            self.assertEqual(layer.structured, layer.letters == 2)
+            self.assertEqual([(n.serial, n.x, n.y, n.entries) for n in layer.nodes], [(n.serial, n.x, n.y, n.entries) for n in same.nodes])
+            self.assertEqual([line.points for line in layer.lines], [line.points for line in same.lines])
+            for line, other in zip(layer.lines, same.lines):
+                sides = (other.left_code, other.left_area, other.right_code, other.right_area)
+                found = (line.left_code, line.left_area, line.right_code, line.right_area)
+                self.assertEqual(found, sides if layer.structured else (0, 0, 0, 0))
+            areas = [(area.code, area.measure, area.name) for area in same.areas]
+            self.assertEqual([(area.code, area.measure, area.name) for area in layer.areas], areas if layer.structured else [])
+            self.assertEqual(layer.sums, same.sums if layer.structured else Sums(0, 0))
+
+    def test_changed_in_one_place(self):
+        """RULES 11.4."""
+        data = UNSTRUCTURED.read_bytes()
+        for record, column, text, wanted in (
+            (2, 1, b"H2", (6, 4, 30)),
+            (2, 1, b"H3", (3, 2, 1)),
+            (2, 15, b"    1", (6, 2, 15)),
+            (4, 30, b"88888", (6, 4, 30)),
+            (4, 35, b"    1", (6, 4, 35)),
+            (4, 40, b"13101", (6, 4, 40)),
+            (4, 45, b"    1", (6, 4, 45)),
+            (3, 24, b" 1    1    0", (14, 4, 24)),
+            (1, 42, b"    1", (10, 1, 42)),
+        ):
+            self.assertEqual(answer(with_bytes(data, record, column, text)), wanted)
+        layer_5 = data
+        for record, column, text in ((2, 3, b" 5"), (3, 3, b" 5 1"), (4, 3, b" 5"), (4, 30, b" 0000")):
+            layer_5 = with_bytes(layer_5, record, column, text)
+        self.assertEqual(answer(layer_5), (0, 0, 0))
+        self.assertEqual(Sheet(layer_5).record(4).marks, (1, 0))
+        self.assertEqual(answer(with_bytes(SMALLEST.read_bytes(), 2, 1, b"H1")), (6, 2, 15))
+
+
 class Samples(unittest.TestCase):
-    """Both coast sheets and S, against the tool and against themselves."""
+    """All accepted samples, against the tool and against themselves."""
 
     def test_counts(self):
         for path, object_ in zip(TAKEN, told("check", *TAKEN)):
