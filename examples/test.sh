@@ -10,7 +10,7 @@ trap 'rm -rf "$work"' EXIT
 smallest=samples/smallest.dat
 refused=samples/refused-16-loop-walked-backwards.dat
 coasts=(samples/kasumigaura-5440.dat samples/kyushu-4830.dat)
-unstructured=(samples/unstructured.dat samples/kasumigaura-5440-h1.dat)
+unstructured=(samples/unstructured.dat samples/kasumigaura-5440-h1.dat samples/kyushu-4830-h1.dat)
 export PYTHONPATH=$PWD/target/python
 
 # ---- C

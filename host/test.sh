@@ -14,7 +14,7 @@ trap 'rm -rf "$work"' EXIT
 machine=$(uname -m)
 samples=samples
 smallest=$samples/smallest.dat
-unstructured=("$samples/unstructured.dat" "$samples/kasumigaura-5440-h1.dat")
+unstructured=("$samples/unstructured.dat" "$samples/kasumigaura-5440-h1.dat" "$samples/kyushu-4830-h1.dat")
 made=target/host/made
 most=473595264
 version=$(make -s version)

@@ -48,7 +48,7 @@ with_text() {
 
 # ---- unstructured layers
 
-# samples/unstructured.py makes these two of others.
+# samples/unstructured.py makes these of others.
 by_made_samples() {
     local sheet
     for sheet in "${unstructured[@]}"; do
