@@ -5,7 +5,7 @@ use crate::due::{dues, told};
 use crate::fields::{CODE, LAND};
 use crate::generate::{assert_accepted, from_seed, long_loops, sheet, sheet_of};
 use crate::judge::{verdict, Verdict};
-use crate::layout::{codes, layout, Kind, Sort, KINDS, LAYER, RECORD, STRUCTURED, UNSTRUCTURED};
+use crate::layout::{codes, layout, Field, Kind, Sort, KINDS, LAYER, RECORD, STRUCTURED, UNSTRUCTURED};
 use crate::piped::Pipe;
 use crate::product::{Answer, Buffers, Call, Product, RawValue, Second, Told};
 use crate::random::Random;
@@ -536,8 +536,8 @@ fn land_among_layers(compare: &mut Compare) -> Agreed {
     Ok(())
 }
 
-/// Part 1 also: sheet S as an unstructured layer, 1 and 5, and every one-byte change of its letters and of what tells of areas;
-/// and letters in a sheet of several layers.
+/// Part 1 also: sheet S as an unstructured layer, 1 and 5, with every one-byte change of its letters and of what tells of areas,
+/// and with each two of its line's codes and area numbers changed; and letters in a sheet of several layers.
 pub fn unstructured_changes(compare: &mut Compare) -> Agreed {
     for sheet in [lines_s(), land_lines_s()] {
         let records = sheet.records();
@@ -549,9 +549,27 @@ pub fn unstructured_changes(compare: &mut Compare) -> Agreed {
             for column in letters.chain(fields.flat_map(|field| field.start..=field.end)) {
                 changed_byte(compare, &file, k * RECORD + column - 1)?;
             }
+            two_changed(compare, &records, k)?;
         }
     }
     letters_among_layers(compare)
+}
+
+/// Each two numbers of a record that tell of areas set at once.
+fn two_changed(compare: &mut Compare, records: &Records, index: usize) -> Agreed {
+    let kind = records[index].0;
+    let fields: Vec<Field> = told_areas(kind).iter().map(|index| layout(kind).numbers[*index]).collect();
+    for (place, one) in fields.iter().enumerate() {
+        for two in &fields[..place] {
+            for (text, other) in TOLD.into_iter().flat_map(|text| TOLD.map(|other| (text, other))) {
+                let mut changed = records.clone();
+                set(&mut changed[index].1, one, text);
+                set(&mut changed[index].1, two, other);
+                compare.file(&joined(&changed))?;
+            }
+        }
+    }
+    Ok(())
 }
 
 /// Letters of every sort.
