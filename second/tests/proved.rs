@@ -637,7 +637,7 @@ fn marks_that_do_not_fit() {
     }
 }
 
-/// Both ways, with letters: an H has 1 or 2, the other kinds and a refused reading have none. The areas of an H1 aren't judged here.
+/// Both ways, with letters: an H has 1 or 2, the other kinds and a refused reading have none. Areas of an H1 aren't judged here.
 #[test]
 fn letters_are_read_and_written() {
     for (sheet, letters) in [(sheet_s(), STRUCTURED), (lines_s(), UNSTRUCTURED), (land_lines_s(), UNSTRUCTURED)] {
