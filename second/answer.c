@@ -241,6 +241,7 @@ static void put_record(const stragumella_record *value)
     put(value->numbers, sizeof value->numbers);
     put(value->name, sizeof value->name);
     put(value->marks, sizeof value->marks);
+    put_word(value->letters);
 }
 
 static void read_record(void)
@@ -259,6 +260,7 @@ static void write_record(void)
     take(value.numbers, sizeof value.numbers);
     take(value.name, sizeof value.name);
     take(value.marks, sizeof value.marks);
+    value.letters = take_word();
     take_lent(&bytes, 1);
     put_word(stragumella_write_record(value, bytes.place, bytes.lent));
     put_lent(&bytes, 1);

@@ -1,6 +1,7 @@
 //! The files that are measured, made in memory. All are accepted.
 
 use second::generate::{layer, Shape};
+use second::layout::STRUCTURED;
 use second::random::Random;
 use second::sheet::{two_byte_spaces, Area, End, Layer, Line, Mesh, Node, Sheet, Side, OUTSIDE};
 
@@ -88,7 +89,7 @@ fn mesh(random: &mut Random, side: usize, shuffled: bool) -> Mesh {
         points: 30,
         shuffled,
     };
-    let layers = [1, 5].map(|code| layer(random, code, &shape).expect("the lines fit")).to_vec();
+    let layers = [1, 5].map(|code| layer(random, code, STRUCTURED, &shape).expect("the lines fit")).to_vec();
     Mesh { code: 0, name: two_byte_spaces(), layers }
 }
 
@@ -120,6 +121,7 @@ fn worst_layer(code: i32) -> Layer {
     let loops = vec![(1..=MOST_LINES).collect()];
     Layer {
         code,
+        letters: STRUCTURED,
         first_made: 0,
         last_changed: 0,
         nodes: nodes.collect(),

@@ -18,7 +18,7 @@ use second::sums::Sums;
 use stages::Later;
 use walk::{early, Judge, Layer, Mesh};
 
-/// The words that the table needs: the sum of 4 + lines + areas over the layers. 0 if stage 1 or 2 refuses.
+/// The words that the table needs: the sum of 5 + lines + areas over the layers. 0 if stage 1 or 2 refuses.
 pub fn need(file: &[u8]) -> u64 {
     let mut need = Need(0);
     match early(file, &mut need) {
@@ -89,7 +89,7 @@ struct Need(u64);
 
 impl Judge for Need {
     fn layer(&mut self, layer: &Layer) {
-        self.0 += 4 + layer.lines.len() as u64 + layer.areas.len() as u64;
+        self.0 += 5 + layer.lines.len() as u64 + layer.areas.len() as u64;
     }
 
     fn mesh(&mut self, _: &Mesh) {}
@@ -141,7 +141,7 @@ impl Judge for Full {
         self.counts.nodes += nodes;
         self.counts.lines += lines;
         self.counts.areas += areas;
-        self.rows.extend([layer.record, nodes, lines, areas]);
+        self.rows.extend([layer.record, nodes, lines, areas, layer.letters]);
         self.lines.extend(layer.lines.iter().map(|line| line.record));
         self.areas.extend(layer.areas.iter().map(|area| area.record));
         let first = self.later.measures.len();

@@ -1,16 +1,16 @@
 //! The comparison: every answer of the other program against our own.
 
-use crate::damage::{astray, counted, damaged, interesting, set, steering, ZEROS};
+use crate::damage::{astray, counted, damaged, interesting, set, steering, told_areas, TOLD, ZEROS};
 use crate::due::{dues, told};
 use crate::fields::{CODE, LAND};
 use crate::generate::{assert_accepted, from_seed, long_loops, sheet, sheet_of};
 use crate::judge::{verdict, Verdict};
-use crate::layout::{codes, layout, Kind, Sort, KINDS, LAYER, RECORD};
+use crate::layout::{codes, layout, Field, Kind, Sort, KINDS, LAYER, RECORD, STRUCTURED, UNSTRUCTURED};
 use crate::piped::Pipe;
 use crate::product::{Answer, Buffers, Call, Product, RawValue, Second, Told};
 use crate::random::Random;
-use crate::records::{read, Refusal};
-use crate::sheet::{joined, land_s, sheet_s, Records, Sheet};
+use crate::records::{held, letters, read, Refusal};
+use crate::sheet::{joined, land_lines_s, land_s, lines_s, sheet_s, Layer, Mesh, Records, Sheet};
 use crate::sums::{answer, answer_for_all};
 use crate::walk::record;
 use std::fmt::Debug;
@@ -34,11 +34,20 @@ pub type Reached = [[u64; 49]; 6];
 
 /// The numbers that an answer can have.
 pub fn numbers() -> impl Iterator<Item = usize> {
-    (0..=22).chain([48])
+    (0..=22).filter(|number| *number != NEVER).chain([48])
 }
+
+/// The number that is no answer any more.
+pub const NEVER: usize = 7;
 
 /// What can become of land that is spelled " 0000".
 pub const LAND_BECAME: [&str; 5] = ["in an accepted file", "refused as a code", "refused elsewhere", "read", "written back"];
+
+/// What can become of an unstructured layer that has lines.
+pub const LINES_BECAME: [&str; 12] = [
+    "in an accepted file", "alone in one", "before a structured layer in a mesh", "behind one", "with land as \" 0000\"",
+    "refused at H 15", "at L 30", "at L 35", "at L 40", "at L 45", "read", "written back",
+];
 
 /// Due is asked of every record of a file of so many records or less, where it is not asked of some alone.
 const SHORT: u32 = 50;
@@ -54,6 +63,8 @@ pub struct Compare<'a> {
     pub due: [u64; 8],
     /// How often each of these became of land that is spelled " 0000".
     pub land: [u64; 5],
+    /// How often each of these became of an unstructured layer.
+    pub lines: [u64; 12],
     /// Of so many comparisons side by side this is the one of that number, from 0.
     share: (u64, u64),
     /// How many files, values and positions there were, for all shares.
@@ -122,6 +133,7 @@ impl<'a> Compare<'a> {
             reached: [[0; 49]; 6],
             due: [0; 8],
             land: [0; 5],
+            lines: [0; 12],
             share,
             turns: 0,
             sparing: None,
@@ -190,6 +202,9 @@ impl<'a> Compare<'a> {
         self.files += 1;
         if let Some(became) = land_became(file, verdict) {
             self.land[became] += 1;
+        }
+        for became in lines_became(file, verdict) {
+            self.lines[became] += 1;
         }
         if let Some(path) = &self.before {
             std::fs::write(path, file).expect("the file can be written");
@@ -319,9 +334,12 @@ impl<'a> Compare<'a> {
         match told {
             Told::Reading(refusal, value) if refusal == Refusal::default() => {
                 let marked = u64::from(value.marks.contains(&1));
+                let unstructured = u64::from(value.letters == UNSTRUCTURED);
                 self.land[3] += marked;
+                self.lines[10] += unstructured;
                 self.value(value, RECORD)?;
                 self.land[4] += marked;
+                self.lines[11] += unstructured;
                 Ok(())
             }
             _ => Ok(()),
@@ -365,6 +383,58 @@ fn land_became(file: &[u8], verdict: &Verdict) -> Option<usize> {
 
 fn has_land(kind: Kind, bytes: &[u8]) -> bool {
     codes(kind).iter().any(|index| *layout(kind).numbers[*index].of(bytes) == LAND)
+}
+
+/// What becomes of the unstructured layers of a file, by its places in LINES_BECAME: they stand in an accepted file, or the
+/// file is refused for what one of them tells of areas.
+fn lines_became(file: &[u8], verdict: &Verdict) -> Vec<usize> {
+    let Refusal { number, record: k, column } = verdict.outcome(usize::MAX, usize::MAX).refusal;
+    match number {
+        0 => accepted_lines(file, verdict),
+        6 if letters_over(file, &verdict.kinds, k as usize) == UNSTRUCTURED => {
+            let kind = verdict.kinds[k as usize - 1];
+            let fields = told_areas(kind).iter().map(|index| layout(kind).numbers[*index]).enumerate();
+            let tells = |number: Option<(i32, u32)>| number.is_some_and(|(number, _)| number > 0);
+            let telling = fields.filter(|(_, field)| tells(held(field, record(file, k as usize))));
+            let refused = telling.filter(|(_, field)| field.start == column as usize);
+            refused.map(|(place, _)| place + if kind == Kind::H { 5 } else { 6 }).collect()
+        }
+        _ => Vec::new(),
+    }
+}
+
+/// The same of an accepted file.
+fn accepted_lines(file: &[u8], verdict: &Verdict) -> Vec<usize> {
+    let kinds = &verdict.kinds;
+    let rows: Vec<&[u32]> = verdict.table.chunks(5).take(verdict.layers).collect();
+    let with_lines = |row: &[u32], letters: u32| row[2] > 0 && row[4] == letters;
+    let is_unstructured = |row: &&[u32]| with_lines(row, UNSTRUCTURED);
+    let in_a_mesh = |letters: [u32; 2]| {
+        let one_mesh = |pair: &&[&[u32]]| kinds[pair[1][0] as usize - 2] != Kind::M;
+        rows.windows(2).filter(one_mesh).any(|pair| (0..2).all(|index| with_lines(pair[index], letters[index])))
+    };
+    let mut over = 0;
+    let land_under = |(kind, k): (&Kind, usize)| {
+        if *kind == Kind::H {
+            over = letters(Kind::H, record(file, k)).unwrap_or(0);
+        }
+        over == UNSTRUCTURED && has_land(*kind, record(file, k))
+    };
+    let became = [
+        rows.iter().any(is_unstructured),
+        rows.iter().all(is_unstructured),
+        in_a_mesh([UNSTRUCTURED, STRUCTURED]),
+        in_a_mesh([STRUCTURED, UNSTRUCTURED]),
+        kinds.iter().zip(1..).any(land_under),
+    ];
+    (0..became.len()).filter(|place| became[*place]).collect()
+}
+
+/// The letters of the layer in which record k stands, by the kinds of the records up to it, or 0.
+pub fn letters_over(file: &[u8], kinds: &[Kind], k: usize) -> u32 {
+    let over = (1..=k).rev().find(|k| matches!(kinds[k - 1], Kind::M | Kind::H));
+    let head = over.filter(|k| kinds[k - 1] == Kind::H);
+    head.and_then(|k| letters(Kind::H, record(file, k))).unwrap_or(0)
 }
 
 /// The table, where it stands after a call.
@@ -466,11 +536,87 @@ fn land_among_layers(compare: &mut Compare) -> Agreed {
     Ok(())
 }
 
-/// Part 2: every field of every kind set to each interesting value, in sheet S, in its like of layer 5 and in generated sheets.
-/// Every second sheet has loops over several records.
+/// Part 1 also: sheet S as an unstructured layer, 1 and 5, with every one-byte change of its letters and of what tells of areas,
+/// and with each two of its line's codes and area numbers changed; and letters in a sheet of several layers.
+pub fn unstructured_changes(compare: &mut Compare) -> Agreed {
+    for sheet in [lines_s(), land_lines_s()] {
+        let records = sheet.records();
+        let file = joined(&records);
+        compare.file(&file)?;
+        for (k, (kind, _)) in records.iter().enumerate() {
+            let letters = 1..=if *kind == Kind::H { 2 } else { 0 };
+            let fields = told_areas(*kind).iter().map(|index| layout(*kind).numbers[*index]);
+            for column in letters.chain(fields.flat_map(|field| field.start..=field.end)) {
+                changed_byte(compare, &file, k * RECORD + column - 1)?;
+            }
+            two_changed(compare, &records, k)?;
+        }
+    }
+    letters_among_layers(compare)
+}
+
+/// Each two numbers of a record that tell of areas set at once.
+fn two_changed(compare: &mut Compare, records: &Records, index: usize) -> Agreed {
+    let kind = records[index].0;
+    let fields: Vec<Field> = told_areas(kind).iter().map(|index| layout(kind).numbers[*index]).collect();
+    for (place, one) in fields.iter().enumerate() {
+        for two in &fields[..place] {
+            for (text, other) in TOLD.into_iter().flat_map(|text| TOLD.map(|other| (text, other))) {
+                let mut changed = records.clone();
+                set(&mut changed[index].1, one, text);
+                set(&mut changed[index].1, two, other);
+                compare.file(&joined(&changed))?;
+            }
+        }
+    }
+    Ok(())
+}
+
+/// Letters of every sort.
+const LETTERS: [&[u8; 2]; 12] =
+    [b"H1", b"H2", b"H3", b"H0", b"H ", b"h1", b"h2", b" 1", b"1H", b"HH", b"M1", b"L1"];
+
+/// A sheet whose layers are structured or not in every order, in four meshes, with each record's letters and each number that
+/// tells of areas changed; then each mesh by itself, and meshes in which a layer code stands twice or does not rise.
+fn letters_among_layers(compare: &mut Compare) -> Agreed {
+    let layer = |sheet: Sheet| sheet.meshes[0].layers[0].clone();
+    let layers = [[layer(lines_s()), layer(sheet_s())], [layer(land_lines_s()), layer(land_s())]];
+    let mesh = |code: i32, layers: Vec<Layer>| Mesh { code, layers, ..sheet_s().meshes.remove(0) };
+    let orders: [(usize, usize); 4] = std::array::from_fn(|order| (order / 2, order % 2));
+    let of_both = |(one, two): (usize, usize)| vec![layers[0][one].clone(), layers[1][two].clone()];
+    let sheet = Sheet { meshes: (533_940..).zip(orders).map(|(code, order)| mesh(code, of_both(order))).collect() };
+    assert_accepted(&sheet);
+    let records = sheet.records();
+    for (index, (kind, _)) in records.iter().enumerate() {
+        for letters in LETTERS {
+            let mut changed = records.clone();
+            changed[index].1[..2].copy_from_slice(letters);
+            compare.file(&joined(&changed))?;
+        }
+        for field in told_areas(*kind).iter().map(|index| layout(*kind).numbers[*index]) {
+            for text in TOLD {
+                let mut changed = records.clone();
+                set(&mut changed[index].1, &field, text);
+                compare.file(&joined(&changed))?;
+            }
+        }
+    }
+    for (one, two) in orders {
+        let of_one = |code: usize| vec![layers[code][one].clone(), layers[code][two].clone()];
+        let falling = vec![layers[1][one].clone(), layers[0][two].clone()];
+        for layers in [of_both((one, two)), of_one(0), of_one(1), falling] {
+            compare.file(&Sheet { meshes: vec![mesh(533_945, layers)] }.bytes())?;
+        }
+    }
+    Ok(())
+}
+
+/// Part 2: every field of every kind set to each interesting value, in sheet S, in its like of layer 5, in both as unstructured
+/// layers, and in generated sheets. Every second of these has loops over several records.
 pub fn every_field(compare: &mut Compare, seeds: std::ops::Range<u64>) -> Agreed {
-    every_field_of(compare, &sheet_s(), &mut Random::new(0))?;
-    every_field_of(compare, &land_s(), &mut Random::new(0))?;
+    for sheet in [sheet_s(), land_s(), lines_s(), land_lines_s()] {
+        every_field_of(compare, &sheet, &mut Random::new(0))?;
+    }
     for seed in seeds {
         let random = &mut Random::new(seed);
         let sheet = short_sheet(random, seed % 2 == 0);
@@ -596,6 +742,41 @@ fn every_mark(compare: &mut Compare, value: RawValue) -> Agreed {
     Ok(())
 }
 
+/// Part 2 also: letters. Each kind read with letters of every sort, and an H with every letter in one of its two places; then each
+/// kind's value with letters of every sort.
+pub fn every_letter(compare: &mut Compare) -> Agreed {
+    for (kind, bytes) in sheet_s().records() {
+        for letters in LETTERS {
+            letters_read(compare, kind, bytes, letters)?;
+        }
+        for letter in 0..=255 {
+            for letters in [[b'H', letter], [letter, b'1'], [letter, b'2']] {
+                letters_read(compare, Kind::H, bytes, &letters)?;
+            }
+        }
+    }
+    for (kind, bytes) in [sheet_s(), lines_s(), land_lines_s()].iter().flat_map(Sheet::records) {
+        let value = read(kind, &bytes).expect("a record of a sheet is good").into();
+        for letters in (0..=4).chain([49, 50, 255, 256, 257, 258, 0x1_0001, 0x1_0002, 0x8000_0001, 0x8000_0002, u32::MAX]) {
+            for length in [RECORD, RECORD - 1, RECORD + 6] {
+                if compare.turn() {
+                    compare.value(RawValue { letters, ..value }, length)?;
+                }
+            }
+        }
+    }
+    Ok(())
+}
+
+/// A record with these letters, read and written back, if it is this one's turn.
+fn letters_read(compare: &mut Compare, kind: Kind, mut bytes: [u8; RECORD], letters: &[u8; 2]) -> Agreed {
+    bytes[..2].copy_from_slice(letters);
+    if !compare.turn() {
+        return Ok(());
+    }
+    compare.record(kind, &bytes)
+}
+
 /// Part 3: generated sheets, each as it is and with several seeded damages, `count` damaged files in all.
 pub fn damages(compare: &mut Compare, seed: u64, count: usize) -> Agreed {
     let mut left = count;
@@ -635,6 +816,9 @@ pub fn odd_values(compare: &mut Compare, seed: u64, count: usize) -> Agreed {
         }
         if random.percent(20) {
             value.marks[random.below(2)] = *random.pick(&[0, 1, 1, 1, 2, u32::MAX]);
+        }
+        if random.percent(30) {
+            value.letters = *random.pick(&[0, 0, 1, 1, 2, 2, 3, u32::MAX]);
         }
         let length = *random.pick(&[74, 74, 74, 75, 80, 148, 73, 1, 0]);
         let cut = *random.pick(&[0, 1, 73, 74, 75]);

@@ -2,9 +2,9 @@
 
 use crate::due::dues;
 use crate::fields::{number, spelled, CODE, LAND};
-use crate::layout::{a, codes, h, l, layout, lp, m, Field, Kind, Sort, RECORD};
+use crate::layout::{a, codes, h, l, layout, lp, m, Field, Kind, Sort, RECORD, STRUCTURED, UNSTRUCTURED};
 use crate::random::Random;
-use crate::sheet::{joined, sheet_s, Area, Layer, Line, Node, Records, Sheet, Side, OUTSIDE};
+use crate::sheet::{joined, sheet_s, Area, Layer, Line, Node, Records, Sheet, Side, NOTHING, OUTSIDE};
 
 /// A sheet with one to four damages.
 pub fn damaged(random: &mut Random, sheet: &Sheet) -> Vec<u8> {
@@ -37,13 +37,18 @@ fn damage_sheet(random: &mut Random, sheet: &mut Sheet) {
     let layers = &mut sheet.meshes[mesh].layers;
     let chosen = random.below(layers.len());
     let layer = &mut layers[chosen];
+    if random.percent(5) {
+        return damage_letters(random, layer);
+    }
     if layer.lines.is_empty() || layer.nodes.is_empty() {
         return;
     }
-    match random.below(10) {
-        0 | 1 => damage_node(random, layer),
-        2..=4 => damage_line(random, layer),
-        5..=8 => damage_area(random, layer),
+    match (random.below(10), layer.letters) {
+        (0 | 1, _) => damage_node(random, layer),
+        (2..=4, _) => damage_line(random, layer),
+        (5..=8, STRUCTURED) => damage_area(random, layer),
+        (5 | 6, _) => damage_node(random, layer),
+        (7 | 8, _) => tell_of_areas(random, layer),
         _ => damage_list(random, layer),
     }
 }
@@ -65,7 +70,8 @@ fn damage_order(random: &mut Random, sheet: &mut Sheet) {
             sheet.meshes[one].code = code.min(999_999);
         }
         4 => {
-            let again = sheet.meshes[one].layers[0].clone();
+            let mut again = sheet.meshes[one].layers[0].clone();
+            again.letters = *random.pick(&[UNSTRUCTURED, STRUCTURED]);
             sheet.meshes[one].layers.push(again);
         }
         5 if count > 1 => {
@@ -78,6 +84,35 @@ fn damage_order(random: &mut Random, sheet: &mut Sheet) {
             let layer = &mut sheet.meshes[one].layers[0];
             layer.code = *random.pick(&[1, 5, 0, 2]);
         }
+    }
+}
+
+/// The other letters, what goes with them, or both. With all of it the layer is right again.
+fn damage_letters(random: &mut Random, layer: &mut Layer) {
+    let goes = random.below(4);
+    let (letters, side) =
+        if layer.letters == STRUCTURED { (UNSTRUCTURED, NOTHING) } else { (STRUCTURED, OUTSIDE) };
+    if goes != 1 {
+        layer.letters = letters;
+    }
+    if goes > 1 {
+        layer.areas.clear();
+    }
+    if goes % 2 == 1 {
+        layer.lines.iter_mut().for_each(|line| (line.left, line.right) = (side, side));
+    }
+}
+
+/// An unstructured layer tells of an area: in a code or an area number of a line, or with an area of its own.
+fn tell_of_areas(random: &mut Random, layer: &mut Layer) {
+    let index = random.below(layer.lines.len());
+    let Line { left, right, .. } = &mut layer.lines[index];
+    let side = if random.percent(50) { left } else { right };
+    match random.below(10) {
+        0..=3 => side.code = *random.pick(&[88888, 88888, 1, 13101, 99999, -1]),
+        4..=7 => side.area = *random.pick(&[1, 1, 2, 9999, 88888, -1]),
+        8 => *side = OUTSIDE,
+        _ => layer.areas.push(sheet_s().meshes[0].layers[0].areas[0].clone()),
     }
 }
 
@@ -319,6 +354,7 @@ fn damage_records(random: &mut Random, records: &mut Records) {
         7 | 8 => wrong_total(random, records),
         9 => records[one].1[random.below(72)] = *random.pick(b"0123456789- /:\0\x81\x40ANMLH"),
         10 | 11 => spell_zero(random, records),
+        12 => change_told_areas(random, records),
         _ => change_field(random, records),
     }
 }
@@ -336,13 +372,37 @@ fn any_record(random: &mut Random, records: &Records) -> usize {
 
 fn change_letters(random: &mut Random, records: &mut Records) {
     let headers: Vec<usize> = (0..records.len()).filter(|index| records[*index].0 == Kind::H).collect();
-    if !headers.is_empty() && random.percent(30) {
-        records[*random.pick(&headers)].1[1] = b'1';
+    if !headers.is_empty() && random.percent(40) {
+        records[*random.pick(&headers)].1[1] = *random.pick(b"112230 ");
         return;
     }
     let index = any_record(random, records);
-    let letters: [u8; 2] = **random.pick(&[b"H1", b"H2", b"M ", b"N ", b"L ", b"A ", b"H ", b"m ", b" M", b"HH"]);
-    records[index].1[..2].copy_from_slice(&letters);
+    let letters = [b"H1", b"H1", b"H2", b"H3", b"M ", b"N ", b"L ", b"A ", b"H ", b"h1", b"m ", b" M", b"HH"];
+    records[index].1[..2].copy_from_slice(*random.pick(&letters));
+}
+
+/// The numbers of a kind that are 0 under an H1, for they tell of areas.
+pub fn told_areas(kind: Kind) -> &'static [usize] {
+    match kind {
+        Kind::H => &[h::AREAS],
+        Kind::L => &[l::LEFT_CODE, l::LEFT_AREA, l::RIGHT_CODE, l::RIGHT_AREA],
+        _ => &[],
+    }
+}
+
+/// What else can stand there.
+pub const TOLD: [&[u8; CODE]; 10] =
+    [b"    0", b"    1", b"    2", b"   -1", b"13101", b"88888", b"99999", &LAND, b"00000", b"     "];
+
+/// A number that tells of areas, in layers of both sorts.
+fn change_told_areas(random: &mut Random, records: &mut Records) {
+    let telling: Vec<usize> = (0..records.len()).filter(|index| !told_areas(records[*index].0).is_empty()).collect();
+    if telling.is_empty() {
+        return;
+    }
+    let (kind, bytes) = &mut records[*random.pick(&telling)];
+    let field = layout(*kind).numbers[*random.pick(told_areas(*kind))];
+    set(bytes, &field, *random.pick(&TOLD));
 }
 
 /// The two spellings of land, and what comes near them.

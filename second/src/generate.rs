@@ -4,10 +4,14 @@
 //! grow together. Smaller grids lie inside cells as islands and lakes. Petals (closed lines) and spurs (lines with one
 //! area on both sides) hang on grid corners. Lines are chains of borders, areas are what the lines enclose, loops are
 //! found by walking along the lines with the area on the right.
+//!
+//! An unstructured layer is such a map without its areas, and trees of borders stay in it; or its lines run anywhere.
 
 use crate::judge::verdict;
+use crate::layout::{STRUCTURED, UNSTRUCTURED};
 use crate::random::Random;
-use crate::sheet::{on_frame, sheet_s, two_byte_spaces, Area, End, Layer, Line, Mesh, Node, Sheet, Side, OUTSIDE};
+use crate::sheet::{on_frame, sheet_s, two_byte_spaces, Area, End, Layer, Line, Mesh, Node, Sheet, Side};
+use crate::sheet::{NOTHING, OUTSIDE};
 use std::collections::BTreeMap;
 
 type Point = (i32, i32);
@@ -305,7 +309,6 @@ fn draw_map(random: &mut Random, shape: &Shape) -> Map {
     draw_grid(&mut map, random, shape, &xs, &ys, 0);
     thin_nodes(&mut map);
     grow_cells(&mut map);
-    drop_loose_trees(&mut map);
     map
 }
 
@@ -515,25 +518,74 @@ fn measure(chains: &[Chain], entries: &[Half]) -> i64 {
     entries.iter().map(one).sum()
 }
 
-/// A random layer of this shape, or None if it would not fit the totals.
-pub fn layer(random: &mut Random, code: i32, shape: &Shape) -> Option<Layer> {
-    let map = draw_map(random, shape);
-    let mut chains = chains(&map, random, shape.cut);
+/// A random layer of this shape with these letters, or None if it would not fit the totals.
+pub fn layer(random: &mut Random, code: i32, letters: u32, shape: &Shape) -> Option<Layer> {
+    let mut map = draw_map(random, shape);
+    if letters == STRUCTURED {
+        drop_loose_trees(&mut map);
+    }
+    let chains = chains(&map, random, shape.cut);
+    layer_of(random, code, letters, &map, chains, shape.shuffled)
+}
+
+/// A random unstructured layer whose lines run anywhere: they may cross, lie on one another, turn back or stand still.
+/// Size is about the number of lines.
+pub fn scribble(random: &mut Random, code: i32, size: usize) -> Option<Layer> {
+    let mut map = Map::default();
+    for _ in 0..1 + random.below(2 * size) {
+        let place = anywhere(random);
+        map.corner(place);
+    }
+    // Each corner starts a line, so it has an entry. It has nine at most.
+    let mut degree = vec![0; map.corners.len()];
+    let mut chains = Vec::new();
+    for start in 0..map.corners.len() {
+        let end = random.below(map.corners.len());
+        let end = if degree[end] < 7 { end } else { start };
+        let mut points = vec![map.corners[start]];
+        points.extend((0..*random.pick(&[0, 0, 1, 5, 6, 20])).map(|_| anywhere(random)));
+        points.push(map.corners[end]);
+        degree[start] += 1;
+        degree[end] += 1;
+        let on_frame = random.percent(20);
+        chains.push(Chain { ends: [start, end], turns: [0; 2], points, left: 0, right: 0, on_frame });
+    }
+    layer_of(random, code, UNSTRUCTURED, &map, chains, true)
+}
+
+/// A point anywhere, often on the frame or on the middle lines.
+fn anywhere(random: &mut Random) -> Point {
+    let mut coordinate = || if random.percent(30) { *random.pick(&[0, 5000, 10_000]) } else { random.within(0, 10_000) };
+    (coordinate(), coordinate())
+}
+
+/// The layer of these chains. It has areas if it is structured.
+fn layer_of(
+    random: &mut Random,
+    code: i32,
+    letters: u32,
+    map: &Map,
+    mut chains: Vec<Chain>,
+    shuffled: bool,
+) -> Option<Layer> {
     for chain in &mut chains {
         if random.percent(50) {
             reverse(chain);
         }
     }
-    if shape.shuffled {
+    if shuffled {
         random.shuffle(&mut chains);
     }
-    let loops = loops_of(&chains);
+    let (loops, outside) = match letters {
+        STRUCTURED => (loops_of(&chains), OUTSIDE),
+        _ => (BTreeMap::new(), NOTHING),
+    };
     let mut faces: Vec<usize> = loops.keys().copied().collect();
-    if shape.shuffled {
+    if shuffled {
         random.shuffle(&mut faces);
     }
     let mut areas = Vec::new();
-    let mut sides = BTreeMap::from([(0, OUTSIDE)]);
+    let mut sides = BTreeMap::new();
     for (index, face) in faces.iter().enumerate() {
         let area = area(random, code, map.middles[*face], &chains, &loops[face]);
         sides.insert(*face, Side { code: area.code, zeros: false, area: index as i32 + 1 });
@@ -541,7 +593,7 @@ pub fn layer(random: &mut Random, code: i32, shape: &Shape) -> Option<Layer> {
     }
     let around = halves_around(&chains);
     let mut corners: Vec<usize> = around.keys().copied().collect();
-    if shape.shuffled {
+    if shuffled {
         random.shuffle(&mut corners);
     }
     let mut serials = BTreeMap::new();
@@ -550,12 +602,13 @@ pub fn layer(random: &mut Random, code: i32, shape: &Shape) -> Option<Layer> {
         serials.insert(*corner, index as i32 + 1);
         nodes.push(node(random, code, map.corners[*corner], &around[corner]));
     }
+    let side = |face: usize| sides.get(&face).copied().unwrap_or(outside);
     let lines: Vec<Line> =
-        chains.into_iter().map(|chain| line(random, code, chain, &map, &serials, &sides)).collect();
+        chains.into_iter().map(|chain| line(random, code, chain, map, &serials, side)).collect();
     let entries = |area: &Area| area.loops.iter().map(Vec::len).sum::<usize>();
     let fits = lines.len() <= 9999 && areas.iter().all(|area| entries(area) <= 9999);
     let (first_made, last_changed) = (date(random), date(random));
-    fits.then_some(Layer { code, first_made, last_changed, nodes, lines, areas })
+    fits.then_some(Layer { code, letters, first_made, last_changed, nodes, lines, areas })
 }
 
 fn reverse(chain: &mut Chain) {
@@ -631,7 +684,7 @@ fn line(
     chain: Chain,
     map: &Map,
     serials: &BTreeMap<usize, i32>,
-    sides: &BTreeMap<usize, Side>,
+    side: impl Fn(usize) -> Side,
 ) -> Line {
     let item = match (chain.on_frame, layer) {
         (true, _) => 9,
@@ -643,7 +696,7 @@ fn line(
         node: serials[&corner],
         link: if on_frame(map.corners[corner]) { random.within(1, 2) } else { 0 },
     });
-    Line { item, kind, ends, left: sides[&chain.left], right: sides[&chain.right], points: chain.points }
+    Line { item, kind, ends, left: side(chain.left), right: side(chain.right), points: chain.points }
 }
 
 // From layers to sheets.
@@ -659,21 +712,33 @@ fn spell_land(random: &mut Random, mut layer: Layer) -> Layer {
 }
 
 /// A layer without nodes, lines and areas.
-fn empty_layer(random: &mut Random, code: i32) -> Layer {
+fn empty_layer(random: &mut Random, code: i32, letters: u32) -> Layer {
     let (first_made, last_changed) = (date(random), date(random));
-    Layer { code, first_made, last_changed, nodes: vec![], lines: vec![], areas: vec![] }
+    Layer { code, letters, first_made, last_changed, nodes: vec![], lines: vec![], areas: vec![] }
 }
 
-fn any_layer(random: &mut Random, code: i32, size: usize) -> Layer {
+/// A layer that is unstructured so many times in a hundred.
+fn any_layer(random: &mut Random, code: i32, unstructured: usize, size: usize) -> Layer {
+    let letters = if random.percent(unstructured) { UNSTRUCTURED } else { STRUCTURED };
     if random.percent(5) {
-        return empty_layer(random, code);
+        return empty_layer(random, code, letters);
     }
     loop {
-        let shape = Shape::random(random, size);
-        if let Some(layer) = layer(random, code, &shape) {
+        let drawn = if letters == UNSTRUCTURED && random.percent(30) {
+            scribble(random, code, 2 * size)
+        } else {
+            let shape = Shape::random(random, size);
+            layer(random, code, letters, &shape)
+        };
+        if let Some(layer) = drawn {
             return spell_land(random, layer);
         }
     }
+}
+
+/// How many times in a hundred a layer of a sheet is unstructured.
+fn unstructured_times(random: &mut Random) -> usize {
+    *random.pick(&[0, 0, 0, 20, 50, 100])
 }
 
 /// The codes of so many meshes: rising, with the same first four digits.
@@ -686,16 +751,17 @@ fn mesh_codes(random: &mut Random, count: usize) -> Vec<i32> {
     lasts.into_iter().map(|last| first + last).collect()
 }
 
-fn mesh(random: &mut Random, code: i32, size: usize) -> Mesh {
+fn mesh(random: &mut Random, code: i32, unstructured: usize, size: usize) -> Mesh {
     let codes: &[i32] = *random.pick(&[&[1][..], &[5], &[1, 5]]);
-    let layers = codes.iter().map(|code| any_layer(random, *code, size)).collect();
+    let layers = codes.iter().map(|code| any_layer(random, *code, unstructured, size)).collect();
     Mesh { code, name: name(random), layers }
 }
 
 /// A random sheet. Size is about the number of cells in a layer.
 pub fn sheet(random: &mut Random, meshes: usize, size: usize) -> Sheet {
     let codes = mesh_codes(random, meshes);
-    Sheet { meshes: codes.into_iter().map(|code| mesh(random, code, size)).collect() }
+    let unstructured = unstructured_times(random);
+    Sheet { meshes: codes.into_iter().map(|code| mesh(random, code, unstructured, size)).collect() }
 }
 
 /// A mesh has at most so many records, since its total has five columns.
@@ -707,21 +773,22 @@ pub fn sheet_of(random: &mut Random, records: usize) -> Sheet {
     let most = (records / 7).clamp(least, 64);
     let meshes = (least + random.below(3)).min(most);
     let codes = mesh_codes(random, meshes);
+    let unstructured = unstructured_times(random);
     let mut left = records;
     let mut sheet = Sheet { meshes: Vec::new() };
     for (index, code) in codes.into_iter().enumerate() {
         let share = left / (meshes - index);
-        sheet.meshes.push(mesh_of(random, code, share));
+        sheet.meshes.push(mesh_of(random, code, unstructured, share));
         left -= share;
     }
     sheet
 }
 
 /// A mesh of exactly so many records, at least 2.
-fn mesh_of(random: &mut Random, code: i32, records: usize) -> Mesh {
+fn mesh_of(random: &mut Random, code: i32, unstructured: usize, records: usize) -> Mesh {
     for _ in 0..20 {
         let size = (1 + random.below(records)).min(2000);
-        let mut mesh = mesh(random, code, size);
+        let mut mesh = mesh(random, code, unstructured, size);
         if fill(random, &mut mesh, records) {
             return mesh;
         }
@@ -730,7 +797,7 @@ fn mesh_of(random: &mut Random, code: i32, records: usize) -> Mesh {
     if fill(random, &mut mesh, records) {
         return mesh;
     }
-    let mut layers = vec![empty_layer(random, 1), empty_layer(random, 5)];
+    let mut layers = vec![empty_layer(random, 1, STRUCTURED), empty_layer(random, 5, UNSTRUCTURED)];
     layers.truncate(records - 1);
     Mesh { code, name: name(random), layers }
 }
@@ -767,7 +834,8 @@ pub fn long_lines(random: &mut Random) -> Sheet {
         shuffled: true,
     };
     let code = mesh_codes(random, 1)[0];
-    let layers = vec![layer(random, 1, &shape).expect("few lines fit")];
+    let letters = *random.pick(&[UNSTRUCTURED, STRUCTURED]);
+    let layers = vec![layer(random, 1, letters, &shape).expect("few lines fit")];
     Sheet { meshes: vec![Mesh { code, name: name(random), layers }] }
 }
 
@@ -787,7 +855,7 @@ pub fn long_loops(random: &mut Random) -> Sheet {
     };
     let code = mesh_codes(random, 1)[0];
     let layer_code = *random.pick(&[1, 5]);
-    let layer = layer(random, layer_code, &shape).expect("few lines fit");
+    let layer = layer(random, layer_code, STRUCTURED, &shape).expect("few lines fit");
     let layers = vec![spell_land(random, layer)];
     Sheet { meshes: vec![Mesh { code, name: name(random), layers }] }
 }

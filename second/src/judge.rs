@@ -133,7 +133,9 @@ fn counts(found: &Found) -> Counts {
 /// One row a layer, then every line's L record, then every area's A record.
 fn table(found: &Found) -> Vec<u32> {
     let row = |layer: &Layer| {
-        [layer.record, layer.nodes.len() as u32, layer.lines.len() as u32, layer.areas.len() as u32]
+        let counts = [layer.nodes.len(), layer.lines.len(), layer.areas.len()];
+        let [nodes, lines, areas] = counts.map(|count| count as u32);
+        [layer.record, nodes, lines, areas, layer.letters]
     };
     let rows = found.layers().flat_map(row);
     let lines = found.layers().flat_map(|layer| layer.lines.iter().map(|line| line.record));

@@ -49,9 +49,26 @@ impl Field {
     }
 }
 
+/// The letters of an H's value: H1 heads an unstructured layer, H2 a structured one.
+pub const UNSTRUCTURED: u32 = 1;
+pub const STRUCTURED: u32 = 2;
+
+/// What a record of a kind begins with, by the letters of its value. A kind without letters begins with nothing.
+/// None if the kind's value has no such letters.
+pub fn letters_spelled(kind: Kind, letters: u32) -> Option<&'static [u8]> {
+    match (kind, letters) {
+        (Kind::M, 0) => Some(b"M "),
+        (Kind::H, UNSTRUCTURED) => Some(b"H1"),
+        (Kind::H, STRUCTURED) => Some(b"H2"),
+        (Kind::N, 0) => Some(b"N "),
+        (Kind::L, 0) => Some(b"L "),
+        (Kind::A, 0) => Some(b"A "),
+        (Kind::Coordinates | Kind::Loop, 0) => Some(b""),
+        _ => None,
+    }
+}
+
 pub struct Layout {
-    /// Two letters in columns 1 and 2, if the kind has them.
-    pub letters: Option<[u8; 2]>,
     /// All fields in column order.
     pub fields: Vec<Field>,
     /// The number fields in column order, codes among them.
@@ -74,24 +91,23 @@ pub fn layout(kind: Kind) -> &'static Layout {
 }
 
 fn made(kind: Kind) -> Layout {
-    let (letters, name, numbers) = named(kind);
+    let (name, numbers) = named(kind);
     let number = |(start, end): &(usize, usize)| Field { sort: Sort::Number, start: *start, end: *end };
     let mut numbers: Vec<Field> = numbers.iter().map(number).collect();
     codes(kind).iter().for_each(|index| numbers[*index].sort = Sort::Code);
     let name = name.map(|(start, end)| Field { sort: Sort::Name, start, end });
     let mut fields = numbers.clone();
     fields.extend(name);
-    fields.extend(blanks(letters.is_some(), &fields));
+    fields.extend(blanks(&fields));
     fields.sort_by_key(|field| field.start);
-    Layout { letters, fields, numbers, name }
+    Layout { fields, numbers, name }
 }
 
-/// Each run of columns up to 72 that is not named is one blank field.
-fn blanks(letters: bool, named: &[Field]) -> Vec<Field> {
-    let is_named =
-        |column: usize| letters && column <= 2 || named.iter().any(|f| f.start <= column && column <= f.end);
+/// Each run of columns up to 72 that is not named is one blank field. Columns 1 and 2 hold letters or part of a number.
+fn blanks(named: &[Field]) -> Vec<Field> {
+    let is_named = |column: usize| named.iter().any(|f| f.start <= column && column <= f.end);
     let mut found: Vec<Field> = Vec::new();
-    for column in (1..=72).filter(|column| !is_named(*column)) {
+    for column in (3..=72).filter(|column| !is_named(*column)) {
         match found.last_mut() {
             Some(last) if last.end + 1 == column => last.end = column,
             _ => found.push(Field { sort: Sort::Blank, start: column, end: column }),
@@ -102,39 +118,24 @@ fn blanks(letters: bool, named: &[Field]) -> Vec<Field> {
 
 type Columns = (usize, usize);
 
-/// Letters, name columns and number columns, as the tables of RULES 4 have them.
-fn named(kind: Kind) -> (Option<[u8; 2]>, Option<Columns>, Vec<Columns>) {
+/// Name columns and number columns, as the tables of RULES 4 have them.
+fn named(kind: Kind) -> (Option<Columns>, Vec<Columns>) {
     match kind {
-        Kind::M => (
-            Some(*b"M "),
-            Some((9, 28)),
-            vec![(3, 8), (29, 31), (32, 36), (37, 41), (42, 46), (47, 51), (52, 56)],
-        ),
-        Kind::H => (
-            Some(*b"H2"),
-            None,
-            vec![(3, 4), (5, 9), (10, 14), (15, 19), (20, 24), (25, 29), (31, 34), (36, 39)],
-        ),
-        Kind::N => (
-            Some(*b"N "),
-            None,
-            with_slots(vec![(3, 4), (5, 6), (7, 11), (12, 16), (17, 21), (22, 23), (24, 25)], 26, 9),
-        ),
+        Kind::M => (Some((9, 28)), vec![(3, 8), (29, 31), (32, 36), (37, 41), (42, 46), (47, 51), (52, 56)]),
+        Kind::H => (None, vec![(3, 4), (5, 9), (10, 14), (15, 19), (20, 24), (25, 29), (31, 34), (36, 39)]),
+        Kind::N => {
+            (None, with_slots(vec![(3, 4), (5, 6), (7, 11), (12, 16), (17, 21), (22, 23), (24, 25)], 26, 9))
+        }
         Kind::L => (
-            Some(*b"L "),
             None,
             vec![
                 (3, 4), (5, 6), (7, 11), (12, 17), (18, 22), (23, 23), (24, 28), (29, 29), (30, 34),
                 (35, 39), (40, 44), (45, 49), (50, 55), (56, 57), (58, 60),
             ],
         ),
-        Kind::Coordinates => (None, None, with_slots(vec![], 1, 14)),
-        Kind::A => (
-            Some(*b"A "),
-            Some((33, 72)),
-            vec![(3, 4), (5, 9), (10, 14), (15, 19), (20, 24), (25, 28), (29, 32)],
-        ),
-        Kind::Loop => (None, None, with_slots(vec![(1, 5), (6, 9)], 10, 12)),
+        Kind::Coordinates => (None, with_slots(vec![], 1, 14)),
+        Kind::A => (Some((33, 72)), vec![(3, 4), (5, 9), (10, 14), (15, 19), (20, 24), (25, 28), (29, 32)]),
+        Kind::Loop => (None, with_slots(vec![(1, 5), (6, 9)], 10, 12)),
     }
 }
 

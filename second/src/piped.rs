@@ -160,6 +160,7 @@ fn put_call(request: &mut Vec<u8>, call: &Call) {
             value.numbers.iter().for_each(|number| request.extend(number.to_le_bytes()));
             request.extend(value.name);
             value.marks.iter().for_each(|mark| request.extend(mark.to_le_bytes()));
+            request.extend(value.letters.to_le_bytes());
             put_lent(request, *length, buffers.bytes.iter().map(|byte| [*byte]));
         }
     }
@@ -217,7 +218,8 @@ fn take_told(answers: &mut impl Read, call: &Call) -> io::Result<Told> {
         Call::Position { .. } => Told::Place(word(answers)?, long(answers)?, long(answers)?),
         Call::Read { .. } => {
             let refusal = refusal(answers)?;
-            let mut value = RawValue { kind: word(answers)?, numbers: [0; 16], name: [0; 40], marks: [0; 2] };
+            let mut value =
+                RawValue { kind: word(answers)?, numbers: [0; 16], name: [0; 40], marks: [0; 2], letters: 0 };
             for number in &mut value.numbers {
                 *number = word(answers)? as i32;
             }
@@ -225,6 +227,7 @@ fn take_told(answers: &mut impl Read, call: &Call) -> io::Result<Told> {
             for mark in &mut value.marks {
                 *mark = word(answers)?;
             }
+            value.letters = word(answers)?;
             Told::Reading(refusal, value)
         }
         Call::Write { .. } => Told::Number(word(answers)?),

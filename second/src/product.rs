@@ -15,11 +15,13 @@ pub struct RawValue {
     pub numbers: [i32; 16],
     pub name: [u8; 40],
     pub marks: [u32; 2],
+    pub letters: u32,
 }
 
 impl From<Value> for RawValue {
     fn from(value: Value) -> RawValue {
-        RawValue { kind: value.kind as u32, numbers: value.numbers, name: value.name, marks: value.marks }
+        let Value { kind, numbers, name, marks, letters } = value;
+        RawValue { kind: kind as u32, numbers, name, marks, letters }
     }
 }
 
@@ -198,7 +200,7 @@ impl Product for Second {
     }
 
     fn write_record(&self, value: RawValue, buffer: &mut [u8]) -> u32 {
-        let RawValue { kind: number, numbers, name, marks } = value;
-        records::write(&Value { kind: kind(number), numbers, name, marks }, buffer)
+        let RawValue { kind: number, numbers, name, marks, letters } = value;
+        records::write(&Value { kind: kind(number), numbers, name, marks, letters }, buffer)
     }
 }

@@ -41,6 +41,7 @@ struct CallRecord {
     numbers: [i32; 16],
     name: [u8; 40],
     marks: [u32; 2],
+    letters: u32,
 }
 
 #[repr(C)]
@@ -138,14 +139,14 @@ impl Product for Proved {
 
     fn read_record(&self, kind: u32, bytes: &[u8]) -> (Refusal, RawValue) {
         let told = unsafe { stragumella_read_record(kind, bytes.as_ptr(), bytes.len()) };
-        let CallRecord { kind, numbers, name, marks } = told.value;
+        let CallRecord { kind, numbers, name, marks, letters } = told.value;
         let refusal = Refusal { number: told.number, record: told.record, column: told.column };
-        (refusal, RawValue { kind, numbers, name, marks })
+        (refusal, RawValue { kind, numbers, name, marks, letters })
     }
 
     fn write_record(&self, value: RawValue, buffer: &mut [u8]) -> u32 {
-        let RawValue { kind, numbers, name, marks } = value;
-        let length = buffer.len();
-        unsafe { stragumella_write_record(CallRecord { kind, numbers, name, marks }, buffer.as_mut_ptr(), length) }
+        let RawValue { kind, numbers, name, marks, letters } = value;
+        let value = CallRecord { kind, numbers, name, marks, letters };
+        unsafe { stragumella_write_record(value, buffer.as_mut_ptr(), buffer.len()) }
     }
 }

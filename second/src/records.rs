@@ -1,7 +1,7 @@
 //! One record: read and written by its kind.
 
 use crate::fields::{code, code_spelled, is_blank, is_name, number, spelled};
-use crate::layout::{layout, Field, Kind, Sort, LAYER, RECORD};
+use crate::layout::{layout, letters_spelled, Field, Kind, Sort, LAYER, RECORD};
 
 /// A refusal and its place. Number 0 at 0, 0 is acceptance.
 #[derive(Clone, Copy, Debug, PartialEq, Eq, Default)]
@@ -43,11 +43,13 @@ pub struct Value {
     pub name: [u8; 40],
     /// The marks of the codes in column order.
     pub marks: [u32; 2],
+    /// The letters of an H: 1 for H1, 2 for H2.
+    pub letters: u32,
 }
 
 impl Value {
     pub fn empty(kind: Kind) -> Value {
-        Value { kind, numbers: [0; 16], name: [0; 40], marks: [0; 2] }
+        Value { kind, numbers: [0; 16], name: [0; 40], marks: [0; 2], letters: 0 }
     }
 }
 
@@ -60,16 +62,11 @@ pub fn wrong_line_end(record: &[u8]) -> Option<u32> {
     }
 }
 
-/// The refusal of the letters: 3, or 7 for H1 where an H is due.
-pub fn wrong_letters(kind: Kind, record: &[u8]) -> Option<u32> {
-    let letters = layout(kind).letters?;
-    if record[..2] == letters {
-        None
-    } else if kind == Kind::H && record[..2] == *b"H1" {
-        Some(7)
-    } else {
-        Some(3)
-    }
+/// The letters that a record of a kind has in its value, or None if it begins with other ones.
+/// We guess them and compare the spelling.
+pub fn letters(kind: Kind, record: &[u8]) -> Option<u32> {
+    let is_spelled = |letters: &u32| letters_spelled(kind, *letters).is_some_and(|spelling| record.starts_with(spelling));
+    (0..=2).find(is_spelled)
 }
 
 /// What a number field of a record holds, a code or another, and its mark, or None if the field is ill formed.
@@ -99,17 +96,17 @@ pub fn read(kind: Kind, bytes: &[u8]) -> Result<Value, Refusal> {
     if let Some(column) = wrong_line_end(bytes) {
         return refused(2, column);
     }
-    if let Some(number) = wrong_letters(kind, bytes) {
-        return refused(number, 1);
-    }
+    let Some(letters) = letters(kind, bytes) else {
+        return refused(3, 1);
+    };
     let ill_formed = layout(kind).fields.iter().filter(|field| !well_formed(field, bytes));
     if let Some(column) = ill_formed.map(|field| field.start).min() {
         return refused(5, column as u32);
     }
-    Ok(value_of(kind, bytes))
+    Ok(Value { letters, ..value_of(kind, bytes) })
 }
 
-/// The value of a well-formed record.
+/// The value of a well-formed record, without its letters.
 fn value_of(kind: Kind, record: &[u8]) -> Value {
     let mut value = Value::empty(kind);
     let mut marks = value.marks.iter_mut();
@@ -132,9 +129,8 @@ pub fn bytes_of(value: &Value) -> Option<[u8; RECORD]> {
     let mut record = [b' '; RECORD];
     record[72] = 0x0D;
     record[73] = 0x0A;
-    if let Some(letters) = layout.letters {
-        record[..2].copy_from_slice(&letters);
-    }
+    let letters = letters_spelled(value.kind, value.letters)?;
+    record[..letters.len()].copy_from_slice(letters);
     let mut marks = value.marks.into_iter();
     for (field, number) in layout.numbers.iter().zip(value.numbers) {
         let spelling = match field.sort {

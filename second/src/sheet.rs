@@ -1,6 +1,6 @@
 //! A sheet in memory, to be written as a file. Totals and serials are right unless the sheet is damaged later.
 
-use crate::layout::{Kind, RECORD};
+use crate::layout::{Kind, RECORD, STRUCTURED, UNSTRUCTURED};
 use crate::records::{bytes_of, Value};
 use crate::walk::loop_serial;
 
@@ -19,6 +19,8 @@ pub struct Mesh {
 #[derive(Clone, Debug)]
 pub struct Layer {
     pub code: i32,
+    /// 1 for H1, 2 for H2.
+    pub letters: u32,
     pub first_made: i32,
     pub last_changed: i32,
     pub nodes: Vec<Node>,
@@ -69,6 +71,9 @@ pub struct Area {
 
 /// Outside the frame.
 pub const OUTSIDE: Side = Side { code: 88888, zeros: false, area: 0 };
+
+/// What stands on both sides of a line in an unstructured layer.
+pub const NOTHING: Side = Side { code: 0, zeros: false, area: 0 };
 
 pub fn on_frame(place: (i32, i32)) -> bool {
     [0, 10_000].contains(&place.0) || [0, 10_000].contains(&place.1)
@@ -134,7 +139,7 @@ impl Layer {
             self.first_made,
             self.last_changed,
         ];
-        put(records, Kind::H, &numbers, &[]);
+        put_value(records, Value { letters: self.letters, ..Value::empty(Kind::H) }, &numbers, &[]);
         for (index, node) in self.nodes.iter().enumerate() {
             self.put_node(index as i32 + 1, node, records);
         }
@@ -179,7 +184,7 @@ impl Layer {
             0,
         ];
         let marks = [line.left, line.right].map(|side| self.mark(side.code, side.zeros));
-        put_marked(records, Kind::L, &numbers, &[], marks);
+        put_value(records, Value { marks, ..Value::empty(Kind::L) }, &numbers, &[]);
         for part in line.points.chunks(7) {
             let numbers: Vec<i32> = part.iter().flat_map(|(x, y)| [*x, *y]).collect();
             put(records, Kind::Coordinates, &numbers, &[]);
@@ -190,7 +195,8 @@ impl Layer {
         let lines: usize = area.loops.iter().map(Vec::len).sum();
         let (x, y) = area.place;
         let numbers = [self.code, area.code, serial, x, y, area.loops.len() as i32, lines as i32];
-        put_marked(records, Kind::A, &numbers, &area.name, [self.mark(area.code, area.zeros), 0]);
+        let marks = [self.mark(area.code, area.zeros), 0];
+        put_value(records, Value { marks, ..Value::empty(Kind::A) }, &numbers, &area.name);
         for (index, one) in area.loops.iter().enumerate() {
             for part in one.chunks(12) {
                 let mut numbers = vec![loop_serial(index as i32 + 1), one.len() as i32];
@@ -202,14 +208,14 @@ impl Layer {
 }
 
 fn put(records: &mut Records, kind: Kind, numbers: &[i32], name: &[u8]) {
-    put_marked(records, kind, numbers, name, [0; 2]);
+    put_value(records, Value::empty(kind), numbers, name);
 }
 
-fn put_marked(records: &mut Records, kind: Kind, numbers: &[i32], name: &[u8], marks: [u32; 2]) {
-    let mut value = Value { marks, ..Value::empty(kind) };
+/// A value that has its kind, marks and letters.
+fn put_value(records: &mut Records, mut value: Value, numbers: &[i32], name: &[u8]) {
     value.numbers[..numbers.len()].copy_from_slice(numbers);
     value.name[..name.len()].copy_from_slice(name);
-    records.push((kind, bytes_of(&value).expect("a value of a sheet fits")));
+    records.push((value.kind, bytes_of(&value).expect("a value of a sheet fits")));
 }
 
 /// Two-byte spaces, 81 40.
@@ -230,6 +236,7 @@ pub fn sheet_s() -> Sheet {
     let area = Area { code: 13101, zeros: false, place: (5000, 5000), loops: vec![vec![1]], name: two_byte_spaces() };
     let layer = Layer {
         code: 1,
+        letters: STRUCTURED,
         first_made: 0,
         last_changed: 0,
         nodes: vec![Node { item: 3, place: (0, 0), entries: vec![1, -1] }],
@@ -248,4 +255,29 @@ pub fn land_s() -> Sheet {
     layer.lines[0].right = Side { code: 0, zeros: true, area: 1 };
     layer.areas[0].code = 0;
     sheet
+}
+
+/// Sheet S as an unstructured layer (RULES 11.4).
+pub fn lines_s() -> Sheet {
+    let mut sheet = sheet_s();
+    without_areas(&mut sheet.meshes[0].layers[0]);
+    sheet
+}
+
+/// The same in layer 5, with a left code that is spelled as land is (RULES 11.4).
+pub fn land_lines_s() -> Sheet {
+    let mut sheet = land_s();
+    let layer = &mut sheet.meshes[0].layers[0];
+    without_areas(layer);
+    layer.lines[0].left.zeros = true;
+    sheet
+}
+
+/// The layer as an unstructured one: its lines alone.
+pub fn without_areas(layer: &mut Layer) {
+    layer.letters = UNSTRUCTURED;
+    layer.areas.clear();
+    for line in &mut layer.lines {
+        (line.left, line.right) = (NOTHING, NOTHING);
+    }
 }

@@ -1,8 +1,8 @@
 //! Stages 1 and 2: the walk over the file, and what it finds.
 
-use crate::layout::{a, h, l, layout, lp, m, n, Kind, Sort, MOST_RECORDS, RECORD};
+use crate::layout::{a, h, l, layout, lp, m, n, Kind, Sort, MOST_RECORDS, RECORD, STRUCTURED};
 use crate::positions::{coordinate_permitted, mesh_permitted};
-use crate::records::{held, well_formed, wrong_letters, wrong_line_end, Broken, Refusal};
+use crate::records::{held, letters, well_formed, wrong_line_end, Broken, Refusal};
 
 /// What stage 2 finds in a file. Record numbers count from 1.
 pub struct Found {
@@ -23,6 +23,8 @@ pub struct Mesh {
 pub struct Layer {
     pub record: u32,
     pub code: i32,
+    /// 1 for H1, 2 for H2.
+    pub letters: u32,
     /// The records that the H tells.
     pub told_records: i32,
     /// The records counted, the H among them.
@@ -176,15 +178,19 @@ impl Walk<'_> {
         for total in [h::NODES, h::AREAS, h::RECORDS] {
             look.permit(total, look.value(total) >= 0);
         }
+        let structured = look.letters == STRUCTURED;
+        look.permit(h::AREAS, structured || look.value(h::AREAS) == 0);
         look.permit(h::POINTS, look.value(h::POINTS) == 0);
         for date in [h::FIRST_MADE, h::LAST_CHANGED] {
             look.permit(date, date_permitted(look.value(date)));
         }
+        let letters = look.letters;
         let (record, values) = look.result()?;
 
         let mut layer = Layer {
             record,
             code,
+            letters,
             told_records: values[h::RECORDS],
             length: 0,
             nodes: Vec::new(),
@@ -195,7 +201,7 @@ impl Walk<'_> {
             layer.nodes.push(self.node(code, serial)?);
         }
         for serial in 1..=values[h::LINES] {
-            layer.lines.push(self.line(code, serial)?);
+            layer.lines.push(self.line(code, structured, serial)?);
         }
         for serial in 1..=values[h::AREAS] {
             layer.areas.push(self.area(code, serial)?);
@@ -226,7 +232,7 @@ impl Walk<'_> {
         })
     }
 
-    fn line(&mut self, layer: i32, serial: i32) -> Result<Line, Refusal> {
+    fn line(&mut self, layer: i32, structured: bool, serial: i32) -> Result<Line, Refusal> {
         let mut look = self.due(Kind::L)?;
         look.belongs(l::LAYER, layer);
         let item = look.value(l::ITEM);
@@ -239,9 +245,14 @@ impl Walk<'_> {
             look.permit(link, (0..=2).contains(&look.value(link)));
         }
         for (code, area) in [(l::LEFT_CODE, l::LEFT_AREA), (l::RIGHT_CODE, l::RIGHT_AREA)] {
-            look.permit(code, code_permitted(layer, look.value(code)));
-            look.permit(area, look.value(area) >= 0);
-            look.permit(area, (look.value(area) == 0) == (look.value(code) == 88888));
+            if structured {
+                look.permit(code, code_permitted(layer, look.value(code)));
+                look.permit(area, look.value(area) >= 0);
+                look.permit(area, (look.value(area) == 0) == (look.value(code) == 88888));
+            } else {
+                look.permit(code, look.value(code) == 0);
+                look.permit(area, look.value(area) == 0);
+            }
         }
         look.permit(l::POINTS, look.value(l::POINTS) >= 2);
         look.permit(l::ATTRIBUTES, look.value(l::ATTRIBUTES) == 0);
@@ -364,15 +375,18 @@ fn code_permitted(layer: i32, code: i32) -> bool {
 struct Look {
     kind: Kind,
     record: u32,
+    /// As in the record's value; 0 if they are wrong.
+    letters: u32,
     values: [Option<i32>; 16],
     broken: Broken,
 }
 
 impl Look {
     fn at(kind: Kind, record: u32, bytes: &[u8]) -> Look {
-        let mut look = Look { kind, record, values: [None; 16], broken: Broken::default() };
-        if let Some(number) = wrong_letters(kind, bytes) {
-            look.broken.rule(number, record, 1);
+        let mut look = Look { kind, record, letters: 0, values: [None; 16], broken: Broken::default() };
+        match letters(kind, bytes) {
+            Some(letters) => look.letters = letters,
+            None => look.broken.rule(3, record, 1),
         }
         let layout = layout(kind);
         for (index, field) in layout.numbers.iter().enumerate() {

@@ -1,14 +1,16 @@
 //! The comparison agrees with a right program and finds wrong ones.
 
-use second::compare::{damages, every_code, every_field, land_changes, odd_values, one_byte_changes, positions, walks_astray};
-use second::compare::{Agreed, Compare};
+mod parts;
+
+use parts::{are_found, compared};
+use second::compare::{one_byte_changes, Compare, NEVER};
 use second::damage::{set, steering};
 use second::due::dues;
 use second::fields::{number, CODE, LAND};
 use second::judge::{verdict, Counts, Outcome, Verdict};
 use second::layout::{a, codes, l, layout, Kind, KINDS, LAYER, RECORD};
 use second::product::{Product, RawValue, Second};
-use second::records::Refusal;
+use second::records::{letters, Refusal};
 use second::sums::Sums;
 use second::walk::{record, stage_1};
 
@@ -301,9 +303,9 @@ impl Product for Wrong {
             "due a record early" => Second.due(file, at.saturating_add(1)),
             "due from record 0 on" if at == 0 => 1,
             "due by letters" if (1..=last).contains(&at) => {
-                let letters = &record(file, at as usize)[..2];
-                let kind = KINDS.iter().find(|kind| layout(**kind).letters.is_some_and(|own| own == letters));
-                kind.map_or(Second.due(file, at), |kind| *kind as u32)
+                let lettered = [Kind::M, Kind::H, Kind::N, Kind::L, Kind::A];
+                let kind = lettered.into_iter().find(|kind| letters(*kind, record(file, at as usize)).is_some());
+                kind.map_or(Second.due(file, at), |kind| kind as u32)
             }
             "nothing due behind the last" if at == last + 1 => 0,
             "nothing due where the file may end" if at == last + 1 && Second.due(file, at) == 1 => 0,
@@ -364,27 +366,19 @@ impl Product for Wrong {
     }
 }
 
-fn compared(compare: &mut Compare) -> Agreed {
-    every_code(compare)?;
-    land_changes(compare)?;
-    damages(compare, 1, 800)?;
-    odd_values(compare, 1, 2000)?;
-    every_field(compare, 0..0)?;
-    walks_astray(compare, 1, 200)?;
-    positions(compare)
-}
-
 #[test]
 fn a_right_program_agrees() {
     let compare = &mut Compare::new(&Second);
     compared(compare).unwrap();
     assert!(!compare.land.contains(&0), "{:?}", compare.land);
+    assert!(!compare.lines.contains(&0), "{:?}", compare.lines);
+    assert!(compare.reached.iter().all(|call| call[NEVER] == 0));
     one_byte_changes(compare).unwrap();
 }
 
 #[test]
 fn wrong_programs_are_found() {
-    are_found(&[
+    are_found(Wrong, &[
         "need", "accepts", "refuses", "no table", "one word too many", "measures when refused", "counts when refused",
         "need when accepted", "not 18", "sums 0", "position", "value when refused", "writes before it refuses",
     ]);
@@ -392,7 +386,7 @@ fn wrong_programs_are_found() {
 
 #[test]
 fn wrong_sums_of_all_layers_are_found() {
-    are_found(&[
+    are_found(Wrong, &[
         "the first layer's sums for all", "areas are never summed", "the outside is never summed", "room before the table",
         "room before the later stages", "room for one a layer", "room for one more", "sums with 48", "no table with 48",
         "counts with 48", "need with 48", "48 has a place", "19 in its place", "22 in its place", "never 48", "no need with 9",
@@ -402,7 +396,7 @@ fn wrong_sums_of_all_layers_are_found() {
 
 #[test]
 fn wrong_dues_are_found() {
-    are_found(&[
+    are_found(Wrong, &[
         "due a record late", "due a record early", "due from record 0 on", "due by letters", "nothing due behind the last",
         "nothing due where the file may end", "M past the end", "nothing due behind a refusal", "nothing due in a refused file",
         "nothing due where bytes are wrong", "a cut record is looked at", "ill formed counts as 1",
@@ -412,7 +406,7 @@ fn wrong_dues_are_found() {
 
 #[test]
 fn wrong_codes_are_found() {
-    are_found(&[
+    are_found(Wrong, &[
         "judge: land is refused", "judge: a left code is never land", "judge: a right code is never land",
         "judge: an area is never land", "judge: land in layer 1", "judge: land by the first layer, 1",
         "judge: land by the first layer, 5", "judge: land as a left area", "judge: land as a right area", "judge: land in an H",
@@ -430,7 +424,7 @@ fn wrong_codes_are_found() {
 
 #[test]
 fn wrong_marks_are_found() {
-    are_found(&[
+    are_found(Wrong, &[
         "marks are lost", "the left mark is lost", "the right mark is lost", "an area's mark is lost",
         "marks in each other's place", "an area's mark in the second place", "one mark for both codes", "a mark for every 0",
         "a mark of 5", "marks turned round", "every kind is marked", "marks when refused", "land is read as nobody",
@@ -439,11 +433,4 @@ fn wrong_marks_are_found() {
         "a mark is half a word", "a mark has a sign", "a mark beside another code", "a mark in layer 1", "a mark in any layer",
         "an area has a second mark", "every kind has marks", "writes before it looks at marks", "marks before the buffer",
     ]);
-}
-
-fn are_found(wrongs: &[&'static str]) {
-    for wrong in wrongs {
-        let Err(disagreement) = compared(&mut Compare::new(&Wrong(wrong))) else { panic!("{wrong}") };
-        println!("{wrong}: {} ours {} theirs {}", disagreement.what, disagreement.ours, disagreement.theirs);
-    }
 }

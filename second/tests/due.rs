@@ -6,7 +6,7 @@ use second::generate::from_seed;
 use second::judge::verdict;
 use second::layout::{Kind, RECORD};
 use second::random::Random;
-use second::sheet::sheet_s;
+use second::sheet::{lines_s, sheet_s};
 
 /// Sheet S with texts set at (record, column).
 fn s_with(changes: &[(usize, usize, &[u8])]) -> Vec<u8> {
@@ -47,6 +47,22 @@ fn letters_and_line_ends_do_not_matter() {
     tells(&s_with(&[(2, 1, b"H1")]), "12345671");
     let ends: Vec<(usize, usize, &[u8])> = (1..=7).map(|record| (record, 73, &b"\n\r"[..])).collect();
     tells(&s_with(&ends), "12345671");
+}
+
+/// An H1 says by its numbers what follows, as an H2 does, areas too.
+#[test]
+fn lines_without_areas() {
+    let lines = lines_s().bytes();
+    tells(&lines, "123451");
+    tells(&[lines.clone(), lines.clone()].concat(), "12345123451");
+    for letters in [b"H2", b"H3", b"  "] {
+        let mut other = lines.clone();
+        other[RECORD..RECORD + 2].copy_from_slice(letters);
+        tells(&other, "123451");
+    }
+    tells(&s_with(&[(2, 1, b"H1"), (2, 15, b"   -2")]), "12345676");
+    tells(&s_with(&[(2, 1, b"H1"), (2, 15, b"    x")]), "12345111");
+    tells(&s_with(&[(1, 29, b"  2"), (2, 1, b"H1")]), "12345672");
 }
 
 #[test]

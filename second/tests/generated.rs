@@ -1,8 +1,9 @@
 //! Generated files are accepted, their sums agree, and they have what real sheets have.
 
 use second::generate::{assert_accepted, from_seed, sheet_of};
+use second::layout::{STRUCTURED, UNSTRUCTURED};
 use second::random::Random;
-use second::sheet::{Area, Layer, Line, Sheet, Side};
+use second::sheet::{Area, Layer, Line, Mesh, Sheet, Side};
 use std::collections::BTreeMap;
 
 fn layers(sheet: &Sheet) -> impl Iterator<Item = &Layer> {
@@ -17,14 +18,52 @@ fn generated_files_are_accepted_and_rich() {
         let mut see = |what, yes: bool| *seen.entry(what).or_default() += usize::from(yes);
         see("several meshes", sheet.meshes.len() > 1);
         see("both layers", sheet.meshes.iter().any(|mesh| mesh.layers.len() == 2));
+        see_letters(&sheet, &mut see);
         for layer in layers(&sheet) {
-            see_layer(layer, &mut see);
+            match layer.letters {
+                STRUCTURED => see_layer(layer, &mut see),
+                _ => see_lines(layer, &mut see),
+            }
         }
     }
     println!("{seen:#?}");
     for (what, times) in seen {
         assert!(times >= 20, "{what}: {times}");
     }
+}
+
+/// Layers of both sorts, in one file and in one mesh.
+fn see_letters(sheet: &Sheet, see: &mut impl FnMut(&'static str, bool)) {
+    let letters = |mesh: &Mesh| mesh.layers.iter().map(|layer| layer.letters).collect::<Vec<_>>();
+    let in_a_mesh = |order: [u32; 2]| sheet.meshes.iter().any(|mesh| letters(mesh) == order);
+    see("unstructured before structured", in_a_mesh([UNSTRUCTURED, STRUCTURED]));
+    see("structured before unstructured", in_a_mesh([STRUCTURED, UNSTRUCTURED]));
+    see("both layers unstructured", in_a_mesh([UNSTRUCTURED; 2]));
+    let alone = layers(sheet).all(|layer| layer.letters == UNSTRUCTURED);
+    see("unstructured layers alone", alone);
+    see("unstructured layers alone, several meshes", alone && sheet.meshes.len() > 1);
+    let meshes: Vec<_> = sheet.meshes.iter().map(letters).collect();
+    see("meshes of either sort", meshes.windows(2).any(|pair| pair[0] == [UNSTRUCTURED] && pair[1] == [STRUCTURED]));
+}
+
+/// An unstructured layer.
+fn see_lines(layer: &Layer, see: &mut impl FnMut(&'static str, bool)) {
+    assert!(layer.areas.is_empty());
+    let closed = |line: &Line| line.ends[0].node == line.ends[1].node;
+    let zeros = || layer.lines.iter().flat_map(|line| [line.left.zeros, line.right.zeros]);
+    see("H1: no lines", layer.lines.is_empty());
+    see("H1: one line", layer.lines.len() == 1);
+    see("H1: closed line", layer.lines.iter().any(closed));
+    see("H1: open line", layer.lines.iter().any(|line| !closed(line)));
+    see("H1: a line stands still", layer.lines.iter().any(|line| line.points.iter().all(|point| *point == line.points[0])));
+    see("H1: a line off the frame has item 9", layer.lines.iter().any(|line| line.item == 9 && line.ends[0].link == 0));
+    see("H1: points of several records", layer.lines.iter().any(|line| line.points.len() > 7));
+    see("H1: nine entries at a node", layer.nodes.iter().any(|node| node.entries.len() == 9));
+    see("H1: one entry at a node", layer.nodes.iter().any(|node| node.entries.len() == 1));
+    see("H1: dozens of lines", layer.lines.len() > 30);
+    see("H1: land as 0000", layer.code == 5 && zeros().any(|zeros| zeros));
+    see("H1: land spelled both ways", layer.code == 5 && zeros().any(|zeros| zeros) && zeros().any(|zeros| !zeros));
+    see("H1: layer 1", layer.code == 1);
 }
 
 fn see_layer(layer: &Layer, see: &mut impl FnMut(&'static str, bool)) {

@@ -3,11 +3,11 @@
 use second::fields::{code, code_spelled, is_blank, is_name, number, spelled};
 use second::generate::from_seed;
 use second::judge::{judge, Counts};
-use second::layout::{Kind, KINDS};
+use second::layout::{Kind, KINDS, STRUCTURED, UNSTRUCTURED};
 use second::positions::position;
 use second::product::{Product, Second};
 use second::records::{bytes_of, read, write, Refusal, Value};
-use second::sheet::{land_s, sheet_s};
+use second::sheet::{land_lines_s, land_s, lines_s, sheet_s, Layer, Sheet};
 use second::sums::{sums_of_all, sums_of_layer, Sums};
 use second::walk::record;
 
@@ -19,6 +19,11 @@ fn s_with(changes: &[(usize, usize, &[u8])]) -> Vec<u8> {
 /// Sheet S of layer 5, with land on its ground and texts set.
 fn land_with(changes: &[(usize, usize, &[u8])]) -> Vec<u8> {
     with(land_s().bytes(), changes)
+}
+
+/// Sheet S as an unstructured layer, with texts set.
+fn lines_with(changes: &[(usize, usize, &[u8])]) -> Vec<u8> {
+    with(lines_s().bytes(), changes)
 }
 
 fn with(mut file: Vec<u8>, changes: &[(usize, usize, &[u8])]) -> Vec<u8> {
@@ -71,10 +76,10 @@ fn sheet_s_is_accepted() {
     assert_eq!(outcome.refusal, Refusal::default());
     assert_eq!(outcome.counts, Counts { meshes: 1, layers: 1, nodes: 1, lines: 1, areas: 1, records: 7 });
     assert_eq!(outcome.need, 0);
-    assert_eq!(table, [2, 1, 1, 1, 4, 6, 7, 7]);
+    assert_eq!(table, [2, 1, 1, 1, 2, 4, 6, 7]);
     assert_eq!(measures, [200_000_000, -1]);
     let sums = Sums { areas: 200_000_000, outside: 200_000_000 };
-    assert_eq!(sums_of_layer(&file, &mut [0; 6], 1), (Refusal::default(), sums));
+    assert_eq!(sums_of_layer(&file, &mut [0; 7], 1), (Refusal::default(), sums));
 }
 
 #[test]
@@ -87,7 +92,7 @@ fn the_proved_cases() {
     gives(&[(5, 51, b"    7")], (6, 5, 51));
     gives(&[(7, 10, b"   -1")], (16, 7, 1));
     gives(&[(4, 30, b"13101    188888    0")], (17, 7, 10));
-    gives(&[(2, 1, b"H1")], (7, 2, 1));
+    gives(&[(2, 1, b"H1")], (6, 2, 15));
     gives(&[(1, 3, b"533985")], (6, 1, 3));
     assert_eq!(answer(&sheet_s().bytes()[..6 * 74]), (4, 7, 1));
 }
@@ -132,10 +137,10 @@ fn land_is_accepted() {
     let outcome = judge(&file, &mut table, &mut measures);
     assert_eq!(outcome.refusal, Refusal::default());
     assert_eq!(outcome.counts, Counts { meshes: 1, layers: 1, nodes: 1, lines: 1, areas: 1, records: 7 });
-    assert_eq!(table, [2, 1, 1, 1, 4, 6, 7, 7]);
+    assert_eq!(table, [2, 1, 1, 1, 2, 4, 6, 7]);
     assert_eq!(measures, [200_000_000, -1]);
     let sums = Sums { areas: 200_000_000, outside: 200_000_000 };
-    assert_eq!(sums_of_layer(&file, &mut [0; 6], 1), (Refusal::default(), sums));
+    assert_eq!(sums_of_layer(&file, &mut [0; 7], 1), (Refusal::default(), sums));
 }
 
 #[test]
@@ -184,6 +189,178 @@ fn land_in_layer_1() {
     gives(&[(4, 3, b" 5"), (4, 40, b" 0000")], (8, 4, 3));
 }
 
+/// Sheet S as an unstructured layer by hand: what RULES 11.4 changes in sheet S.
+#[test]
+fn lines_by_hand() {
+    let changes: [(usize, usize, &[u8]); 6] = [
+        (1, 42, b"    0"), (1, 52, b"    5"), (2, 1, b"H1"), (2, 15, b"    0"), (2, 25, b"    4"),
+        (4, 30, b"    0    0    0    0"),
+    ];
+    assert_eq!(lines_s().bytes(), s_with(&changes)[..5 * 74]);
+    let land: [(usize, usize, &[u8]); 5] =
+        [(2, 3, b" 5"), (3, 3, b" 5"), (4, 3, b" 5"), (3, 5, b" 1"), (4, 30, b" 0000")];
+    assert_eq!(land_lines_s().bytes(), lines_with(&land));
+}
+
+#[test]
+fn lines_are_accepted() {
+    for file in [lines_s().bytes(), land_lines_s().bytes()] {
+        let (mut table, mut sums) = ([7; 8], [-1; 3]);
+        let outcome = judge(&file, &mut table, &mut []);
+        let counts = Counts { meshes: 1, layers: 1, nodes: 1, lines: 1, areas: 0, records: 5 };
+        assert_eq!((outcome.refusal, outcome.counts, outcome.need), (Refusal::default(), counts, 0));
+        assert_eq!(table, [2, 1, 1, 0, 1, 4, 7, 7]);
+        assert_eq!(Second.need(&file), 6);
+        let nothing = Sums { areas: 0, outside: 0 };
+        assert_eq!(sums_of_layer(&file, &mut [0; 6], 1), (Refusal::default(), nothing));
+        assert_eq!(sums_of_all(&file, &mut [0; 6], &mut sums).counts, counts);
+        assert_eq!(sums, [0, 0, -1]);
+        let short = judge(&file, &mut [0; 5], &mut []);
+        assert_eq!((short.refusal.number, short.need), (9, 6));
+    }
+}
+
+#[test]
+fn lines_changed() {
+    let gives = |changes: &[(usize, usize, &[u8])], expected| assert_eq!(answer(&lines_with(changes)), expected, "{changes:?}");
+    gives(&[], (0, 0, 0));
+    gives(&[(2, 1, b"H2")], (6, 4, 30));
+    gives(&[(2, 1, b"H3")], (3, 2, 1));
+    gives(&[(2, 15, b"    1")], (6, 2, 15));
+    gives(&[(4, 30, b"88888")], (6, 4, 30));
+    gives(&[(4, 35, b"    1")], (6, 4, 35));
+    gives(&[(4, 40, b"13101")], (6, 4, 40));
+    gives(&[(4, 45, b"    1")], (6, 4, 45));
+    gives(&[(3, 24, b" 1"), (3, 31, b"    0")], (14, 4, 24));
+    gives(&[(1, 42, b"    1")], (10, 1, 42));
+    // Anything but 0, at its own start, and the first of several.
+    for text in [b"    1", b"   -1", b"13101", b"88888", b"99999", b"-9999"] {
+        for (record, column) in [(2, 15), (4, 30), (4, 35), (4, 40), (4, 45)] {
+            gives(&[(record, column, text)], (6, record as u32, column as u32));
+        }
+    }
+    gives(&[(4, 30, b"88888    088888    0")], (6, 4, 30));
+    gives(&[(4, 35, b"    113101    1")], (6, 4, 35));
+    gives(&[(4, 40, b"13101    1")], (6, 4, 40));
+    gives(&[(2, 15, b"    1"), (4, 30, b"88888")], (6, 2, 15));
+    // An ill-formed field is 5, and land has its spelling in layer 5 alone.
+    for column in [30, 35, 40, 45] {
+        for ill in [b" 0000", b"00000", b"     ", b"   -0"] {
+            gives(&[(4, column, ill)], (5, 4, column as u32));
+        }
+    }
+    gives(&[(2, 15, b" 0000")], (5, 2, 15));
+    // All other rules are the same: letters, codes of layers, serials, items, kinds, links, nodes, points, totals.
+    gives(&[(2, 1, b"h1")], (3, 2, 1));
+    gives(&[(2, 1, b"H ")], (3, 2, 1));
+    gives(&[(1, 1, b"H1")], (3, 1, 1));
+    gives(&[(3, 1, b"H1")], (3, 3, 1));
+    gives(&[(4, 1, b"H1")], (3, 4, 1));
+    gives(&[(2, 3, b" 2")], (6, 2, 3));
+    gives(&[(4, 3, b" 5")], (8, 4, 3));
+    gives(&[(2, 10, b"10000")], (6, 2, 10));
+    gives(&[(2, 20, b"    1")], (6, 2, 20));
+    gives(&[(2, 25, b"    5")], (10, 2, 25));
+    gives(&[(2, 36, b"  13")], (6, 2, 36));
+    gives(&[(3, 5, b" 6")], (6, 3, 5));
+    gives(&[(3, 7, b"    2")], (8, 3, 7));
+    gives(&[(3, 22, b" 0")], (6, 3, 22));
+    gives(&[(3, 24, b" 3")], (6, 3, 36));
+    gives(&[(3, 26, b"    2")], (11, 3, 26));
+    gives(&[(3, 31, b"    1")], (13, 3, 31));
+    gives(&[(4, 5, b" 6")], (6, 4, 5));
+    gives(&[(4, 7, b"    2")], (8, 4, 7));
+    gives(&[(4, 12, b"     1")], (6, 4, 12));
+    gives(&[(4, 18, b"    2")], (11, 4, 18));
+    gives(&[(4, 23, b"3")], (6, 4, 23));
+    gives(&[(4, 29, b"0")], (12, 4, 29));
+    gives(&[(4, 50, b"     1")], (6, 4, 50));
+    gives(&[(4, 56, b" 1")], (6, 4, 56));
+    gives(&[(5, 46, b"    1")], (12, 5, 41));
+    gives(&[(5, 51, b"    7")], (6, 5, 51));
+    gives(&[(1, 52, b"    6")], (10, 1, 52));
+    assert_eq!(answer(&lines_s().bytes()[..4 * 74]), (4, 5, 1));
+    // What stands behind the last line is no area, whatever it is.
+    let areas = &sheet_s().bytes()[5 * 74..];
+    assert_eq!(answer(&[&lines_s().bytes(), areas].concat()), (3, 6, 1));
+    assert_eq!(answer(&[&lines_with(&[(2, 15, b"    1")]), areas].concat()), (6, 2, 15));
+}
+
+/// Under an H1 of layer 5 land may stand, in both spellings, and nothing else.
+#[test]
+fn lines_in_layer_5() {
+    let gives = |changes: &[(usize, usize, &[u8])], expected| {
+        assert_eq!(answer(&with(land_lines_s().bytes(), changes)), expected, "{changes:?}")
+    };
+    gives(&[], (0, 0, 0));
+    gives(&[(4, 30, b"    0")], (0, 0, 0));
+    gives(&[(4, 40, b" 0000")], (0, 0, 0));
+    gives(&[(4, 30, b"    0"), (4, 40, b" 0000")], (0, 0, 0));
+    // Under an H2 land is a code, and an area has to lie beside it.
+    gives(&[(2, 1, b"H2")], (6, 4, 35));
+    for (column, code, area) in [(30, 30, 35), (40, 40, 45)] {
+        gives(&[(4, column, b"88888")], (6, 4, code));
+        gives(&[(4, column, b"    1")], (6, 4, code));
+        gives(&[(4, column, b"00000")], (5, 4, code));
+        gives(&[(4, column, b" 0000    1")], (6, 4, area));
+        gives(&[(4, column, b" 0000 0000")], (5, 4, area));
+    }
+    gives(&[(4, 3, b" 1")], (8, 4, 3));
+}
+
+/// A structured layer without areas has nobody on both sides of its lines. It is not an unstructured one.
+#[test]
+fn a_structured_layer_without_areas() {
+    let nobody: &[u8] = b"88888    088888    0";
+    let file = lines_with(&[(2, 1, b"H2"), (4, 30, nobody)]);
+    let mut table = [7; 7];
+    assert_eq!(judge(&file, &mut table, &mut []).refusal, Refusal::default());
+    assert_eq!(table, [2, 1, 1, 0, 2, 4, 7]);
+    assert_eq!(answer(&lines_with(&[(4, 30, nobody)])), (6, 4, 30));
+}
+
+/// Layers of both sorts in every order in a mesh and in a file.
+#[test]
+fn lines_among_areas() {
+    let layer = |sheet: Sheet| sheet.meshes[0].layers[0].clone();
+    let file = |meshes: &[&[&Layer]]| {
+        let mut sheet = Sheet { meshes: vec![] };
+        for (code, layers) in (533_940..).zip(meshes) {
+            let mut mesh = sheet_s().meshes.remove(0);
+            mesh.code = code;
+            mesh.layers = layers.iter().map(|layer| (*layer).clone()).collect();
+            sheet.meshes.push(mesh);
+        }
+        sheet.bytes()
+    };
+    let (lines, areas) = (&layer(lines_s()), &layer(sheet_s()));
+    let (land_lines, land) = (&layer(land_lines_s()), &layer(land_s()));
+    let orders: [(&[&[&Layer]], &[u32]); 6] = [
+        (&[&[lines, land]], &[2, 1, 1, 0, 1, 6, 1, 1, 1, 2, 4, 8, 10]),
+        (&[&[areas, land_lines]], &[2, 1, 1, 1, 2, 8, 1, 1, 0, 1, 4, 10, 6]),
+        (&[&[lines, land_lines]], &[2, 1, 1, 0, 1, 6, 1, 1, 0, 1, 4, 8]),
+        (&[&[lines], &[areas]], &[2, 1, 1, 0, 1, 7, 1, 1, 1, 2, 4, 9, 11]),
+        (&[&[areas], &[lines]], &[2, 1, 1, 1, 2, 9, 1, 1, 0, 1, 4, 11, 6]),
+        (&[&[land_lines], &[lines]], &[2, 1, 1, 0, 1, 7, 1, 1, 0, 1, 4, 9]),
+    ];
+    for (meshes, expected) in orders {
+        let file = file(meshes);
+        let (mut table, mut sums) = (vec![0; expected.len()], [-1; 4]);
+        assert_eq!(sums_of_all(&file, &mut table, &mut sums).refusal, Refusal::default());
+        assert_eq!(table, expected);
+        for (row, sums) in table.chunks(5).zip(sums.chunks(2)) {
+            assert_eq!(sums, [if row[4] == STRUCTURED { 200_000_000 } else { 0 }; 2]);
+        }
+    }
+    assert_eq!(answer(&file(&[&[lines, areas]])), (8, 6, 3));
+    assert_eq!(answer(&file(&[&[areas, lines]])), (8, 8, 3));
+    assert_eq!(answer(&file(&[&[lines, lines]])), (8, 6, 3));
+    assert_eq!(answer(&file(&[&[land_lines, land]])), (8, 6, 3));
+    assert_eq!(answer(&file(&[&[land, land_lines]])), (8, 8, 3));
+    assert_eq!(answer(&file(&[&[land_lines, areas]])), (8, 6, 3));
+    assert_eq!(answer(&file(&[&[land, lines]])), (8, 8, 3));
+}
+
 #[test]
 fn lengths() {
     let s = sheet_s().bytes();
@@ -217,20 +394,20 @@ fn a_file_may_not_have_too_many_records() {
 #[test]
 fn buffers() {
     let s = sheet_s().bytes();
-    let mut table = [7; 5];
-    let outcome = judge(&s, &mut table, &mut [0; 1]);
-    assert_eq!((outcome.refusal.number, outcome.need, outcome.counts), (9, 6, Counts::default()));
-    assert_eq!(table, [7; 5]);
     let mut table = [7; 6];
+    let outcome = judge(&s, &mut table, &mut [0; 1]);
+    assert_eq!((outcome.refusal.number, outcome.need, outcome.counts), (9, 7, Counts::default()));
+    assert_eq!(table, [7; 6]);
+    let mut table = [7; 7];
     let outcome = judge(&s, &mut table, &mut []);
     assert_eq!((outcome.refusal.number, outcome.need, outcome.counts), (19, 0, Counts::default()));
-    assert_eq!(table, [2, 1, 1, 1, 4, 6]);
-    let short = judge(&s_with(&[(1, 52, b"    6")]), &mut [0; 5], &mut []);
-    assert_eq!((short.refusal.number, short.need), (9, 6));
+    assert_eq!(table, [2, 1, 1, 1, 2, 4, 6]);
+    let short = judge(&s_with(&[(1, 52, b"    6")]), &mut [0; 6], &mut []);
+    assert_eq!((short.refusal.number, short.need), (9, 7));
     let none = |number| (Refusal { number, record: 0, column: 0 }, Sums::default());
-    assert_eq!(sums_of_layer(&s, &mut [0; 6], 0), none(22));
-    assert_eq!(sums_of_layer(&s, &mut [0; 6], 2), none(22));
-    assert_eq!(sums_of_layer(&s, &mut [0; 5], 2), none(9));
+    assert_eq!(sums_of_layer(&s, &mut [0; 7], 0), none(22));
+    assert_eq!(sums_of_layer(&s, &mut [0; 7], 2), none(22));
+    assert_eq!(sums_of_layer(&s, &mut [0; 6], 2), none(9));
 }
 
 #[test]
@@ -238,14 +415,14 @@ fn sums_of_all_layers() {
     let s = sheet_s().bytes();
     let wrong_total = s_with(&[(1, 52, b"    6")]);
     let cases: [(&[u8], usize, usize, (u32, u32, u32), u64); 10] = [
-        (&s, 6, 0, (48, 0, 0), 0),
+        (&s, 7, 0, (48, 0, 0), 0),
         (&s, 8, 1, (48, 0, 0), 0),
-        (&s, 6, 2, (0, 0, 0), 0),
+        (&s, 7, 2, (0, 0, 0), 0),
         (&s, 8, 3, (0, 0, 0), 0),
-        (&s, 5, 2, (9, 0, 0), 6),
-        (&s, 0, 0, (9, 0, 0), 6),
-        (&wrong_total, 5, 1, (9, 0, 0), 6),
-        (&wrong_total, 6, 0, (10, 1, 52), 0),
+        (&s, 6, 2, (9, 0, 0), 7),
+        (&s, 0, 0, (9, 0, 0), 7),
+        (&wrong_total, 6, 1, (9, 0, 0), 7),
+        (&wrong_total, 7, 0, (10, 1, 52), 0),
         (&s[..6 * 74], 8, 3, (4, 7, 1), 0),
         (&[], 8, 0, (1, 1, 1), 0),
     ];
@@ -256,7 +433,7 @@ fn sums_of_all_layers() {
         assert_eq!(((number, record, column), outcome.need), (place, need));
         let counts = Counts { meshes: 1, layers: 1, nodes: 1, lines: 1, areas: 1, records: 7 };
         assert_eq!(outcome.counts, if number == 0 { counts } else { Counts::default() });
-        assert_eq!(table, if number == 0 || number > 9 { [2, 1, 1, 1, 4, 6, 7, 7] } else { [7; 8] });
+        assert_eq!(table, if number == 0 || number > 9 { [2, 1, 1, 1, 2, 4, 6, 7] } else { [7; 8] });
         assert_eq!(sums, if number == 0 { [200_000_000, 200_000_000, -1] } else { [-1; 3] });
     }
 }
@@ -372,9 +549,11 @@ fn single_records() {
     assert_eq!(read(Kind::H, &h[..73]), refused(1, 1));
     assert_eq!(read(Kind::M, h), refused(3, 1));
     let mut h1 = h.to_vec();
-    h1[1] = b'1';
+    h1[1] = b'3';
     h1[4] = b'x';
-    assert_eq!(read(Kind::H, &h1), refused(7, 1));
+    assert_eq!(read(Kind::H, &h1), refused(3, 1));
+    h1[1] = b'1';
+    assert_eq!(read(Kind::H, &h1), refused(5, 5));
     assert_eq!(read(Kind::N, &h1), refused(3, 1));
     h1[1] = b'2';
     assert_eq!(read(Kind::H, &h1), refused(5, 5));
@@ -458,10 +637,54 @@ fn marks_that_do_not_fit() {
     }
 }
 
+/// Both ways, with letters: an H has 1 or 2, the other kinds and a refused reading have none. Areas of an H1 aren't judged here.
+#[test]
+fn letters_are_read_and_written() {
+    for (sheet, letters) in [(sheet_s(), STRUCTURED), (lines_s(), UNSTRUCTURED), (land_lines_s(), UNSTRUCTURED)] {
+        for (kind, bytes) in sheet.records() {
+            let value = read(kind, &bytes).unwrap();
+            assert_eq!(value.letters, if kind == Kind::H { letters } else { 0 });
+            assert_eq!(bytes_of(&value), Some(bytes));
+        }
+    }
+    let h = |changes: &[(usize, usize, &[u8])]| record(&lines_with(changes), 2).to_vec();
+    let with_areas = h(&[(2, 15, b"    1")]);
+    let value = read(Kind::H, &with_areas).unwrap();
+    assert_eq!((value.letters, value.numbers[3]), (1, 1));
+    assert_eq!(bytes_of(&value).unwrap(), with_areas[..]);
+    for letters in [b"H3", b"H0", b"H ", b"h1", b" 1", b"1H", b"HH", b"M "] {
+        assert_eq!(read(Kind::H, &h(&[(2, 1, letters)])), Err(Refusal { number: 3, record: 1, column: 1 }));
+    }
+    for kind in [Kind::M, Kind::N, Kind::L, Kind::A] {
+        assert_eq!(read(kind, &h(&[])), Err(Refusal { number: 3, record: 1, column: 1 }));
+    }
+    let (_, value) = Second.read_record(2, &h(&[(2, 40, b"x")]));
+    assert_eq!(value, Value::empty(Kind::H).into());
+}
+
+#[test]
+fn letters_that_do_not_fit() {
+    let number = |value: Value, length: usize| {
+        let mut buffer = [b'#'; 80];
+        let number = write(&value, &mut buffer[..length]);
+        assert!(number == 0 || buffer == [b'#'; 80]);
+        number
+    };
+    for (kind, bytes) in [sheet_s(), lines_s()].iter().flat_map(Sheet::records) {
+        let value = read(kind, &bytes).unwrap();
+        for letters in [0, 1, 2, 3, 4, 49, 50, 255, 256, 257, 258, 0x1_0001, 0x1_0002, 0x8000_0001, u32::MAX] {
+            let fits = if kind == Kind::H { [1, 2].contains(&letters) } else { letters == 0 };
+            assert_eq!(number(Value { letters, ..value }, 80), if fits { 0 } else { 20 });
+            assert_eq!(number(Value { letters, ..value }, 73), 21);
+        }
+    }
+}
+
 #[test]
 fn values_that_do_not_fit() {
-    let h = Value::empty(Kind::H);
+    let h = Value { letters: STRUCTURED, ..Value::empty(Kind::H) };
     assert!(bytes_of(&h).is_some());
+    assert!(bytes_of(&Value::empty(Kind::H)).is_none());
     let mut unused = h;
     unused.numbers[8] = 1;
     assert!(bytes_of(&unused).is_none());

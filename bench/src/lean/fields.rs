@@ -125,9 +125,15 @@ pub fn blank(record: &Record, start: usize, end: usize) -> Kept<()> {
 /// The type letters, in columns 1 and 2.
 #[inline(always)]
 pub fn letters(record: &Record, letters: &[u8; 2]) -> Kept<()> {
-    if record[..2] == *letters {
-        return Ok(());
+    rule(3, 1, record[..2] == *letters)
+}
+
+/// The letters of an H: 1 for H1, 2 for H2.
+#[inline(always)]
+pub fn head_letters(record: &Record) -> Kept<u32> {
+    match &record[..2] {
+        b"H2" => Ok(2),
+        b"H1" => Ok(1),
+        _ => fault(3, 1),
     }
-    let unstructured = letters == b"H2" && record[..2] == *b"H1";
-    fault(if unstructured { 7 } else { 3 }, 1)
 }

@@ -1,12 +1,12 @@
 //! One record, read by the kind that the caller names.
 
-use super::fields::{blank, code, letters, name, number, rule, Kept, Record, RECORD};
+use super::fields::{blank, code, head_letters, letters, name, number, rule, Kept, Record, RECORD};
 use second::product::RawValue;
 use second::records::Refusal;
 
 /// Reads a single record. Refused, its value is the named kind with all else 0.
 pub fn read_record(kind: u32, bytes: &[u8]) -> (Refusal, RawValue) {
-    let empty = RawValue { kind, numbers: [0; 16], name: [0; 40], marks: [0; 2] };
+    let empty = RawValue { kind, numbers: [0; 16], name: [0; 40], marks: [0; 2], letters: 0 };
     let refused = |number, column| (Refusal { number, record: 1, column }, empty);
     let Ok(record) = <&Record>::try_from(bytes) else {
         return refused(1, 1);
@@ -23,7 +23,7 @@ pub fn read_record(kind: u32, bytes: &[u8]) -> (Refusal, RawValue) {
     }
 }
 
-/// The numbers, the name and the marks of a record, in column order.
+/// The letters of an H, and the numbers, the name and the marks of a record, in column order.
 fn fill(value: &mut RawValue, record: &Record) -> Kept<()> {
     let mut numbers = Numbers { numbers: &mut value.numbers, next: 0, marks: &mut value.marks, next_mark: 0, record };
     match value.kind {
@@ -36,7 +36,7 @@ fn fill(value: &mut RawValue, record: &Record) -> Kept<()> {
             blank(record, 57, 72)
         }
         2 => {
-            letters(record, b"H2")?;
+            value.letters = head_letters(record)?;
             numbers.read([(3, 4), (5, 9), (10, 14), (15, 19), (20, 24), (25, 29)])?;
             blank(record, 30, 30)?;
             numbers.read([(31, 34)])?;

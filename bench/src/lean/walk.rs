@@ -1,6 +1,6 @@
 //! Stages 1 and 2: the walk over the file, a layer at a time.
 
-use super::fields::{blank, code, in_step, letters, name, number, permit, Fault, Kept, Record, RECORD};
+use super::fields::{blank, code, head_letters, in_step, letters, name, number, permit, Fault, Kept, Record, RECORD};
 use second::records::Refusal;
 
 /// A file has at most so many records.
@@ -26,6 +26,8 @@ pub type Point = (i16, i16);
 #[derive(Default)]
 pub struct Layer {
     pub record: u32,
+    /// 1 for H1, 2 for H2.
+    pub letters: u32,
     pub told_records: i32,
     /// The records counted, the H among them.
     pub length: u32,
@@ -213,6 +215,7 @@ impl<'a> Walk<'a> {
         let head = self.here(head_record(record, last_layer))?;
         self.layer.clear();
         self.layer.record = self.done;
+        self.layer.letters = head.letters;
         self.layer.told_records = head.records;
         for serial in 1..=head.nodes {
             let record = self.due()?;
@@ -221,7 +224,7 @@ impl<'a> Walk<'a> {
             self.layer.nodes.push(node);
         }
         for serial in 1..=head.lines {
-            self.line(head.code, serial)?;
+            self.line(head.code, head.letters == 2, serial)?;
         }
         for serial in 1..=head.areas {
             self.area(head.code, serial)?;
@@ -231,9 +234,9 @@ impl<'a> Walk<'a> {
     }
 
     /// A line: its L and its points. Of the points the measure, the first and the last are kept.
-    fn line(&mut self, layer: i32, serial: i32) -> Result<(), Refusal> {
+    fn line(&mut self, layer: i32, structured: bool, serial: i32) -> Result<(), Refusal> {
         let record = self.due()?;
-        let mut line = self.here(line_record(record, layer, serial))?;
+        let mut line = self.here(line_record(record, layer, structured, serial))?;
         line.0.record = self.done;
         let mut left = line.0.points as usize;
         let mut first = None;
@@ -337,6 +340,8 @@ fn code_permitted(layer: i32, code: i32) -> bool {
 
 /// What an H tells.
 struct Head {
+    /// 1 for H1, 2 for H2.
+    letters: u32,
     code: i32,
     nodes: i32,
     lines: i32,
@@ -346,7 +351,7 @@ struct Head {
 
 /// An H. Its code has to be above the last one's.
 fn head_record(record: &Record, last_layer: i32) -> Kept<Head> {
-    letters(record, b"H2")?;
+    let letters = head_letters(record)?;
     let code = number(record, 3, 4)?;
     permit(3, matches!(code, 1 | 5))?;
     in_step(3, last_layer < code)?;
@@ -354,6 +359,7 @@ fn head_record(record: &Record, last_layer: i32) -> Kept<Head> {
     let lines = total(record, 10, 14)?;
     permit(10, lines <= 9999)?;
     let areas = total(record, 15, 19)?;
+    permit(15, letters == 2 || areas == 0)?;
     zero(record, 20, 24)?;
     let records = total(record, 25, 29)?;
     blank(record, 30, 30)?;
@@ -361,7 +367,7 @@ fn head_record(record: &Record, last_layer: i32) -> Kept<Head> {
     blank(record, 35, 35)?;
     date(record, 36, 39)?;
     blank(record, 40, 72)?;
-    Ok(Head { code, nodes, lines, areas, records })
+    Ok(Head { letters, code, nodes, lines, areas, records })
 }
 
 /// X or Y is 0 or 10000.
@@ -402,7 +408,7 @@ fn slots<const SLOTS: usize>(record: &Record, first: usize, count: usize) -> Kep
 }
 
 /// An L: the line, its ends and its sides. Its record number and its points follow later.
-fn line_record(record: &Record, layer: i32, serial: i32) -> Kept<(Line, [i32; 2], [i32; 2])> {
+fn line_record(record: &Record, layer: i32, structured: bool, serial: i32) -> Kept<(Line, [i32; 2], [i32; 2])> {
     letters(record, b"L ")?;
     belongs(record, layer)?;
     let item = number(record, 5, 6)?;
@@ -416,8 +422,8 @@ fn line_record(record: &Record, layer: i32, serial: i32) -> Kept<(Line, [i32; 2]
     let start_link = link(record, 23)?;
     let end = number(record, 24, 28)?;
     let end_link = link(record, 29)?;
-    let (left_code, left) = side(record, layer, 30)?;
-    let (right_code, right) = side(record, layer, 40)?;
+    let (left_code, left) = side(record, layer, structured, 30)?;
+    let (right_code, right) = side(record, layer, structured, 40)?;
     let points = number(record, 50, 55)?;
     permit(50, points >= 2)?;
     zero(record, 56, 57)?;
@@ -441,13 +447,14 @@ fn link(record: &Record, column: usize) -> Kept<u8> {
     Ok(link as u8)
 }
 
-/// One side: the code, and the area five columns on. The area is 0 exactly if the code is 88888.
+/// One side: the code, and the area five columns on. The area is 0 exactly if the code is 88888. Both are 0 in an
+/// unstructured layer.
 #[inline(always)]
-fn side(record: &Record, layer: i32, column: usize) -> Kept<(i32, i32)> {
+fn side(record: &Record, layer: i32, structured: bool, column: usize) -> Kept<(i32, i32)> {
     let (code, _) = code(record, column)?;
-    permit(column, code_permitted(layer, code))?;
+    permit(column, if structured { code_permitted(layer, code) } else { code == 0 })?;
     let area = number(record, column + 5, column + 9)?;
-    permit(column + 5, area >= 0 && (area == 0) == (code == 88888))?;
+    permit(column + 5, if structured { area >= 0 && (area == 0) == (code == 88888) } else { area == 0 })?;
     Ok((code, area))
 }
 

@@ -46,7 +46,8 @@ unfolding sumsOf
 no-ground-lost file room last h i p q =
     let kept = rules-fine file room last h in
     let same = layer-agrees file room i p q kept in
-    let told = rw (← reported file room i p q kept) in
+    let told : sumsOf file room i ≡ sumsWith Fine (areasSum file (tableOf file) (layerOf file (i - 1))) (outsideSum file (tableOf file) (layerOf file (i - 1))) =
+    rw (← reported file room i p q kept) in
     (same, told, λ e. told ∙ rw (← same, bare-ground file (passed file room kept) (i - 1) (omega arith) e))
 
 -- so the two figures that are reported are equal, whatever the file, the room and the layer number

@@ -1,8 +1,8 @@
 //! compare: the proved program against this one. Exit status 1 at the first disagreement.
 
-use second::compare::{damages, every_code, every_field, full_counts, land_changes, large, odd_values, one_byte_changes};
-use second::compare::{numbers, outside_sheet, positions, walks_astray, Agreed, Compare, Disagreement, Reached};
-use second::compare::{CALLS, LAND_BECAME};
+use second::compare::{damages, every_code, every_field, every_letter, full_counts, land_changes, large, odd_values};
+use second::compare::{numbers, one_byte_changes, outside_sheet, positions, unstructured_changes, walks_astray};
+use second::compare::{Agreed, Compare, Disagreement, Reached, CALLS, LAND_BECAME, LINES_BECAME, NEVER};
 use second::piped::Pipe;
 use second::product::{Product, Second};
 use second::random::Random;
@@ -108,11 +108,16 @@ fn main() -> ExitCode {
         }
     }
     let result = parts(&mut compares, &options).and_then(|()| each(&mut compares, |compare| compare.end()));
-    let (reached, due, land) = (reached(&compares), due(&compares), land(&compares));
+    let (reached, due, land, lines) = (reached(&compares), due(&compares), land(&compares), lines(&compares));
     print_reached(&reached);
     print_due(&due);
     print_land(&land);
+    print_lines(&lines);
     match result {
+        Ok(()) if reached.iter().any(|call| call[NEVER] > 0) => {
+            println!("{NEVER} was the answer, which it never is.");
+            ExitCode::from(1)
+        }
         Ok(()) if options.parts == ALL && !every_number(&reached) => {
             println!("A number was not reached.");
             ExitCode::from(1)
@@ -123,6 +128,10 @@ fn main() -> ExitCode {
         }
         Ok(()) if options.parts == ALL && land.contains(&0) => {
             println!("Land spelled \" 0000\" was never accepted, refused, read or written back.");
+            ExitCode::from(1)
+        }
+        Ok(()) if options.parts == ALL && lines.contains(&0) => {
+            println!("An unstructured layer was never accepted, refused, read or written back in one of these ways.");
             ExitCode::from(1)
         }
         Ok(()) => {
@@ -166,12 +175,14 @@ fn parts(compares: &mut [Compare], options: &Options) -> Agreed {
     if runs('1') {
         each(compares, one_byte_changes)?;
         each(compares, land_changes)?;
-        told(compares, "every one-byte change of sheet S, and of codes in layer 5");
+        each(compares, unstructured_changes)?;
+        told(compares, "every one-byte change of sheet S, of codes in layer 5, and of what tells of areas under an H1");
     }
     if runs('2') {
         each(compares, |compare| every_field(compare, options.seed..options.seed + few(2, 40)))?;
         each(compares, every_code)?;
-        told(compares, "every field, each interesting value, and every mark");
+        each(compares, every_letter)?;
+        told(compares, "every field, each interesting value, every mark, and letters");
     }
     for path in sheet_paths(options).into_iter().filter(|_| runs('4')) {
         let sheet = std::fs::read(&path).expect("a sheet can be read");
@@ -224,6 +235,11 @@ fn land(compares: &[Compare]) -> [u64; 5] {
     std::array::from_fn(|became| compares.iter().map(|compare| compare.land[became]).sum())
 }
 
+/// What became of unstructured layers, in all comparisons.
+fn lines(compares: &[Compare]) -> [u64; 12] {
+    std::array::from_fn(|became| compares.iter().map(|compare| compare.lines[became]).sum())
+}
+
 fn print_reached(reached: &Reached) {
     print!("number");
     for call in CALLS {
@@ -245,6 +261,10 @@ fn print_due(due: &[u64; 8]) {
 
 fn print_land(land: &[u64; 5]) {
     print_times("land as \" 0000\"", &LAND_BECAME, land);
+}
+
+fn print_lines(lines: &[u64; 12]) {
+    print_times("unstructured layers", &LINES_BECAME, lines);
 }
 
 fn print_times(of: &str, names: &[&str], times: &[u64]) {
