@@ -1,7 +1,7 @@
 -- THE THEOREM OF DEMAND 3, no ground lost (RULES 13.3): in every layer of an accepted file the sum of all areas' measures is the sum walked
--- along the lines between an area and the outside, and these are the figures reported. In an unstructured layer both are 0. Both sums are whole numbers that RULES 7 defines
--- from the coordinates (`areasSum` and `outsideSum` of `ground`). By 11, 13, 17 and 18 each side of each line stands once in its area and
--- nowhere else. Assumes nothing.
+-- along the lines between an area and the outside, and these are the figures reported. In an unstructured layer both are 0. Both sums are
+-- whole numbers that RULES 7 defines from the coordinates (`areasSum` and `outsideSum` of `ground`). By 11, 13, 17 and 18 each side of each line
+-- stands once in its area and nowhere else. Assumes nothing.
 use mathlib.Core.List.{List, []}
 use mathlib.Core.Path.{_≡_, refl, sym, _∙_}
 use Prim.Native.Nat.{ℕ, _-_, _≤_}
@@ -46,8 +46,8 @@ unfolding sumsOf
 no-ground-lost file room last h i p q =
     let kept = rules-fine file room last h in
     let same = layer-agrees file room i p q kept in
-    let told : sumsOf file room i ≡ sumsWith Fine (areasSum file (tableOf file) (layerOf file (i - 1))) (outsideSum file (tableOf file) (layerOf file (i - 1))) =
-    rw (← reported file room i p q kept) in
+    let l = layerOf file (i - 1) in
+    let told : sumsOf file room i ≡ sumsWith Fine (areasSum file (tableOf file) l) (outsideSum file (tableOf file) l) = rw (← reported file room i p q kept) in
     (same, told, λ e. told ∙ rw (← same, bare-ground file (passed file room kept) (i - 1) (omega arith) e))
 
 -- so the two figures that are reported are equal, whatever the file, the room and the layer number

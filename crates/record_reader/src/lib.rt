@@ -37,13 +37,7 @@ fn refused(kind: Kind, number: u32, column: usize) -> Reading
 }
 
 // Acceptance with a value.
-fn taken(
-    kind: Kind,
-    numbers: [i32; 16],
-    name: [u8; 40],
-    marks: [u32; 2],
-    letters: u32,
-) -> Reading
+fn taken(kind: Kind, numbers: [i32; 16], name: [u8; 40], marks: [u32; 2], letters: u32) -> Reading
     ensures { λ r. ⌜ r ≡ accepted (record { kind = kind; numbers = numbers; name = name; marks = marks; letters = letters }) ⌝ }
 {
     Reading {

@@ -155,7 +155,8 @@ module _ {d : ℕ} {L : List Field} {ns : List ℤ} {nm ms out : List ℕ} {n m 
     pub letters-next : {y : ℕ} → y ≡ secondLetter b c d → Lines d L ns nm ms (set (set out 0 a) 1 y) n m q (j + 1)
     unfolding fieldFits fieldText
     letters-next {y} s =
-        next (Letters a b c) e refl n m q (omega arith) (omega arith) (omega arith) (set (set out 0 a) 1 y) refl (rw s (two-put out a (secondLetter b c d) (g .long)))
+        next (Letters a b c) e refl n m q (omega arith) (omega arith) (omega arith) (set (set out 0 a) 1 y) refl
+        (rw s (two-put out a (secondLetter b c d) (g .long)))
 
   number-first : {v : ℤ} → v ≡ getD ns n (pos 0) → getD (drop n ns) 0 (pos 0) ≡ v
   number-first p = getD-drop n ns 0 (pos 0) ∙ rw (add-zero, p)

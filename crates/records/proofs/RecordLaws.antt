@@ -11,7 +11,8 @@ use lib.ListN.{length, getD, take, drop, replicate, length-append, take-append-d
 use lib.Seq.{length-sets, getD-at, getD-append-add, drop-cons}
 use borrow.Author.Tests.{eq-eqb, eqb-true}
 use Rattle.records.specs.Layout.{layoutOf, startOf, numbersOf, bytesOf, marksOf, total}
-use Rattle.records.specs.Reading.{lettersFault, headLetters, lettersIn, inLayerFive, numbersIn, nameIn, marksIn, over, firstFault, zeros, noName, unmarked}
+use Rattle.records.specs.Reading.{lettersFault, headLetters, lettersIn, inLayerFive, numbersIn, nameIn, marksIn, over, firstFault}
+use Rattle.records.specs.Reading.{zeros, noName, unmarked}
 use Rattle.records.specs.Reading.{Fault, codeIn, faultOf, faultAt, accepted, refusedAt, valueIn, fieldsBy, fieldsOf, readingOf}
 use Rattle.records.specs.Writing.{secondLetter, fieldText, textOf, fits, recordBytes, ofLayerFive, fieldsFit, lettersFit, fitsAll}
 use Rattle.permitted.specs.Permitted.{isZero, is}
@@ -228,7 +229,9 @@ kept-value k s a =
     let o = over-short marksIn marksOf s (marks-short s) (layoutOf k) in
     let r = fitting k in
     let us = replicate (16 - length ns) (pos 0) in
-    let w = written-read (layoutOf k) 1 (tiled k) s (a .sound) (a .long) (lettersIn k s) (lettered k s) us (replicate (40 - length nm) 0) (replicate (2 - length ks) 0) in
+    let w =
+    written-read (layoutOf k) 1 (tiled k) s (a .sound) (a .long) (lettersIn k s) (lettered k s) us
+    (replicate (40 - length nm) 0) (replicate (2 - length ks) 0) in
     let u = laid (pos 0) 16 (over numbersIn (layoutOf k) s) (omega arith) in
     let v = laid 0 40 (over nameIn (layoutOf k) s) (omega arith) in
     let x = laid 0 2 (over marksIn (layoutOf k) s) (omega arith) in (

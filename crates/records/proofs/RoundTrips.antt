@@ -38,7 +38,7 @@ use Rattle.fields.proofs.Places.{both, inside-fits, inside-bounds, bytes-length
 use Rattle.codes.proofs.CodeLaws.{code-says, code-read, spell-code-length}
 use Rattle.records.proofs.Layouts.{isField, tiles, tile}
 
--- ---- one field: reading what was written
+-- ---- one field: reading what was written; d are the letters that are written
 
 first-of : {A : Type 0} (d : A) (l : List A) → 1 ≤ length l → getD l 0 d ∷ [] ≡ take 1 l
 first-of d [] h = absurd (omega arith)
@@ -77,7 +77,8 @@ code-fit five c w ns nm ms h =
     record { some = leb-true _ _ (l .0); marked = leb-true _ _ (l .1); held = q .0; allowed = q .1 }
 
 -- what fits a field fills it
-pub field-length : (d : ℕ) (five : Bool) (f : Field) (ns : List ℤ) (nm ms : List ℕ) → fieldFits five f ns nm ms ≡ true → length (fieldText d f ns nm ms) ≡ widthOf f
+pub field-length : (d : ℕ) (five : Bool) (f : Field) (ns : List ℤ) (nm ms : List ℕ) → fieldFits five f ns nm ms ≡ true
+    → length (fieldText d f ns nm ms) ≡ widthOf f
 unfolding fieldText fieldFits
 field-length d five End ns nm ms h = refl
 field-length d five (Letters a b c) ns nm ms h = refl
@@ -133,7 +134,8 @@ good d five (Blank c w) ns nm ms h p z e y =
 -- ---- any layout: reading what was written
 
 -- what fits fills the layout's columns
-pub text-length : (d : ℕ) (five : Bool) (L : List Field) (ns : List ℤ) (nm ms : List ℕ) → fits five L ns nm ms ≡ true → length (textOf d L ns nm ms) ≡ total widthOf L
+pub text-length : (d : ℕ) (five : Bool) (L : List Field) (ns : List ℤ) (nm ms : List ℕ) → fits five L ns nm ms ≡ true
+    → length (textOf d L ns nm ms) ≡ total widthOf L
 unfolding textOf fits total
 text-length d five [] ns nm ms h = refl
 text-length d five (f ∷ fs) ns nm ms h =

@@ -43,9 +43,10 @@ use Rattle.judge.specs.Rulebook.{late, rulesOf, callVerdict, verdictOf}
 use Rattle.judge.specs.Outcomes.{outcomeBehind, tableBehind, outcomeOf, tableAfter, measuresOf, measuresAfter, sumsOf}
 use Rattle.judge.specs.Outcomes.{outcomeOfAll, pairsTo, allSumsOf, sumsAfter}
 use Rattle.judge.specs.declared.Outcome.{Outcome}
-use Rattle.sheets.specs.Sheets.{writtenAs, written, mRecord, hRecord, nRecord, lRecord, points, aRecord, loopRecord, sheetS, changed, withMesh, Case, sheet}
-use Rattle.sheets.specs.Sheets.{field, codeField, number, also, landSheet, bareSheet, bareFive, cases}
-use Rattle.sheets.specs.Sheets.{twoMeshes, twoLayers, landLayer, bareMeshes, node, line, coordinates, area, loop, heads, sheetT, shore, sheetU, withoutHole, further}
+use Rattle.sheets.specs.Sheets.{writtenAs, written, mRecord, hRecord, nRecord, lRecord, points, aRecord, loopRecord, sheetS, changed, withMesh}
+use Rattle.sheets.specs.Sheets.{Case, sheet, field, codeField, number, also, landSheet, bareSheet, bareFive, cases}
+use Rattle.sheets.specs.Sheets.{twoMeshes, twoLayers, landLayer, bareMeshes}
+use Rattle.sheets.specs.Sheets.{node, line, coordinates, area, loop, heads, sheetT, shore, sheetU, withoutHole, further}
 
 -- what has to compute, under four names: a line that names one of them opens all that its own line names
 
@@ -57,7 +58,8 @@ writing = tt
 
 -- how a file is walked
 unfoldable pub walking : Unit {0}
-unfolding isInside bytesAt afterBlanks digitsOf plainOf signedOf numberOf numberAt recordOf headLetters sizeIn dueOf nextOf stateAt layerWords countsAt recordsOf
+unfolding isInside bytesAt afterBlanks digitsOf plainOf signedOf numberOf numberAt recordOf headLetters sizeIn dueOf nextOf stateAt layerWords countsAt
+    recordsOf
 walking = tt
 
 -- the rules

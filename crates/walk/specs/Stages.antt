@@ -2,7 +2,7 @@
 -- the need. Assumes nothing.
 --   recordsOf file      how many records are judged: those that there are, and no more than there may be
 --   stageOne file       refusals 1 and 2
---   stageTwo file       refusals 3 to 8
+--   stageTwo file       refusals 3 to 6, and 8
 --   walkedOf file       the first broken rule of both, and the counts of a file that keeps them
 --   early file room     the rules of both, and refusal 9 for a table of `room` words
 --   needOf file         the words that the file needs; 0 for a file refused in stage 1 or 2

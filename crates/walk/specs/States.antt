@@ -219,7 +219,14 @@ countedFor (Layer last) c t = record {
   words = c .words + layerWords t;
 }
 countedFor (Node layer last) c t = record { meshes = c .meshes; layers = c .layers; nodes = c .nodes + 1; lines = c .lines; areas = c .areas; words = c .words }
-countedFor (Line layer last letters) c t = record { meshes = c .meshes; layers = c .layers; nodes = c .nodes; lines = c .lines + 1; areas = c .areas; words = c .words }
+countedFor (Line layer last letters) c t = record {
+  meshes = c .meshes;
+  layers = c .layers;
+  nodes = c .nodes;
+  lines = c .lines + 1;
+  areas = c .areas;
+  words = c .words;
+}
 countedFor (Coordinates left) c t = c
 countedFor (Area layer last) c t = record { meshes = c .meshes; layers = c .layers; nodes = c .nodes; lines = c .lines; areas = c .areas + 1; words = c .words }
 countedFor (Loop last count left) c t = c

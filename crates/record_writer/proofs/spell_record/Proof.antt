@@ -30,7 +30,8 @@ letters-is : (c : tie.After-f Inv-loop μ-loop)
 letters-is c = sym (c .f .given .1) ∙ c .before .before .field-of .ensures
 
 letters-room : (c : tie.After-f Inv-loop μ-loop)
-    → Room (layoutOf (c .before .before .before .before .before .before .before .args .r .kind)) (Letters (c .f .given .0 .0) (c .f .given .0 .1 .0) (c .f .given .0 .1 .1 .0))
+    → Room (layoutOf (c .before .before .before .before .before .before .before .args .r .kind))
+    (Letters (c .f .given .0 .0) (c .f .given .0 .1 .0) (c .f .given .0 .1 .1 .0))
     (c .before .before .before .loop .n) (c .before .before .before .loop .m) (c .before .before .before .loop .q) (c .before .before .before .loop .j)
 letters-room c = room (c .before .before .before .loop .inv) _ (letters-is c) refl
 

@@ -216,7 +216,8 @@ loop-again-2 c =
     let l = r .before .before .before .before .before in
     rw (toZ-ofZ {w = w32} (record { sfits = k .known-told3 .given .0 .1 }))
     (number-next (l .loop .inv) _ _ (number-is (r .before .before)) (r .read-number .ensures) _ (k .before .answer .given .1)
-    ((rw (toZ-ofZ {w = w32} (record { sfits = k .known-told3 .given .0 .1 })) at (c .before .value-fault .ensures)) ∙ ap firstAsked (asked-by _ _ (letters-are l) _ _))
+    ((rw (toZ-ofZ {w = w32} (record { sfits = k .known-told3 .given .0 .1 })) at (c .before .value-fault .ensures))
+    ∙ ap firstAsked (asked-by _ _ (letters-are l) _ _))
     (c .if2 .left))
 
 enum-known-f-3 : tie.Need-enum-known-f-3 Inv-loop μ-loop
@@ -346,7 +347,8 @@ loop-again-5 c =
     let l = r .before .before .before .before .before in
     rw (toZ-ofZ {w = w32} (record { sfits = k .known-told7 .given .0 .1 }))
     (code-next (l .loop .inv) _ _ (code-is (r .before .before)) (r .read-code .ensures) _ _ (k .before .answer2 .given .1)
-    ((rw (toZ-ofZ {w = w32} (record { sfits = k .known-told7 .given .0 .1 })) at (c .before .value-fault2 .ensures)) ∙ ap firstAsked (asked-by _ _ (letters-are l) _ _))
+    ((rw (toZ-ofZ {w = w32} (record { sfits = k .known-told7 .given .0 .1 })) at (c .before .value-fault2 .ensures))
+    ∙ ap firstAsked (asked-by _ _ (letters-are l) _ _))
     (c .if3 .left))
 
 pub judge-record-spec : {M : Type 1} → statement M

@@ -33,8 +33,11 @@ put-row-requires c κs =
     let a = c .before .before .before .before .before .before in
     let r = rw (a .enum-told2 .given .1) at (a .before .before .before .before .pre .room) in (
       omega (arith, r),
-      (c .before .before .before .before .before .size-at .ensures .1, c .before .before .before .before .size-at2 .ensures .1,
-          c .before .before .before .size-at3 .ensures .1),
+      (
+        c .before .before .before .before .before .size-at .ensures .1,
+        c .before .before .before .before .size-at2 .ensures .1,
+        c .before .before .before .size-at3 .ensures .1,
+      ),
     )
 
 enum-told-3 : tie.Need-enum-told-3
