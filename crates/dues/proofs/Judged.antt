@@ -1,33 +1,23 @@
 -- The kind that is told of a record and what is judged there. Stage 2 judges each record by what the walk says is due, and what is told is its
 -- kind; so the rules go along that kind's layout, a record that keeps them is read by it, and the end is judged by what is told behind the
 -- last record. Assumes nothing.
-use mathlib.Core.Bool.{Bool, true, false, cond, not, _&&_, false≢true, _||_}
+use mathlib.Core.Bool.{Bool, true, false, cond}
 use mathlib.Core.List.{List, [], _∷_}
 use mathlib.Core.Path.{_≡_, refl, sym, _∙_}
 use Prim.Native.Nat.{ℕ, suc, _+_, _≤_, _<_}
 use native.Mathlib.Omega.{arith}
-use lib.Dec.{eqb}
 use lib.IntN.{ℤ}
-use lib.ListN.{length, getD}
+use lib.ListN.{length}
 use borrow.Author.Tests.{eq-eqb}
-use Rattle.fields.specs.Number.{numberAt}
-use Rattle.fields.specs.Text.{isName, isBlanks, textAt}
-use Rattle.fields.specs.Answer.{numberRefusal, textRefusal}
-use Rattle.codes.specs.Code.{codeRefusal}
-use Rattle.codes.specs.declared.Code.{Code}
-use Rattle.codes.specs.declared.Code.the-variants as code
-use Rattle.fields.specs.declared.Number.{Number}
-use Rattle.fields.specs.declared.Number.the-variants as number
-use Rattle.fields.specs.declared.Text.{Text}
-use Rattle.fields.specs.declared.Text.the-variants as text
 use Rattle.records.specs.declared.Field.{Field}
 use Rattle.records.specs.declared.Field.the-variants as field
 use Rattle.records.specs.declared.Kind.{Kind}
 use Rattle.records.specs.declared.Kind.the-variants as kind
 use Rattle.records.specs.Layout.{layoutOf}
-use Rattle.records.specs.Reading.{codeIn, faultOf, firstFault, noFault, zeros, fieldsOf, readingOf}
+use Rattle.records.specs.Reading.{faultOf, firstFault, noFault, zeros, fieldsOf, readingOf}
 use Rattle.records.specs.View.{recordOf}
 use Rattle.records.proofs.Numbers.{record-length}
+use Rattle.records.proofs.RecordLaws.{fault-free}
 use Rattle.verdict.specs.declared.Verdict.the-variants.{Fine, Broken}
 use Rattle.verdict.specs.Rules.{firstBroken, check, block, rows}
 use Rattle.verdict.proofs.Parts.{in-turn, both-fine, check-none, check-kept, check-broken}
@@ -58,33 +48,16 @@ module _ (file : List ℕ) (k : ℕ) {j : Kind} (e : dueAt file (k + 1) ≡ A j)
 
 -- ---- the reader
 
--- a fault that is none of those that are asked about is none at all
-text-free : (x : Text) → not (eqb (textRefusal x) 5) ≡ true → textRefusal x ≡ 0
-text-free text.WellFormed h = refl
-text-free text.Refused h = absurd (false≢true h)
-
-number-free : (x : Number) → not (eqb (numberRefusal x) 5) ≡ true → numberRefusal x ≡ 0
-number-free (number.Value v) h = refl
-number-free number.Refused h = absurd (false≢true h)
-
-code-free : (x : Code) → not (eqb (codeRefusal x) 5) ≡ true → codeRefusal x ≡ 0
-code-free (code.Value v m) h = refl
-code-free code.Refused h = absurd (false≢true h)
-
-letters-free : (p : Bool) → not (eqb (cond p 0 3) 3) ≡ true → _≡_ {A = ℕ} (cond p 0 3) 0
-letters-free true h = refl
-letters-free false h = absurd (false≢true h)
-
 module _ (t : List ℕ) where
   -- a field whose form is kept has no fault
   formed : (f : Field) → Holding (formChecks f t) → faultOf f t ≡ 0
   unfolding formChecks faultOf
   formed field.End h = refl
-  formed (field.Letters a b c) h = letters-free (eqb (getD t 0 0) a && (eqb (getD t 1 0) b || eqb (getD t 1 0) c)) (h .0)
-  formed (field.Number c w) h = number-free (numberAt t c w) (h .0)
-  formed (field.Code c w) h = code-free (codeIn t c w) (h .0)
-  formed (field.Name c w) h = text-free (textAt isName t c w) (h .0)
-  formed (field.Blank c w) h = text-free (textAt isBlanks t c w) (h .0)
+  formed (field.Letters a b c) h = fault-free (field.Letters a b c) t (h .0)
+  formed (field.Number c w) h = fault-free (field.Number c w) t (h .0)
+  formed (field.Code c w) h = fault-free (field.Code c w) t (h .0)
+  formed (field.Name c w) h = fault-free (field.Name c w) t (h .0)
+  formed (field.Blank c w) h = fault-free (field.Blank c w) t (h .0)
 
   end-none : faultOf field.End t ≡ 0
   unfolding faultOf

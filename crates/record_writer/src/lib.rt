@@ -72,15 +72,10 @@ fn may_mark(five: bool, mark: u32) -> bool
 fn may_letter(kind: Kind, letters: u32) -> bool
     ensures { λ r. ⌜ r ≡ lettersFit kind letters ⌝ }
 {
-    match kind {
-        Kind::Mesh => letters == 0,
-        Kind::Layer => (letters == 1) | (letters == 2),
-        Kind::Node => letters == 0,
-        Kind::Line => letters == 0,
-        Kind::Coordinates => letters == 0,
-        Kind::Area => letters == 0,
-        Kind::Loop => letters == 0,
+    if records::is_head(kind) {
+        return (letters == 1) | (letters == 2);
     }
+    letters == 0
 }
 
 // The second type letter, which is `b` or `c`: the letters 2 say `c`.

@@ -1,9 +1,9 @@
 -- THE LAWS OF RECORDS, over all kinds at once. docs/PROMISES.md leads here. Assumes nothing.
-use mathlib.Core.Bool.{Bool, true, false, cond, _&&_, _||_, false≢true}
+use mathlib.Core.Bool.{Bool, true, false, cond, _&&_, _||_, not, false≢true}
 use mathlib.Core.List.{List, [], _∷_, _++_}
-use mathlib.Core.Logic.{⊎-elim}
+use mathlib.Core.Logic.{_⊎_, inl, inr, ⊎-elim}
 use mathlib.Core.Path.{_≡_, refl, sym, ap, _∙_}
-use Prim.Native.Nat.{ℕ, zero, suc, _+_, _-_}
+use Prim.Native.Nat.{ℕ, zero, suc, _+_, _-_, _≤_}
 use native.Mathlib.Omega.{arith}
 use lib.Dec.{eqb}
 use lib.IntN.{ℤ, pos}
@@ -256,33 +256,57 @@ reading-only k s r z q h e = rw (← q, ← e) (written-then-read r z h)
 pub reading-refused : (k : Kind) (s : List ℕ) (r : Record) → Sized r → r .kind ≡ k → fitsAll r ≡ true → recordBytes r ≡ s → (readingOf k s .number ≡ 0 → ⊥) → ⊥
 reading-refused k s r z q h e n = n (rw (reading-only k s r z q h e))
 
+-- ---- what a field gives: nothing, or the one refusal that it has, 3 of letters and 5 of any other
+
+abbrev pub refusalOf : Field → ℕ
+refusalOf End = 0
+refusalOf (Letters a b c) = 3
+refusalOf (Number c w) = 5
+refusalOf (Code c w) = 5
+refusalOf (Name c w) = 5
+refusalOf (Blank c w) = 5
+
+letters-one : (t : Bool) → (_≡_ {A = ℕ} (cond t 0 3) 0) ⊎ (_≡_ {A = ℕ} (cond t 0 3) 3)
+letters-one true = inl refl
+letters-one false = inr refl
+
+number-one : (r : numbers.Number) → (numberRefusal r ≡ 0) ⊎ (numberRefusal r ≡ 5)
+number-one (number.Value v) = inl refl
+number-one number.Refused = inr refl
+
+code-one : (r : codes-code.Code) → (codeRefusal r ≡ 0) ⊎ (codeRefusal r ≡ 5)
+code-one (code.Value v m) = inl refl
+code-one code.Refused = inr refl
+
+text-one : (r : texts.Text) → (textRefusal r ≡ 0) ⊎ (textRefusal r ≡ 5)
+text-one text.WellFormed = inl refl
+text-one text.Refused = inr refl
+
+fault-one : (f : Field) (s : List ℕ) → (faultOf f s ≡ 0) ⊎ (faultOf f s ≡ refusalOf f)
+unfolding faultOf
+fault-one End s = inl refl
+fault-one (Letters a b c) s = letters-one (eqb (getD s 0 0) a && (eqb (getD s 1 0) b || eqb (getD s 1 0) c))
+fault-one (Number c w) s = number-one (numberAt s c w)
+fault-one (Code c w) s = code-one (codeIn s c w)
+fault-one (Name c w) s = text-one (textAt isName s c w)
+fault-one (Blank c w) s = text-one (textAt isBlanks s c w)
+
+-- where it does not give its own refusal, it gives none
+pub fault-free : (f : Field) (s : List ℕ) → not (eqb (faultOf f s) (refusalOf f)) ≡ true → faultOf f s ≡ 0
+fault-free f s h = ⊎-elim (λ e. e) (λ e. absurd (false≢true (rw (eq-eqb (faultOf f s) (refusalOf f) e) at h))) (fault-one f s)
+
 -- ---- the number 7
 
--- a field gives 3, 5 or nothing
-letters-not : (t : Bool) → _≡_ {A = ℕ} (cond t 0 3) 7 → ⊥
-letters-not true e = omega arith
-letters-not false e = omega arith
-
-number-not : (r : numbers.Number) → numberRefusal r ≡ 7 → ⊥
-number-not (number.Value v) e = omega arith
-number-not number.Refused e = omega arith
-
-code-not : (r : codes-code.Code) → codeRefusal r ≡ 7 → ⊥
-code-not (code.Value v m) e = omega arith
-code-not code.Refused e = omega arith
-
-text-not : (r : texts.Text) → textRefusal r ≡ 7 → ⊥
-text-not text.WellFormed e = omega arith
-text-not text.Refused e = omega arith
+refusal-small : (f : Field) → refusalOf f ≤ 5
+refusal-small End = omega arith
+refusal-small (Letters a b c) = omega arith
+refusal-small (Number c w) = omega arith
+refusal-small (Code c w) = omega arith
+refusal-small (Name c w) = omega arith
+refusal-small (Blank c w) = omega arith
 
 field-not : (f : Field) (s : List ℕ) → faultOf f s ≡ 7 → ⊥
-unfolding faultOf
-field-not End s e = omega arith
-field-not (Letters a b c) s e = letters-not (eqb (getD s 0 0) a && (eqb (getD s 1 0) b || eqb (getD s 1 0) c)) e
-field-not (Number c w) s e = number-not (numberAt s c w) e
-field-not (Code c w) s e = code-not (codeIn s c w) e
-field-not (Name c w) s e = text-not (textAt isName s c w) e
-field-not (Blank c w) s e = text-not (textAt isBlanks s c w) e
+field-not f s e = ⊎-elim (λ z. omega arith) (λ z. omega (arith, refusal-small f)) (fault-one f s)
 
 first-not : (n c : ℕ) (p : Fault) → (n ≡ 7 → ⊥) → (p .number ≡ 7 → ⊥) → faultAt n c p .number ≡ 7 → ⊥
 first-not zero c p h g e = g e

@@ -5,7 +5,7 @@
 --   numbersIn, nameIn, marksIn   what the field adds to the record's numbers, its name and its marks
 --   firstFault L s   the first refusal along the layout L, with its column
 --   readingOf k s    the answer to a record of kind k
-use mathlib.Core.Bool.{Bool, cond, _&&_, _||_}
+use mathlib.Core.Bool.{Bool, true, false, cond, _&&_, _||_}
 use mathlib.Core.List.{List, [], _∷_, _++_}
 use Prim.Native.Nat.{ℕ, zero, suc}
 use lib.Dec.{eqb}
@@ -38,15 +38,19 @@ lettersFault a b c x y = cond (eqb x a && (eqb y b || eqb y c)) 0 3
 unfoldable pub headLetters : List ℕ → ℕ
 headLetters s = cond (eqb (getD s 1 0) 49) 1 2
 
+-- RULES 1.7: an H is the kind that has letters of two sorts
+abbrev pub isHead : Kind → Bool
+isHead Mesh = false
+isHead Layer = true
+isHead Node = false
+isHead Line = false
+isHead Coordinates = false
+isHead Area = false
+isHead Loop = false
+
 -- RULES 4.8: what a kind lacks is 0
 abbrev pub lettersIn : Kind → List ℕ → ℕ
-lettersIn Mesh s = 0
-lettersIn Layer s = headLetters s
-lettersIn Node s = 0
-lettersIn Line s = 0
-lettersIn Coordinates s = 0
-lettersIn Area s = 0
-lettersIn Loop s = 0
+lettersIn k s = cond (isHead k) (headLetters s) 0
 
 -- RULES 3.6: the record's layer code, in columns 3-4, reads 5
 unfoldable pub inLayerFive : List ℕ → Bool

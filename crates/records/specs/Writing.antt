@@ -17,11 +17,11 @@ use Rattle.fields.specs.Spelling.{spell}
 use Rattle.fields.specs.Text.{isName}
 use Rattle.codes.specs.Code.{codeHolds, spellCode}
 use Rattle.records.specs.declared.Kind.{Kind}
-use Rattle.records.specs.declared.Kind.the-variants.{Mesh, Layer, Node, Line, Coordinates, Area, Loop}
 use Rattle.records.specs.declared.Field.{Field}
 use Rattle.records.specs.declared.Field.the-variants.{End, Letters, Number, Code, Name, Blank}
 use Rattle.records.specs.declared.Record.{Record}
 use Rattle.records.specs.Layout.{layoutOf, numbersOf, bytesOf, marksOf}
+use Rattle.records.specs.Reading.{isHead}
 
 -- ---- one field, of the numbers, the name bytes and the marks that are left
 
@@ -90,13 +90,7 @@ fieldsFit r = fits (ofLayerFive (r .numbers)) (layoutOf (r .kind)) (r .numbers) 
 
 -- RULES 9.5: the letters of an H are 1 or 2, and those of another kind 0
 abbrev pub lettersFit : Kind → ℕ → Bool
-lettersFit Mesh l = eqb l 0
-lettersFit Layer l = eqb l 1 || eqb l 2
-lettersFit Node l = eqb l 0
-lettersFit Line l = eqb l 0
-lettersFit Coordinates l = eqb l 0
-lettersFit Area l = eqb l 0
-lettersFit Loop l = eqb l 0
+lettersFit k l = cond (isHead k) (eqb l 1 || eqb l 2) (eqb l 0)
 
 unfoldable pub fitsAll : Record → Bool
 fitsAll r = lettersFit (r .kind) (r .letters) && fieldsFit r

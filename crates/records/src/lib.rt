@@ -10,7 +10,7 @@ ghost use mathlib.Core.Path.{_≡_};
 ghost use Prim.Native.Nat.{_≤_};
 ghost use lib.ListN.{getD};
 ghost use Rattle.records.specs.Layout.{meshLayout, layerLayout, nodeLayout, lineLayout, coordinatesLayout, areaLayout, loopLayout, layoutOf};
-ghost use Rattle.records.specs.Reading.{lettersFault, headLetters, lettersIn, inLayerFive, codeIn};
+ghost use Rattle.records.specs.Reading.{lettersFault, headLetters, isHead, lettersIn, inLayerFive, codeIn};
 ghost use Rattle.records.specs.View.{recordOf, numberIn};
 ghost use Rattle.records.specs.Columns.{slotStart, slotIn};
 
@@ -305,19 +305,29 @@ pub fn head_letters(s: &[u8]) -> u32
     2
 }
 
-// The letters of a record of the kind; 0 where the kind has but one spelling of them, or none.
+// Whether the kind is H, which has letters of two sorts.
+pub fn is_head(kind: Kind) -> bool
+    ensures { λ r. ⌜ r ≡ isHead kind ⌝ }
+{
+    match kind {
+        Kind::Mesh => false,
+        Kind::Layer => true,
+        Kind::Node => false,
+        Kind::Line => false,
+        Kind::Coordinates => false,
+        Kind::Area => false,
+        Kind::Loop => false,
+    }
+}
+
+// The letters of a record of the kind: 1 or 2 of an H, 0 of any other.
 pub fn letters_in(kind: Kind, s: &[u8]) -> u32
     ensures { λ r. ⌜ r ≡ lettersIn kind (now (s .entry)) ⌝ }
 {
-    match kind {
-        Kind::Mesh => 0,
-        Kind::Layer => head_letters(s),
-        Kind::Node => 0,
-        Kind::Line => 0,
-        Kind::Coordinates => 0,
-        Kind::Area => 0,
-        Kind::Loop => 0,
+    if is_head(kind) {
+        return head_letters(s);
     }
+    0
 }
 
 // ---- codes

@@ -1,69 +1,20 @@
--- `records::letters_in` meets its contract: an H has letters, and no other kind has. Assumes nothing.
+-- `records::letters_in` meets its contract: its test is the definition's. Assumes nothing.
+use mathlib.Core.Path.{sym}
 use borrow.Author.Needs.{needs}
 use Rattle.records.proofs.letters_in.Statement.{statement}
 use Rattle.records.proofs.letters_in.Tie as tie
 
-enum-told : tie.Need-enum-told
-enum-told c = search needs
-
-enum-told-2 : tie.Need-enum-told-2
-enum-told-2 c = search needs
+is-head-requires : tie.Need-is-head-requires
+is-head-requires c κs = search needs
 
 head-letters-requires : tie.Need-head-letters-requires
 head-letters-requires c κs = search needs
 
-enum-told-3 : tie.Need-enum-told-3
-enum-told-3 c = search needs
-
-enum-told-4 : tie.Need-enum-told-4
-enum-told-4 c = search needs
-
-enum-told-5 : tie.Need-enum-told-5
-enum-told-5 c = search needs
-
-enum-told-6 : tie.Need-enum-told-6
-enum-told-6 c = search needs
-
-enum-told-7 : tie.Need-enum-told-7
-enum-told-7 c = search needs
-
 returns : tie.Need-returns
-returns c = search needs
+returns c = rw (sym (c .before .before .is-head .ensures), c .before .if1 .taken) (c .head-letters .ensures)
 
 returns-2 : tie.Need-returns-2
-returns-2 c = rw (c .before .enum-told2 .given .1) (c .head-letters .ensures)
-
-returns-3 : tie.Need-returns-3
-returns-3 c = search needs
-
-returns-4 : tie.Need-returns-4
-returns-4 c = search needs
-
-returns-5 : tie.Need-returns-5
-returns-5 c = search needs
-
-returns-6 : tie.Need-returns-6
-returns-6 c = search needs
-
-returns-7 : tie.Need-returns-7
-returns-7 c = search needs
+returns-2 c = rw (sym (c .before .is-head .ensures), c .if1 .left)
 
 pub letters-in-spec : {M : Type 1} → statement M
-letters-in-spec =
-    tie.close
-    (tie.spec
-    enum-told
-    enum-told-2
-    head-letters-requires
-    enum-told-3
-    enum-told-4
-    enum-told-5
-    enum-told-6
-    enum-told-7
-    returns
-    returns-2
-    returns-3
-    returns-4
-    returns-5
-    returns-6
-    returns-7)
+letters-in-spec = tie.close (tie.spec is-head-requires head-letters-requires returns returns-2)
