@@ -27,7 +27,7 @@ withoutFive = take (74 * 4) sheetS ++ drop (74 * 5) sheetS
 pub sheet-dues :
     (owedOf sheetS ≡ begun (A Loop ∷ A Mesh ∷ Nothing ∷ []))
     × (owedOf withoutFive ≡ begun (A Mesh ∷ Nothing ∷ Nothing ∷ []))
-    × (owedOf (withMesh 533945 2 7) ≡ begun (A Loop ∷ A Layer ∷ Nothing ∷ []))
+    × (owedOf (withMesh 533945 2 6) ≡ begun (A Loop ∷ A Layer ∷ Nothing ∷ []))
     × (owedOf [] ≡ Nothing ∷ A Mesh ∷ Nothing ∷ Nothing ∷ Nothing ∷ Nothing ∷ Nothing ∷ Nothing ∷ Nothing ∷ Nothing ∷ [])
 unfolding writing walking dueAt
 sheet-dues = (refl, refl, refl, refl)

@@ -135,7 +135,7 @@ pub sheet-words :
     (tableAfter sheetS 1 (replicate 6 99) ≡ replicate 6 99)
     × (tableAfter sheetS 1 (replicate 8 99) ≡ 2 ∷ 1 ∷ 1 ∷ 1 ∷ 2 ∷ 4 ∷ 6 ∷ 99 ∷ [])
     × (tableAfter sheetS 0 (replicate 8 99) ≡ 2 ∷ 1 ∷ 1 ∷ 1 ∷ 2 ∷ 4 ∷ 6 ∷ 99 ∷ [])
-    × (tableAfter (withMesh 533945 1 6) 1 (replicate 8 99) ≡ 2 ∷ 1 ∷ 1 ∷ 1 ∷ 2 ∷ 4 ∷ 6 ∷ 99 ∷ [])
+    × (tableAfter (withMesh 533945 1 7) 1 (replicate 8 99) ≡ 2 ∷ 1 ∷ 1 ∷ 1 ∷ 2 ∷ 4 ∷ 6 ∷ 99 ∷ [])
 unfolding writing judging tableBehind
 sheet-words = (refl, refl, refl, refl)
 

@@ -79,8 +79,8 @@ loopRecord count entry = written Loop (pos 1 ∷ pos count ∷ entry ∷ [])
 -- RULES 11.1: sheet S, seven records
 unfoldable pub sheetS : List ℕ
 sheetS =
-    mRecord 533945 1 7
-    ++ (hRecord 6
+    mRecord 533945 1 6
+    ++ (hRecord 5
     ++ (nRecord 1 1 2 (negsuc 0)
     ++ (lRecord 88888 0 13101 1
     ++ (points 0 0
@@ -113,8 +113,8 @@ landSheet left right own =
 -- RULES 11.4: records 1 to 5 of S, with H1, no areas, and 0 for both codes and both area numbers of the L
 unfoldable pub bareSheet : List ℕ
 bareSheet =
-    written Mesh (pos 533945 ∷ pos 1 ∷ pos 1 ∷ pos 1 ∷ pos 0 ∷ pos 0 ∷ pos 5 ∷ [])
-    ++ (writtenAs 1 Layer (pos 1 ∷ pos 1 ∷ pos 1 ∷ pos 0 ∷ pos 0 ∷ pos 4 ∷ pos 0 ∷ pos 0 ∷ [])
+    written Mesh (pos 533945 ∷ pos 1 ∷ pos 1 ∷ pos 1 ∷ pos 0 ∷ pos 0 ∷ pos 4 ∷ [])
+    ++ (writtenAs 1 Layer (pos 1 ∷ pos 1 ∷ pos 1 ∷ pos 0 ∷ pos 0 ∷ pos 3 ∷ pos 0 ∷ pos 0 ∷ [])
     ++ (nRecord 1 1 2 (negsuc 0)
     ++ (lRecord 0 0 0 0
     ++ points 0 0)))
@@ -141,7 +141,7 @@ pub data Case : Type 0 where
 unfoldable pub cases : List Case
 cases =
     sheet sheetS Fine  -- S is accepted
-    ∷ sheet (withMesh 533945 1 6) (Broken 10 1 52)  -- M's records 6: 10 at 1,52
+    ∷ sheet (withMesh 533945 1 7) (Broken 10 1 52)  -- M's records 7: 10 at 1,52
     ∷ sheet (changed 3 1 (nRecord 1 0 2 (negsuc 0))) (Broken 6 3 22)  -- frame 0: 6 at 3,22
     ∷ sheet (changed 3 1 (nRecord 1 1 1 (pos 0))) (Broken 14 4 24)  -- node count 1, second slot 0: 14 at 4,24
     ∷ sheet (changed 5 1 (points 1 0)) (Broken 12 5 41)  -- last point (0,1): 12 at 5,41
@@ -150,7 +150,7 @@ cases =
     ∷ sheet (changed 4 1 (lRecord 13101 1 88888 0)) (Broken 17 7 10)  -- left and right exchanged: 17 at 7,10
     ∷ sheet (take (74 * 6) sheetS) (Broken 4 7 1)  -- without record 7: 4 at 7,1
     ∷ sheet (changed 2 2 (49 ∷ [])) (Broken 6 2 15)  -- H1: 6 at 2,15
-    ∷ sheet (withMesh 533985 1 7) (Broken 6 1 3)  -- mesh 533985: 6 at 1,3
+    ∷ sheet (withMesh 533985 1 6) (Broken 6 1 3)  -- mesh 533985: 6 at 1,3
     ∷ field (32 ∷ 32 ∷ 32 ∷ 45 ∷ 49 ∷ []) (Value (negsuc 0))  -- width 5: "   -1" is -1
     ∷ field (48 ∷ 48 ∷ 48 ∷ 48 ∷ 49 ∷ []) Refused  -- "00001" is 5
     ∷ field (32 ∷ 32 ∷ 32 ∷ 45 ∷ 48 ∷ []) Refused  -- "   -0" is 5
@@ -182,11 +182,11 @@ cases =
 
 -- RULES 2.2: meshes follow one another, codes rise strictly, the first four digits are the same
 unfoldable pub twoMeshes : List ℕ
-twoMeshes = sheetS ++ withMesh 533946 1 7
+twoMeshes = sheetS ++ withMesh 533946 1 6
 
 -- RULES 1.7: layers 1 and 5 in one mesh, those of two sheets, the one structured and the other not
 unfoldable pub twoLayers : List ℕ → List ℕ → List ℕ
-twoLayers one other = written Mesh (pos 533945 ∷ pos 2 ∷ pos 2 ∷ pos 2 ∷ pos 1 ∷ pos 0 ∷ pos 11 ∷ []) ++ (drop 74 one ++ drop 74 other)
+twoLayers one other = written Mesh (pos 533945 ∷ pos 2 ∷ pos 2 ∷ pos 2 ∷ pos 1 ∷ pos 0 ∷ pos 10 ∷ []) ++ (drop 74 one ++ drop 74 other)
 
 unfoldable pub landLayer : List ℕ
 landLayer = landSheet (number 88888) landText (number 0)
@@ -224,8 +224,8 @@ loop serial es = written Loop (serial ∷ pos (length es) ∷ es)
 -- a mesh and its layer: nodes, lines, areas, and the records behind the H
 unfoldable pub heads : ℕ → ℕ → ℕ → ℕ → List ℕ
 heads nodes lines areas behind =
-    written Mesh (pos 533945 ∷ pos 1 ∷ pos nodes ∷ pos lines ∷ pos areas ∷ pos 0 ∷ pos (2 + behind) ∷ [])
-    ++ writtenAs 2 Layer (pos 1 ∷ pos nodes ∷ pos lines ∷ pos areas ∷ pos 0 ∷ pos (1 + behind) ∷ pos 0 ∷ pos 0 ∷ [])
+    written Mesh (pos 533945 ∷ pos 1 ∷ pos nodes ∷ pos lines ∷ pos areas ∷ pos 0 ∷ pos (1 + behind) ∷ [])
+    ++ writtenAs 2 Layer (pos 1 ∷ pos nodes ∷ pos lines ∷ pos areas ∷ pos 0 ∷ pos behind ∷ pos 0 ∷ pos 0 ∷ [])
 
 -- sheet T: the frame is cut at two corners into two lines, and the area's loop has the entries es
 unfoldable pub sheetT : List ℤ → List ℕ
@@ -286,13 +286,13 @@ further =
     ∷ (sheetS ++ (32 ∷ []), Broken 1 8 1)  -- one byte more
     ∷ (changed 3 74 (32 ∷ []), Broken 2 3 74)  -- byte 74 of record 3 a space
     ∷ (changed 4 1 (65 ∷ []), Broken 3 4 1)  -- "A " where an L is due
-    ∷ (withMesh 533945 2 7, Broken 4 8 1)  -- layers 2: a second H is due
+    ∷ (withMesh 533945 2 6, Broken 4 8 1)  -- layers 2: a second H is due
     ∷ (changed 3 7 (48 ∷ 48 ∷ 48 ∷ 48 ∷ 49 ∷ []), Broken 5 3 7)  -- the node's serial as "00001"
     ∷ (changed 7 1 (loopRecord 2 (pos 1)), Broken 6 7 15)  -- loop count 2, slot two 0
-    ∷ (sheetS ++ withMesh 533939 1 7, Broken 6 8 3)  -- a mesh code that is not permitted (6) and below the last (8)
+    ∷ (sheetS ++ withMesh 533939 1 6, Broken 6 8 3)  -- a mesh code that is not permitted (6) and below the last (8)
     ∷ (changed 3 1 (nRecord 5 1 2 (negsuc 0)), Broken 8 3 3)  -- the node's layer code 5
     ∷ (sheetS ++ sheetS, Broken 8 8 3)  -- the same mesh code again
-    ∷ (changed 2 1 (hRecord 7), Broken 10 2 25)  -- H records 7
+    ∷ (changed 2 1 (hRecord 6), Broken 10 2 25)  -- H records 6: the H itself would be counted
     ∷ (changed 6 1 (aRecord 2), Broken 10 6 29)  -- A lines 2
     ∷ (changed 3 26 (number 2), Broken 11 3 26)  -- a node entry that names no line
     ∷ (changed 4 18 (number 2), Broken 11 4 18)  -- start node 2: the node's own check waits
@@ -308,4 +308,9 @@ further =
     ∷ (sheetU 1 (negsuc 1 ∷ []) (pos 2 ∷ []), Broken 12 7 40)  -- the shore's right area has another code
     ∷ (sheetU 2 (negsuc 1 ∷ []) (pos 1 ∷ []), Broken 17 13 10)  -- the frame in the inner area, which is not its right
     ∷ (withoutHole, Broken 18 7 35)  -- the shore's left area doesn't list it
+    ∷ (also (withMesh 533945 1 7) 2 25 (number 6), Broken 10 1 52)  -- S, where M and H count themselves
+    ∷ (withMesh 533945 1 5, Broken 10 1 52)  -- M records 5: its H would not be counted
+    ∷ (sheetS ++ withMesh 533946 1 7, Broken 10 8 52)  -- the second M counts itself
+    ∷ (heads 0 0 0 0, Fine)  -- an H alone: its records are 0, its M's are 1
+    ∷ (also (heads 0 0 0 0) 2 25 (number 1), Broken 10 2 25)  -- an H alone that counts itself
     ∷ []

@@ -26,7 +26,7 @@ use Rattle.walk.specs.Quiet.{isQuiet, Quiet}
 use Rattle.walk.proofs.Walking.{size-small}
 use Rattle.walk.proofs.Passing.{by-quiet, quiet-is, passed-due, passed-rows}
 use Rattle.totals.specs.declared.Sums.{Sums}
-use Rattle.totals.specs.Totals.{rankOf, noSums, oneMore, addedFor, sumsFrom, sumsBehind, withBearer, totalCheck}
+use Rattle.totals.specs.Totals.{rankOf, noSums, oneMore, addedFor, sumsFrom, sumsBehind, totalCheck}
 use Rattle.totals.specs.Totals.{meshTotals, layerTotals, areaTotals, totalChecks, fourth, stageThree}
 use Rattle.totals.specs.Adding.{Addable}
 
@@ -164,10 +164,10 @@ module _ (file : List ℕ) (k : ℕ) {d : Due} {t : List ℕ} {s : Sums} {v : Ve
       → v ≡ firstBroken (block fourth (k + 1) (meshTotals t s)) → v ≡ firstBroken (block fourth (k + 1) (totalChecks d file k))
   mesh-arm e f g h = rw (e, ← f, ← g) h
 
-  pub layer-arm : {last n : ℕ} → d ≡ Layer last → t ≡ recordOf file (k + 1) → s ≡ sumsBehind 1 file (k + 1) → n ≡ withBearer (s .records)
-      → v ≡ firstBroken (block fourth (k + 1) (totalCheck t layerRecords n ∷ [])) → v ≡ firstBroken (block fourth (k + 1) (totalChecks d file k))
+  pub layer-arm : {last : ℕ} → d ≡ Layer last → t ≡ recordOf file (k + 1) → s ≡ sumsBehind 1 file (k + 1)
+      → v ≡ firstBroken (block fourth (k + 1) (totalCheck t layerRecords (s .records) ∷ [])) → v ≡ firstBroken (block fourth (k + 1) (totalChecks d file k))
   unfolding layerTotals
-  layer-arm e f g q h = rw (e, ← f, ← g, ← q) h
+  layer-arm e f g h = rw (e, ← f, ← g) h
 
   pub area-arm : {layer last : ℕ} → d ≡ Area layer last → t ≡ recordOf file (k + 1) → s ≡ sumsBehind 2 file (k + 1)
       → v ≡ firstBroken (block fourth (k + 1) (totalCheck t areaLines (s .entries) ∷ [])) → v ≡ firstBroken (block fourth (k + 1) (totalChecks d file k))

@@ -1,5 +1,5 @@
 -- Stage 3 (RULES 6.6): 10 where a total of an M, an H or an A is not what was counted. M's nodes, lines and areas are the sums of its
--- layers'; A's lines are the sum of its loops' line counts; M's and H's records take in the record that bears the total.
+-- layers'; A's lines are the sum of its loops' line counts; M's and H's records are those that follow in the mesh or layer, the bearer left out.
 -- Assumes nothing.
 --   rankOf d            0 for an M, 1 for an H, 3 for a loop record, 2 for the others
 --   sumsBehind r file k what follows the first k records, up to the next of rank r or above, added up
@@ -74,26 +74,22 @@ sumsBehind r file k = sumsFrom r file k (recordsOf file - k) noSums
 
 -- ---- the checks
 
--- RULES 6.6, ours: a records total takes in the record that bears it
-abbrev pub withBearer : ℕ → ℕ
-withBearer n = n + 1
-
 -- RULES 6.6: 10 at a total that is not n, what was counted
 abbrev pub totalCheck : List ℕ → Column → ℕ → Check
 totalCheck t c n = check (columnOf c) 10 (eqb (sizeAt t c) n)
 
--- RULES 6.6: M's nodes, lines, areas and records
+-- RULES 6.6: M's nodes, lines, areas and records, of what follows it in its mesh: the M itself is no part of it
 unfoldable pub meshTotals : List ℕ → Sums → List Check
 meshTotals t s =
     totalCheck t meshNodes (s .nodes)
     ∷ totalCheck t meshLines (s .lines)
     ∷ totalCheck t meshAreas (s .areas)
-    ∷ totalCheck t meshRecords (withBearer (s .records))
+    ∷ totalCheck t meshRecords (s .records)
     ∷ []
 
--- RULES 6.6: H's records
+-- RULES 6.6: H's records, of what follows it in its layer: the H itself is no part of it
 unfoldable pub layerTotals : List ℕ → Sums → List Check
-layerTotals t s = totalCheck t layerRecords (withBearer (s .records)) ∷ []
+layerTotals t s = totalCheck t layerRecords (s .records) ∷ []
 
 -- RULES 6.6: A's lines
 unfoldable pub areaTotals : List ℕ → Sums → List Check

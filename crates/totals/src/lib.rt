@@ -12,7 +12,7 @@ ghost use Prim.Native.Nat.{_+_, _*_, _≤_, _<_};
 ghost use lib.Dec.{eqb};
 ghost use Rattle.verdict.specs.Rules.{check, firstBroken, block};
 ghost use Rattle.walk.specs.States.{sizeIn, stateAt};
-ghost use Rattle.totals.specs.Totals.{rankOf, noSums, oneMore, layerMore, loopMore, addedFor, sumsBehind, withBearer, meshTotals, totalChecks, fourth, stageThree};
+ghost use Rattle.totals.specs.Totals.{rankOf, noSums, oneMore, layerMore, loopMore, addedFor, sumsBehind, meshTotals, totalChecks, fourth, stageThree};
 ghost use Rattle.totals.specs.Adding.{Addable};
 
 // What follows a record: how many records, the totals of the H records among them, and the line counts of
@@ -122,7 +122,7 @@ fn room_for(rank: usize, left: usize) -> usize
 // rank `rank` or above.
 fn sums_behind(rank: usize, file: &[u8], k: usize, s: State) -> Sums
     requires { ⌜ (k ≤ 6399936) × (s ≡ stateAt (now file) k) ⌝ }
-    ensures { λ r. ⌜ (r ≡ sumsBehind rank (now (file .entry)) k) × (Addable 6399936 r) ⌝ }
+    ensures { λ r. ⌜ r ≡ sumsBehind rank (now (file .entry)) k ⌝ }
 {
     let n = walk::records_of(file);
     let mut sums = no_sums();
@@ -145,14 +145,6 @@ fn sums_behind(rank: usize, file: &[u8], k: usize, s: State) -> Sums
     sums
 }
 
-// A records total by what follows the record that bears it: it takes that record in.
-fn with_bearer(records: usize) -> usize
-    requires { ⌜ records ≤ 999999 * 6399936 ⌝ }
-    ensures { λ r. ⌜ r ≡ withBearer records ⌝ }
-{
-    records + 1
-}
-
 // The total in the columns `c` of the record `t` against what was counted.
 fn judge_total(t: &[u8], c: Columns, counted: usize, row: u32) -> Verdict
     requires { ⌜ c .0 ≤ 74 ⌝ }
@@ -170,7 +162,6 @@ fn judge_total(t: &[u8], c: Columns, counted: usize, row: u32) -> Verdict
 
 // The totals of an M.
 fn judge_mesh(t: &[u8], s: Sums, row: u32) -> Verdict
-    requires { ⌜ Addable 6399936 s ⌝ }
     ensures { λ r. ⌜ r ≡ firstBroken (block fourth row (meshTotals (now (t .entry)) s)) ⌝ }
 {
     let nodes = judge_total(t, records::MESH_NODES, s.nodes, row);
@@ -197,7 +188,7 @@ fn judge_mesh(t: &[u8], s: Sums, row: u32) -> Verdict
     } = areas {
         return areas;
     }
-    judge_total(t, records::MESH_RECORDS, with_bearer(s.records), row)
+    judge_total(t, records::MESH_RECORDS, s.records, row)
 }
 
 // The totals of record `k + 1`, due as `d`; `next` is the state behind it.
@@ -214,7 +205,7 @@ fn judge_totals(d: Due, file: &[u8], k: usize, next: State) -> Verdict
         Due::Layer(_) => {
             let s = sums_behind(1, file, k + 1, next);
             let t = records::record_view(file, k + 1);
-            judge_total(t, records::LAYER_RECORDS, with_bearer(s.records), row)
+            judge_total(t, records::LAYER_RECORDS, s.records, row)
         }
         Due::Node(_, _) => Verdict::Fine,
         Due::Line(_, _, _) => Verdict::Fine,

@@ -52,21 +52,18 @@ returns-3 c =
 enum-told-6 : tie.Need-enum-told-6
 enum-told-6 c = search needs
 
-with-bearer-requires : tie.Need-with-bearer-requires
-with-bearer-requires c κs = search needs
-
 judge-total-requires-4 : tie.Need-judge-total-requires-4
 judge-total-requires-4 c κs = search needs
 
 returns-4 : tie.Need-returns-4
 unfolding meshTotals
 returns-4 c =
-    let e = c .before .before .before .before .before in
+    let e = c .before .before .before .before in
     let t = e .before .before .before in
     part-passes fourth _ _ _ (t .enum-told2 .given .1) (t .before .before .judge-total .ensures)
     (part-passes fourth _ _ _ (e .enum-told4 .given .1) (e .before .before .judge-total2 .ensures)
-    (part-passes fourth _ _ _ (c .before .before .enum-told6 .given .1) (c .before .before .before .before .judge-total3 .ensures)
-    (rw (c .before .with-bearer .ensures) at (c .judge-total4 .ensures))))
+    (part-passes fourth _ _ _ (c .before .enum-told6 .given .1) (c .before .before .before .judge-total3 .ensures)
+    (c .judge-total4 .ensures)))
 
 pub judge-mesh-spec : {M : Type 1} → statement M
 judge-mesh-spec =
@@ -84,6 +81,5 @@ judge-mesh-spec =
     enum-told-5
     returns-3
     enum-told-6
-    with-bearer-requires
     judge-total-requires-4
     returns-4)

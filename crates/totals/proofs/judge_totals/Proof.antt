@@ -45,9 +45,6 @@ add-record-view-2 c = search needs
 record-view-requires-2 : tie.Need-record-view-requires-2
 record-view-requires-2 c κs = search needs
 
-with-bearer-requires : tie.Need-with-bearer-requires
-with-bearer-requires c κs = search needs
-
 judge-total-requires : tie.Need-judge-total-requires
 judge-total-requires c κs = search needs
 
@@ -84,12 +81,12 @@ enum-told-7 c = search needs
 returns : tie.Need-returns
 returns c =
     mesh-arm _ _ (c .before .before .before .enum-told .given .1) (c .before .record-view .ensures)
-    (c .before .before .sums-behind .ensures .0) (c .judge-mesh .ensures)
+    (c .before .before .sums-behind .ensures) (c .judge-mesh .ensures)
 
 returns-2 : tie.Need-returns-2
 returns-2 c =
-    layer-arm _ _ (c .before .before .before .before .enum-told2 .given .1) (c .before .before .record-view2 .ensures)
-    (c .before .before .before .sums-behind2 .ensures .0) (c .before .with-bearer .ensures) (c .judge-total .ensures)
+    layer-arm _ _ (c .before .before .before .enum-told2 .given .1) (c .before .record-view2 .ensures)
+    (c .before .before .sums-behind2 .ensures) (c .judge-total .ensures)
 
 returns-3 : tie.Need-returns-3
 returns-3 c = rw (c .enum-told3 .given .1) (check-none fourth _)
@@ -103,7 +100,7 @@ returns-5 c = rw (c .enum-told5 .given .1) (check-none fourth _)
 returns-6 : tie.Need-returns-6
 returns-6 c =
     area-arm _ _ (c .before .before .before .enum-told6 .given .1) (c .before .record-view3 .ensures)
-    (c .before .before .sums-behind3 .ensures .0) (c .judge-total2 .ensures)
+    (c .before .before .sums-behind3 .ensures) (c .judge-total2 .ensures)
 
 returns-7 : tie.Need-returns-7
 returns-7 c = rw (c .enum-told7 .given .1) (check-none fourth _)
@@ -125,7 +122,6 @@ judge-totals-spec =
     sums-behind-requires-2
     add-record-view-2
     record-view-requires-2
-    with-bearer-requires
     judge-total-requires
     enum-told-3
     enum-told-4

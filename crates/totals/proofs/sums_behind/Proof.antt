@@ -44,11 +44,9 @@ rank-of-requires c κs = search needs
 
 returns : tie.Need-returns Inv-loop μ-loop
 returns c =
-    let l = c .before .before .before .before in (
-      sums-stop _ _ _ (rw (l .before .before .records-of .ensures .0) at (c .before .before .before .loop-test .taken))
-          (l .loop .inv .1) (c .before .before .due .ensures) (c .before .rank-of .ensures) (c .if1 .taken) (l .loop .inv .3),
-      most-addable _ (l .loop .inv .0) (l .loop .inv .2),
-    )
+    let l = c .before .before .before .before in
+    sums-stop _ _ _ (rw (l .before .before .records-of .ensures .0) at (c .before .before .before .loop-test .taken))
+    (l .loop .inv .1) (c .before .before .due .ensures) (c .before .rank-of .ensures) (c .if1 .taken) (l .loop .inv .3)
 
 add-record-view : tie.Need-add-record-view Inv-loop μ-loop
 add-record-view c = search needs
@@ -124,10 +122,7 @@ loop-again c =
     )
 
 returns-2 : tie.Need-returns-2 Inv-loop μ-loop
-returns-2 c = (
-  sums-end _ _ _ (rw (c .before .before .before .records-of .ensures .0) at (c .loop-test .left)) (c .before .loop .inv .3),
-  most-addable _ (c .before .loop .inv .0) (c .before .loop .inv .2),
-)
+returns-2 c = sums-end _ _ _ (rw (c .before .before .before .records-of .ensures .0) at (c .loop-test .left)) (c .before .loop .inv .3)
 
 pub sums-behind-spec : {M : Type 1} → statement M
 sums-behind-spec =
