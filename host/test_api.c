@@ -782,7 +782,7 @@ static void unstructured(void)
 
 /* ---- records totals */
 
-/* Layers of an H alone, with these letters: a records total leaves its own record out, so each H has 0 and M has one for each H */
+/* layers of an H alone, with these letters: a records total leaves its own record out, so each H has 0 and M has one for each H */
 static void alone(const char *letters, facts of)
 {
     uint8_t s[SHEET], t[3 * RECORD];
