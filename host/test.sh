@@ -144,6 +144,7 @@ by_samples() {
     says "land is accepted" 0 $'status=ok\nmeshes=1\nlayers=1\nnodes=1\nlines=1\nareas=1\nrecords=7\n' check $samples/land-0000.dat
     says_refused "land as 00000" 5 4 40 check $made/land-00000
     says_refused "land printed so in layer 1" 5 4 40 check $made/land-layer-1
+    by_totals
     by_unstructured
     expect record-late-refusal 0 record 7 $samples/refused-16-loop-walked-backwards.dat
     expect record-by-caller 1 record 1 $smallest N
@@ -259,7 +260,7 @@ longest() {
     local meshes=$1 turn q v
     turn=$(printf '%5d%5d' 0 0 0 5000 0 10000 10000 10000 10000 0 5000 0 0 0)
     {
-        record 2 | sed 's/    6\(.....\)/99998\1/'
+        record 2 | sed 's/    5\(.....\)/99997\1/'
         record 3
         record 4 | sed 's/     5 0  0/699951 0  0/'
         yes "$turn  "$'\r' 2>/dev/null | head -n 99993
@@ -269,7 +270,7 @@ longest() {
     for ((q = 0; q < 8; q++)); do
         for ((v = 0; v < 8; v++)); do
             if [ $((q * 8 + v)) -lt "$meshes" ]; then
-                record 1 | LC_ALL=C sed "s/533945/5339$q$v/; s/    7  /99999  /"
+                record 1 | LC_ALL=C sed "s/533945/5339$q$v/; s/    6  /99998  /"
                 cat "$work/body"
             fi
         done

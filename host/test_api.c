@@ -73,10 +73,10 @@ static void sheet(uint8_t *s, int mesh)
     put(m, 3, 6, mesh);
     name(m, 9, 20);
     put(m, 29, 3, 1);
-    row(m, 32, 5, 5, (const int[]){ 1, 1, 1, 0, 7 });
+    row(m, 32, 5, 5, (const int[]){ 1, 1, 1, 0, 6 });
     memcpy(h, "H2", 2);
     put(h, 3, 2, 1);
-    row(h, 5, 5, 5, (const int[]){ 1, 1, 1, 0, 6 });
+    row(h, 5, 5, 5, (const int[]){ 1, 1, 1, 0, 5 });
     put(h, 31, 4, 0);
     put(h, 36, 4, 0);
     memcpy(n, "N ", 2);
@@ -303,7 +303,7 @@ static void files(void)
     put(t + SHEET, 3, 6, 533945);
     all(t, TWO, (expected){ 8, 8, 3, &TWO_FACTS });
     put(t + SHEET, 3, 6, 533946);
-    put(t + SHEET, 52, 5, 8);
+    put(t + SHEET, 52, 5, 7);
     all(t, TWO, (expected){ 10, 8, 52, &TWO_FACTS });
 
     /* S's neighbours */
@@ -315,7 +315,11 @@ static void files(void)
         change;                         \
         all(s, SHEET, at(__VA_ARGS__)); \
     } while (0)
-    NEIGHBOUR(put(m, 52, 5, 6), 10, 1, 52);
+    NEIGHBOUR(put(m, 52, 5, 7), 10, 1, 52);
+    NEIGHBOUR(put(m, 52, 5, 5), 10, 1, 52);
+    NEIGHBOUR(put(h, 25, 5, 6), 10, 2, 25);
+    NEIGHBOUR(put(h, 25, 5, 4), 10, 2, 25);
+    NEIGHBOUR((put(m, 52, 5, 7), put(h, 25, 5, 6)), 10, 1, 52);
     NEIGHBOUR(put(n, 22, 2, 0), 6, 3, 22);
     NEIGHBOUR((put(n, 24, 2, 1), put(n, 31, 5, 0)), 14, 4, 24);
     NEIGHBOUR(put(c, 46, 5, 1), 12, 5, 41);
@@ -410,8 +414,8 @@ static void positions(void)
 /* ---- single records */
 
 static const int32_t S_NUMBERS[7][16] = {
-    { 533945, 1, 1, 1, 1, 0, 7 },
-    { 1, 1, 1, 1, 0, 6, 0, 0 },
+    { 533945, 1, 1, 1, 1, 0, 6 },
+    { 1, 1, 1, 1, 0, 5, 0, 0 },
     { 1, 3, 1, 0, 0, 1, 2, 1, -1 },
     { 1, 9, 1, 9, 1, 2, 1, 2, 88888, 0, 13101, 1, 5, 0, 0 },
     { 0, 0, 0, 10000, 10000, 10000, 10000, 0, 0, 0 },
@@ -629,7 +633,7 @@ static size_t layer_of(uint8_t *to, char letter, int code)
     sheet(s, 533945);
     memcpy(to, s + RECORD, count * RECORD);
     to[1] = (uint8_t)letter;
-    put(to, 25, 5, (int)count);
+    put(to, 25, 5, (int)count - 1);
     for (size_t i = 0; i < count; i++)
         if (to[i * RECORD] != ' ')
             put(to + i * RECORD, 3, 2, code);
@@ -656,7 +660,7 @@ static size_t mesh_of(uint8_t *to, int mesh, const char *letters)
     sheet(s, mesh);
     memcpy(to, s, RECORD);
     put(to, 29, 3, layers);
-    row(to, 32, 5, 5, (const int[]){ layers, layers, areas, 0, (int)(length / RECORD) });
+    row(to, 32, 5, 5, (const int[]){ layers, layers, areas, 0, (int)(length / RECORD) - 1 });
     return length;
 }
 
@@ -762,7 +766,8 @@ static void unstructured(void)
     UNSTRUCTURED(1, put(l, 23, 1, 0), 12, 4, 23);
     UNSTRUCTURED(1, put(c, 46, 5, 1), 12, 5, 41);
     UNSTRUCTURED(1, put(m, 42, 5, 1), 10, 1, 42);
-    UNSTRUCTURED(1, put(h, 25, 5, 5), 10, 2, 25);
+    UNSTRUCTURED(1, put(m, 52, 5, 5), 10, 1, 52);
+    UNSTRUCTURED(1, put(h, 25, 5, 4), 10, 2, 25);
     /* its areas left where they were: an A stands where a mesh is due */
     mesh_of(u, 533945, "1");
     uint8_t s[SHEET];
@@ -775,6 +780,45 @@ static void unstructured(void)
     due(s, SHEET, "12345671");
 }
 
+/* ---- records totals */
+
+/* layers of an H alone, with these letters: a records total leaves its own record out, so each H has 0 and M has one for each H */
+static void alone(const char *letters, facts of)
+{
+    uint8_t s[SHEET], t[3 * RECORD];
+    int layers = (int)strlen(letters);
+    size_t length = (size_t)(layers + 1) * RECORD;
+    sheet(s, 533945);
+    for (int k = 1; k <= layers; k++) {
+        uint8_t *h = t + k * RECORD;
+        memcpy(h, s + RECORD, RECORD);
+        h[1] = (uint8_t)letters[k - 1];
+        put(h, 3, 2, k == 1 ? 1 : 5);
+        row(h, 5, 5, 5, (const int[]){ 0, 0, 0, 0, 0 });
+    }
+    memcpy(t, s, RECORD);
+    put(t, 29, 3, layers);
+    row(t, 32, 5, 5, (const int[]){ 0, 0, 0, 0, layers });
+    all(t, length, (expected){ 0, 0, 0, &of });
+    read_and_written(t, length);
+    for (int k = 1; k <= layers; k++) {
+        put(t + k * RECORD, 25, 5, 1);
+        all(t, length, (expected){ 10, (uint32_t)k + 1, 25, &of });
+        put(t + k * RECORD, 25, 5, 0);
+    }
+    for (int other = layers - 1; other <= layers + 1; other += 2) {
+        put(t, 52, 5, other);
+        all(t, length, (expected){ 10, 1, 52, &of });
+    }
+}
+
+static void totals(void)
+{
+    alone("2", (facts){ 1, 1, 0, 0, 0, 2, (const uint32_t[]){ 2, 0, 0, 0, 2 }, 5, NULL, NO_SUMS });
+    alone("1", (facts){ 1, 1, 0, 0, 0, 2, (const uint32_t[]){ 2, 0, 0, 0, 1 }, 5, NULL, NO_SUMS });
+    alone("21", (facts){ 1, 2, 0, 0, 0, 3, (const uint32_t[]){ 2, 0, 0, 0, 2, 3, 0, 0, 0, 1 }, 10, NULL, NO_SUMS });
+}
+
 int main(void)
 {
     files();
@@ -785,6 +829,7 @@ int main(void)
     letters();
     mixed();
     unstructured();
+    totals();
     if (failed)
         printf("test_api: %u of %u failed, the first at line %u\n", failed, tried, first);
     else

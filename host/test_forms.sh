@@ -1,5 +1,5 @@
-# Further tests of the tool, for host/test.sh: unstructured layers, files with faults of their bytes, the forms of output, names, many files at a time, the
-# programs that try a part of the C side alone, the two small programs, and the README's program.
+# Further tests of the tool, for host/test.sh: records totals, unstructured layers, files with faults of their bytes, the forms of output, names,
+# many files at a time, the programs that try a part of the C side alone, the two small programs, and the README's program.
 
 # ---- files that are made here
 
@@ -17,6 +17,10 @@ make_files() {
     # land with a zero too many, and in layer 1
     LC_ALL=C sed '4s/ 0000    1/00000    1/' $samples/land-0000.dat >$made/land-00000
     LC_ALL=C sed '4s/13101    1/ 0000    1/' $smallest >$made/land-layer-1
+    # S with records totals that count the H, or the M and the H; an M with an H alone
+    with_text $smallest 2 25 '    6' >$made/total-counts-h
+    with_text $made/total-counts-h 1 52 '    7' >$made/total-counts-both
+    head -c 148 $smallest | LC_ALL=C sed 's/    1    1    1    0    6/    0    0    0    0    1/; s/    1    1    1    0    5/    0    0    0    0    0/' >$made/h-alone
     # S as an unstructured layer: with a code, with an area number, with areas and a field behind them that is ill formed, with a node that
     # lists one end of the line alone; with other letters; with the areas of S
     with_text "${unstructured[0]}" 4 30 88888 >$made/h1-left-code
@@ -44,6 +48,14 @@ with_text() {
     head -c $before "$1"
     printf '%s' "$4"
     tail -c +$((before + ${#4} + 1)) "$1"
+}
+
+# ---- records totals
+
+by_totals() {
+    expect explain-records-total 1 explain $made/total-counts-h
+    says_refused "M's total counts the M, H's the H" 10 1 52 check $made/total-counts-both
+    says "an H alone has 0 records" 0 $'status=ok\nmeshes=1\nlayers=1\nnodes=0\nlines=0\nareas=0\nrecords=2\n' check $made/h-alone
 }
 
 # ---- unstructured layers

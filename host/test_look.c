@@ -20,8 +20,8 @@ static unsigned wrong;
 
 /* The columns of each record; '#' stands for a character of a name. */
 static const char *const sheet[RECORDS] = {
-    "M 533945##########  1    1    1    1    0    7                ",
-    "H2 1    1    1    1    0    6    0    0                                 ",
+    "M 533945##########  1    1    1    1    0    6                ",
+    "H2 1    1    1    1    0    5    0    0                                 ",
     "N  1 3    1    0    0 1 2    1   -1    0    0    0    0    0    0    0  ",
     "L  1 9    1     9    12    1288888    013101    1     5 0  0            ",
     "    0    0    010000100001000010000    0    0    0    0    0    0    0  ",

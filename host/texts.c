@@ -167,8 +167,8 @@ static const Hint hints[] = {
     {10, MESH, ONE(32), "M's nodes are the sum of its layers' nodes (column 5 of each H)."},
     {10, MESH, ONE(37), "M's lines are the sum of its layers' lines (column 10 of each H)."},
     {10, MESH, ONE(42), "M's areas are the sum of its layers' areas (column 15 of each H)."},
-    {10, MESH, ONE(52), "M's records are those of its mesh, from the M itself to the mesh's last record."},
-    {10, LAYER, ONE(25), "H's records are those of its layer, from the H itself to the layer's last record."},
+    {10, MESH, ONE(52), "M's records are all records of its mesh but the M itself. Its H records count."},
+    {10, LAYER, ONE(25), "H's records are all records of its layer but the H itself. An H alone has 0."},
     {10, AREA, ONE(29), "A's lines are the sum of its loops' line counts (column 6 of each loop's first record)."},
 
     {11, NODE, NODE_SLOTS, NAMES_A_LINE},

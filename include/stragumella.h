@@ -36,7 +36,8 @@
  *    8  2      a record is out of step: mesh or layer order, a layer code unlike its H,    its start
  *              a serial that is not the next from 1, a loop's serial or repeat wrong
  *    9  then   the table is too short                                                      -
- *   10  3      a total of M, H (records) or A (lines) is not what was counted              its start
+ *   10  3      a total of M, H (records) or A (lines) is not what was counted; a records   its start
+ *              total leaves out the M or H that bears it
  *   11  4      a line, node or area number (area 0 aside) names nothing                    its start
  *   12  4      a number or point disagrees with what it names                              slot, X, link or code
  *   13  4, 5   an entry repeats an earlier one of the same node (4) or the same area (5)   slot
@@ -77,7 +78,7 @@
 #define STRAGUMELLA_H
 
 #define STRAGUMELLA_VERSION_MAJOR 0
-#define STRAGUMELLA_VERSION_MINOR 5
+#define STRAGUMELLA_VERSION_MINOR 6
 #define STRAGUMELLA_VERSION_PATCH 0
 
 /* The version as text, "MAJOR.MINOR.PATCH", and as a number that grows with it, for #if. */

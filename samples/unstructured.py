@@ -1,8 +1,8 @@
 """Makes the samples with unstructured layers of samples without: unstructured.py NAME writes the sample NAME to standard output.
 
 Meshes are taken over, and layers of theirs are turned from H2 into H1 (docs/RULES.md 1.7 and 5.10): the letters are H1, the A and loop
-records are left out, the H's areas and every L's codes and area numbers are 0, and what the totals of H and M count is counted anew. Nothing
-else is changed. It needs Python alone, and nothing of the library that judges the samples.
+records are left out, the H's areas and every L's codes and area numbers are 0, and what the totals of H and M count is counted anew (6.6: a
+records total leaves its own record out). Nothing else is changed. It needs Python alone, and nothing of the library that judges the samples.
 """
 
 from __future__ import annotations
@@ -52,7 +52,7 @@ def line_without_areas(record: bytes) -> bytes:
 def unstructured(layer: Records) -> Records:
     """The layer as an H1: its A records stand behind all others, so what is kept ends before the first one."""
     first = next((i for i, record in enumerate(layer) if record[:1] == b"A"), len(layer))
-    h = b"H1" + put(put(layer[0], 15, 19, 0), 25, 29, first)[2:]
+    h = b"H1" + put(put(layer[0], 15, 19, 0), 25, 29, first - 1)[2:]
     return [h, *map(line_without_areas, layer[1:first])]
 
 
@@ -61,7 +61,7 @@ def turned(mesh: Records, letters: list[str]) -> Records:
     layers = parts(mesh[1:], b"H")
     layers = [unstructured(layer) if letter == "H1" else layer for layer, letter in zip(layers, letters)]
     m = put(mesh[0], 42, 46, sum(number(layer[0], 15, 19) for layer in layers))
-    m = put(m, 52, 56, 1 + sum(map(len, layers)))
+    m = put(m, 52, 56, sum(map(len, layers)))
     return [m, *(record for layer in layers for record in layer)]
 
 

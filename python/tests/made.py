@@ -54,8 +54,8 @@ def framed(n):
     layer += area(2, hole[0], (5000, 5000), [(1, [n + 1])])
     counts = (n + 1, n + 1, 2, 0)
     head = [
-        Record(Kind.MESH, (533945, 1, *counts, len(layer) + 2), NAME * 10),
-        Record(Kind.LAYER, (1, *counts, len(layer) + 1, 0, 0), letters=2),
+        Record(Kind.MESH, (533945, 1, *counts, len(layer) + 1), NAME * 10),
+        Record(Kind.LAYER, (1, *counts, len(layer), 0, 0), letters=2),
     ]
     return b"".join(record.write() for record in head + layer)
 

@@ -68,8 +68,8 @@ class Records(unittest.TestCase):
         self.refused(20, 0, 0, Record(Kind.LINE, record.numbers + (0, 0)).write)
         self.refused(20, 0, 0, Record(Kind.LINE, record.numbers + (1,)).write)
         self.refused(20, 0, 0, Record(Kind.LINE, record.numbers, b"\x81\x40").write)
-        self.refused(20, 0, 0, Record(Kind.MESH, (533945, 1, 1, 1, 1, 0, 7), b"\x81").write)
-        self.refused(20, 0, 0, Record(Kind.MESH, (533945, 1, 1, 1, 1, 0, 7), b"\x81\x40" * 21).write)
+        self.refused(20, 0, 0, Record(Kind.MESH, (533945, 1, 1, 1, 1, 0, 6), b"\x81").write)
+        self.refused(20, 0, 0, Record(Kind.MESH, (533945, 1, 1, 1, 1, 0, 6), b"\x81\x40" * 21).write)
         self.refused(20, 0, 0, Record(9, ()).write)
         with self.assertRaises(TypeError):
             record.replace(left_code=1.5).write()

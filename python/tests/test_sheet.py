@@ -40,6 +40,15 @@ class Smallest(unittest.TestCase):
         self.assertEqual(list(self.sheet.measures), [200000000])
         self.assertEqual(self.sheet.sums, (Sums(200000000, 200000000),))
 
+    def test_records_totals(self):
+        """A records total leaves out the record that bears it."""
+        data = SMALLEST.read_bytes()
+        self.assertEqual([self.sheet.record(k)["records"] for k in (1, 2)], [6, 5])
+        self.assertEqual(answer(with_bytes(data, 1, 52, b"    7")), (10, 1, 52))
+        self.assertEqual(answer(with_bytes(data, 2, 25, b"    6")), (10, 2, 25))
+        alone = [self.sheet.record(1).replace(nodes=0, lines=0, areas=0, records=1), self.sheet.record(2).replace(nodes=0, lines=0, areas=0, records=0)]
+        self.assertEqual(Sheet(b"".join(record.write() for record in alone)).judge(), Outcome(1, 1, 0, 0, 0, 2))
+
     def test_mesh_and_layer(self):
         (mesh,) = self.sheet
         (layer,) = mesh
