@@ -8,7 +8,7 @@ use verdict::Verdict;
 use walk::State;
 ghost use mathlib.Core.Path.{_≡_};
 ghost use mathlib.Core.List.{[], _∷_};
-ghost use Prim.Native.Nat.{_+_, _*_, _≤_, _<_};
+ghost use Prim.Native.Nat.{_+_, _≤_, _<_};
 ghost use lib.Dec.{eqb};
 ghost use Rattle.verdict.specs.Rules.{check, firstBroken, block};
 ghost use Rattle.walk.specs.States.{sizeIn, stateAt};
