@@ -1,4 +1,4 @@
--- THE PROGRAMS LEND ENOUGH: a file of up to 65,490 bytes has at most 885 records, so it needs at most 3,540 words, and if it keeps stage 2 it
+-- THE PROGRAMS LEND ENOUGH: a file of up to 65,490 bytes has at most 885 records, so it needs at most 4,425 words, and if it keeps stage 2 it
 -- has at most 442 areas. So the answer is that with as much room as the file needs, and neither 9 nor 19. Assumes nothing.
 use mathlib.Core.List.{List}
 use mathlib.Core.Path.{_≡_}
