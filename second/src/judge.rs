@@ -200,7 +200,7 @@ fn later_stages(found: &Found) -> Result<(), Refusal> {
     broken.result()
 }
 
-/// Totals.
+/// Totals. A records total tells the records behind the one that bears it.
 fn stage_3(found: &Found, broken: &mut Broken) {
     for mesh in &found.meshes {
         let sum = |count: fn(&Layer) -> usize| mesh.layers.iter().map(count).sum::<usize>() as i64;
@@ -208,7 +208,7 @@ fn stage_3(found: &Found, broken: &mut Broken) {
             sum(|layer| layer.nodes.len()),
             sum(|layer| layer.lines.len()),
             sum(|layer| layer.areas.len()),
-            i64::from(mesh.length),
+            i64::from(mesh.behind),
         ];
         for (column, (told, counted)) in [32, 37, 42, 52].into_iter().zip(mesh.told.iter().zip(counted)) {
             if i64::from(*told) != counted {
@@ -217,7 +217,7 @@ fn stage_3(found: &Found, broken: &mut Broken) {
         }
     }
     for layer in found.layers() {
-        if i64::from(layer.told_records) != i64::from(layer.length) {
+        if i64::from(layer.told_records) != i64::from(layer.behind) {
             broken.rule(10, layer.record, 25);
         }
         for area in &layer.areas {
