@@ -92,13 +92,20 @@ pub fn judge(file: &[u8], table: &mut [u32], measures: &mut [i64]) -> Outcome {
 
 /// Runs the stages over a file.
 pub fn verdict(file: &[u8]) -> Verdict {
+    verdict_by(file, |_| ())
+}
+
+/// The same of a judge that takes what stage 2 finds for something else before the later stages look at it. Wrong judges are
+/// made so.
+pub fn verdict_by(file: &[u8], mistake: impl FnOnce(&mut Found)) -> Verdict {
     let mut verdict = Verdict::default();
     let mut kinds = Vec::new();
     let walked = stage_1(file).and_then(|()| stage_2(file, &mut kinds));
     verdict.kinds = kinds;
     match walked {
         Err(refusal) => verdict.early = refusal,
-        Ok(found) => {
+        Ok(mut found) => {
+            mistake(&mut found);
             verdict.table = table(&found);
             verdict.layers = found.layers().count();
             match later_stages(&found) {

@@ -361,6 +361,69 @@ fn lines_among_areas() {
     assert_eq!(answer(&file(&[&[land, lines]])), (8, 8, 3));
 }
 
+/// A records total leaves out the record that bears it. An M counts its H records, each with all that is behind it.
+#[test]
+fn records_totals() {
+    let s = |mesh, layer, expected| gives(&[(1, 52, mesh), (2, 25, layer)], expected);
+    s(b"    6", b"    5", (0, 0, 0));
+    s(b"    7", b"    5", (10, 1, 52));
+    s(b"    5", b"    5", (10, 1, 52));
+    s(b"    6", b"    6", (10, 2, 25));
+    s(b"    6", b"    4", (10, 2, 25));
+    // The old way counted the M and the H as well. The M stands first.
+    s(b"    7", b"    6", (10, 1, 52));
+    s(b"99999", b"    5", (10, 1, 52));
+    s(b"    0", b"    0", (10, 1, 52));
+    s(b"    6", b"    0", (10, 2, 25));
+    s(b"    7", b"   -1", (6, 2, 25));
+    // Two layers, the second one unstructured: five records behind the first H, three behind the other.
+    let both = |mesh: &[u8], one: &[u8], two: &[u8]| {
+        let totals: &[u8] = b"  2    2    2    1    0";
+        let first = s_with(&[(1, 29, totals), (1, 52, mesh), (2, 25, one)]);
+        answer(&[&first, &with(land_lines_s().bytes(), &[(2, 25, two)])[74..]].concat())
+    };
+    assert_eq!(both(b"   10", b"    5", b"    3"), (0, 0, 0));
+    assert_eq!(both(b"   11", b"    6", b"    4"), (10, 1, 52));
+    assert_eq!(both(b"   10", b"    6", b"    4"), (10, 2, 25));
+    assert_eq!(both(b"   10", b"    5", b"    4"), (10, 8, 25));
+    assert_eq!(both(b"   11", b"    5", b"    3"), (10, 1, 52));
+    for mesh in [b"    9", b"    8", b"    6", b"    5", b"    4", b"   12"] {
+        assert_eq!(both(mesh, b"    5", b"    3"), (10, 1, 52));
+    }
+    // In the second mesh of a file.
+    let second = |mesh, layer| {
+        let first = sheet_s().bytes();
+        answer(&[first, s_with(&[(1, 3, b"533946"), (1, 52, mesh), (2, 25, layer)])].concat())
+    };
+    assert_eq!(second(b"    6", b"    5"), (0, 0, 0));
+    assert_eq!(second(b"    7", b"    6"), (10, 8, 52));
+    assert_eq!(second(b"    6", b"    6"), (10, 9, 25));
+}
+
+/// An H alone has 0 records, and its M has 1.
+#[test]
+fn an_h_alone() {
+    for letters in [b"H1", b"H2"] {
+        let none: &[u8] = b"    0    0    0    0";
+        let changes: [(usize, usize, &[u8]); 5] =
+            [(1, 32, none), (1, 52, b"    1"), (2, 1, letters), (2, 5, none), (2, 25, b"    0")];
+        let file = with(sheet_s().bytes()[..2 * 74].to_vec(), &changes);
+        let mut table = [7; 6];
+        let outcome = judge(&file, &mut table, &mut []);
+        let counts = Counts { meshes: 1, layers: 1, nodes: 0, lines: 0, areas: 0, records: 2 };
+        assert_eq!((outcome.refusal, outcome.counts), (Refusal::default(), counts));
+        assert_eq!(table, [2, 0, 0, 0, u32::from(letters[1] - b'0'), 7]);
+        let gives = |mesh: &[u8], layer: &[u8], expected| {
+            assert_eq!(answer(&with(file.clone(), &[(1, 52, mesh), (2, 25, layer)])), expected);
+        };
+        gives(b"    1", b"    1", (10, 2, 25));
+        gives(b"    2", b"    1", (10, 1, 52));
+        gives(b"    2", b"    0", (10, 1, 52));
+        gives(b"    0", b"    0", (10, 1, 52));
+        gives(b"    1", b"   -1", (6, 2, 25));
+    }
+}
+
 #[test]
 fn lengths() {
     let s = sheet_s().bytes();
