@@ -800,9 +800,9 @@ pub fn full_totals(compare: &mut Compare) -> Agreed {
     sheet.meshes[0].layers[0].lines[0].points.splice(0..0, vec![(0, 0); more]);
     let mut records = sheet.records();
     let told: [&[(&[u8], &[u8])]; 3] = [
-        &[(b"99999", b"99998"), (b"99998", b"99998"), (b"99999", b"99999"), (b"    0", b"99998"), (b"34463", b"34462")],
-        &[(b"99999", b"99999"), (b"    0", b"99999"), (b"    1", b"99999")],
-        &[(b"99999", b"99999"), (b"    1", b"    0"), (b"    2", b"    1")],
+        &[(b"99999", b"99998"), (b"99999", b"99999")],
+        &[(b"99999", b"99999"), (b"    0", b"99999")],
+        &[(b"    1", b"    0")],
     ];
     for (longer, told) in (0..).zip(told) {
         for (mesh, layer) in told {
