@@ -36,7 +36,7 @@ fn mesh_code(k: usize) -> i32 {
     533_900 + (k / 8 * 10 + k % 8) as i32
 }
 
-/// A mesh has at most 99,999 records. We stay below, since sizes are not exact.
+/// A mesh has at most 100,000 records. We stay below, since sizes are not exact.
 const IN_MESH: usize = 86_000;
 
 /// So many meshes of a file are drawn. Further ones are the same again, under other codes.

@@ -3,7 +3,7 @@
 use bench::files::{plain, worst, File};
 use bench::lean::Lean;
 use second::compare::{damages, every_code, every_field, every_letter, land_changes, odd_values, one_byte_changes};
-use second::compare::{outside_sheet, unstructured_changes, Compare, Disagreement, NEVER};
+use second::compare::{full_totals, outside_sheet, records_totals, unstructured_changes, Compare, Disagreement, NEVER};
 use second::judge::verdict;
 use second::product::Product;
 
@@ -30,6 +30,11 @@ fn land_and_every_code() {
 #[test]
 fn unstructured_layers_and_every_letter() {
     agrees(|compare| unstructured_changes(compare).and_then(|()| every_letter(compare)));
+}
+
+#[test]
+fn totals_of_records() {
+    agrees(|compare| records_totals(compare).and_then(|()| full_totals(compare)));
 }
 
 #[test]

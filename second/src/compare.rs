@@ -1,11 +1,13 @@
 //! The comparison: every answer of the other program against our own.
 
-use crate::damage::{astray, counted, damaged, interesting, set, steering, told_areas, TOLD, ZEROS};
+use crate::damage::{astray, counted, damaged, interesting, recount, set, steering, tell_more, told_areas};
+use crate::damage::{Recount, OLD, RECOUNTS, TOLD, ZEROS};
 use crate::due::{dues, told};
-use crate::fields::{CODE, LAND};
-use crate::generate::{assert_accepted, from_seed, long_loops, sheet, sheet_of};
+use crate::fields::{number, spelled, CODE, LAND};
+use crate::generate::{assert_accepted, from_seed, long_loops, sheet, sheet_of, MOST_IN_MESH};
 use crate::judge::{verdict, Verdict};
-use crate::layout::{codes, layout, Field, Kind, Sort, KINDS, LAYER, RECORD, STRUCTURED, UNSTRUCTURED};
+use crate::layout::{codes, h, l, layout, m, records_total};
+use crate::layout::{Field, Kind, Sort, KINDS, LAYER, RECORD, STRUCTURED, UNSTRUCTURED};
 use crate::piped::Pipe;
 use crate::product::{Answer, Buffers, Call, Product, RawValue, Second, Told};
 use crate::random::Random;
@@ -49,6 +51,14 @@ pub const LINES_BECAME: [&str; 12] = [
     "refused at H 15", "at L 30", "at L 35", "at L 40", "at L 45", "read", "written back",
 ];
 
+/// What can become of records totals. The old ones count the record that bears them as well.
+pub const TOTALS_BECAME: [&str; 15] = [
+    "0 of an H alone in an accepted file", "1 of it refused at H 25", "the most of an M in an accepted file",
+    "old ones refused at M 52", "of one layer", "of two in a mesh", "of several meshes", "of H1",
+    "old ones of every H and no M refused at H 25", "of every M and no H at M 52", "one more at M 52", "one fewer",
+    "without the H records", "one more at H 25", "one fewer",
+];
+
 /// Due is asked of every record of a file of so many records or less, where it is not asked of some alone.
 const SHORT: u32 = 50;
 
@@ -65,6 +75,8 @@ pub struct Compare<'a> {
     pub land: [u64; 5],
     /// How often each of these became of an unstructured layer.
     pub lines: [u64; 12],
+    /// How often each of these became of records totals.
+    pub totals: [u64; 15],
     /// Of so many comparisons side by side this is the one of that number, from 0.
     share: (u64, u64),
     /// How many files, values and positions there were, for all shares.
@@ -134,6 +146,7 @@ impl<'a> Compare<'a> {
             due: [0; 8],
             land: [0; 5],
             lines: [0; 12],
+            totals: [0; 15],
             share,
             turns: 0,
             sparing: None,
@@ -205,6 +218,9 @@ impl<'a> Compare<'a> {
         }
         for became in lines_became(file, verdict) {
             self.lines[became] += 1;
+        }
+        for became in totals_became(file, verdict) {
+            self.totals[became] += 1;
         }
         if let Some(path) = &self.before {
             std::fs::write(path, file).expect("the file can be written");
@@ -437,6 +453,62 @@ pub fn letters_over(file: &[u8], kinds: &[Kind], k: usize) -> u32 {
     head.and_then(|k| letters(Kind::H, record(file, k))).unwrap_or(0)
 }
 
+/// A records total: who bears it, what it tells, and how many records stand behind its bearer that it has to tell.
+struct Total {
+    kind: Kind,
+    record: u32,
+    told: i32,
+    behind: i32,
+}
+
+/// The records totals of a file that is not refused before stage 3, from the last one to the first.
+fn totals(file: &[u8], kinds: &[Kind]) -> Vec<Total> {
+    let mut totals = Vec::new();
+    let [mut mesh_ends, mut layer_ends] = [kinds.len(); 2];
+    for (index, kind) in kinds.iter().enumerate().rev() {
+        let Some(field) = records_total(*kind) else { continue };
+        let last = if *kind == Kind::M { mesh_ends } else { layer_ends };
+        let told = number(field.of(record(file, index + 1))).expect("a total that stage 2 has passed");
+        totals.push(Total { kind: *kind, record: index as u32 + 1, told, behind: (last - index - 1) as i32 });
+        layer_ends = index;
+        mesh_ends = if *kind == Kind::M { index } else { mesh_ends };
+    }
+    totals
+}
+
+/// What becomes of the records totals of a file, by its places in TOTALS_BECAME.
+fn totals_became(file: &[u8], verdict: &Verdict) -> Vec<usize> {
+    let Refusal { number, record: k, column } = verdict.outcome(usize::MAX, usize::MAX).refusal;
+    if !matches!((number, column), (0, _) | (10, 25 | 52)) {
+        return Vec::new();
+    }
+    let totals = totals(file, &verdict.kinds);
+    let all = |kind: Kind, more: i32| {
+        totals.iter().filter(|total| total.kind == kind).all(|total| total.told - total.behind == more)
+    };
+    let Some(at) = totals.iter().find(|total| total.record == k) else {
+        let alone = totals.iter().any(|total| total.kind == Kind::H && total.behind == 0);
+        let most = totals.iter().any(|total| total.behind + 1 == MOST_IN_MESH as i32);
+        return [alone.then_some(0), most.then_some(2)].into_iter().flatten().collect();
+    };
+    let (meshes, layers) = (verdict.kinds.iter().filter(|kind| **kind == Kind::M).count(), verdict.layers);
+    let next = totals.iter().rev().skip_while(|total| total.record <= k);
+    let of_mesh = next.take_while(|total| total.kind == Kind::H).count() as i32;
+    let unstructured = verdict.table.chunks(5).take(layers).any(|row| row[4] == UNSTRUCTURED);
+    let more = at.told - at.behind;
+    let became = match at.kind {
+        Kind::M if all(Kind::M, 1) && all(Kind::H, 1) => {
+            vec![(3, true), (4, layers == 1), (5, layers > meshes), (6, meshes > 1), (7, unstructured)]
+        }
+        Kind::M if meshes > 1 && all(Kind::M, 1) && all(Kind::H, 0) => vec![(9, true)],
+        Kind::M => vec![(10, more == 1), (11, more == -1), (12, more < -1 && more == -of_mesh)],
+        _ if (at.told, at.behind) == (1, 0) => vec![(1, true)],
+        _ if layers > 1 && all(Kind::M, 0) && all(Kind::H, 1) => vec![(8, true)],
+        _ => vec![(13, more == 1), (14, more == -1)],
+    };
+    became.into_iter().filter(|(_, yes)| *yes).map(|(place, _)| place).collect()
+}
+
 /// The table, where it stands after a call.
 fn put_table(buffers: &mut Buffers, verdict: &Verdict, words: usize) {
     if verdict.table_stands(words) {
@@ -607,6 +679,143 @@ fn letters_among_layers(compare: &mut Compare) -> Agreed {
         for layers in [of_both((one, two)), of_one(0), of_one(1), falling] {
             compare.file(&Sheet { meshes: vec![mesh(533_945, layers)] }.bytes())?;
         }
+    }
+    Ok(())
+}
+
+/// Part 1 also: records totals. Meshes of one layer and of two, each structured or not, or an H alone, are told in every way of
+/// counting and with totals near the right ones; then all of them in one file.
+pub fn records_totals(compare: &mut Compare) -> Agreed {
+    let meshes = bearing_meshes();
+    for mesh in &meshes {
+        let sheet = Sheet { meshes: vec![mesh.clone()] };
+        assert_accepted(&sheet);
+        totals_of_mesh(compare, &sheet.records())?;
+    }
+    let sheet = Sheet { meshes };
+    assert_accepted(&sheet);
+    let records = sheet.records();
+    compare.file(&joined(&records))?;
+    for way in RECOUNTS {
+        recounted(compare, &records, way, |_| true)?;
+    }
+    for index in bearing(&records) {
+        for more in [1, -1] {
+            let mut changed = records.clone();
+            tell_more(&mut changed, index, more);
+            compare.file(&joined(&changed))?;
+        }
+        if records[index].0 == Kind::M {
+            recounted(compare, &records, OLD, |other| other >= index)?;
+            recounted(compare, &records, OLD, |other| other < index)?;
+        }
+    }
+    totals_beside_faults(compare, &records)
+}
+
+/// The old totals in a file whose last record is missing, ill formed or has a wrong line end, and in one whose lines' links disagree.
+fn totals_beside_faults(compare: &mut Compare, records: &Records) -> Agreed {
+    let last = records.len() - 1;
+    recounted(compare, &records[..last].to_vec(), OLD, |_| true)?;
+    for column in [72, 73] {
+        let mut changed = records.clone();
+        changed[last].1[column - 1] = b'x';
+        recounted(compare, &changed, OLD, |_| true)?;
+    }
+    let mut changed = records.clone();
+    for (_, line) in changed.iter_mut().filter(|(kind, _)| *kind == Kind::L) {
+        set(line, &layout(Kind::L).numbers[l::START_LINK], b"0");
+    }
+    for way in RECOUNTS {
+        recounted(compare, &changed, way, |_| true)?;
+    }
+    Ok(())
+}
+
+/// Meshes with each two sorts of layers, and with each sort alone.
+fn bearing_meshes() -> Vec<Mesh> {
+    let sorts = |sheets: [Sheet; 2]| -> Vec<Layer> {
+        let layers = sheets.map(|mut sheet| sheet.meshes[0].layers.remove(0)).to_vec();
+        let alone = layers.clone().into_iter().map(|layer| Layer { nodes: vec![], lines: vec![], areas: vec![], ..layer });
+        layers.iter().cloned().chain(alone).collect()
+    };
+    let (ones, fives) = (sorts([sheet_s(), lines_s()]), sorts([land_s(), land_lines_s()]));
+    let single = ones.iter().chain(&fives).map(|layer| vec![layer.clone()]);
+    let both = ones.iter().flat_map(|one| fives.iter().map(|five| vec![one.clone(), five.clone()]));
+    let codes = (0..).map(|k| 533_900 + k / 8 * 10 + k % 8);
+    codes.zip(single.chain(both)).map(|(code, layers)| Mesh { code, layers, ..sheet_s().meshes.remove(0) }).collect()
+}
+
+/// The places of the records that bear a records total.
+fn bearing(records: &Records) -> Vec<usize> {
+    (0..records.len()).filter(|index| records_total(records[*index].0).is_some()).collect()
+}
+
+/// A file whose records are counted in another way, in the meshes and layers whose M or H stands at a place that is chosen.
+fn recounted(compare: &mut Compare, records: &Records, way: Recount, chosen: impl Fn(usize) -> bool) -> Agreed {
+    let mut changed = records.clone();
+    recount(&mut changed, way, chosen);
+    compare.file(&joined(&changed))
+}
+
+/// A file of one mesh in every way of counting; each records total near and far; all of them one more, right or one fewer at
+/// once; and the old ones where another total of the M is one more.
+fn totals_of_mesh(compare: &mut Compare, records: &Records) -> Agreed {
+    compare.file(&joined(records))?;
+    for way in RECOUNTS {
+        recounted(compare, records, way, |_| true)?;
+    }
+    let bearing = bearing(records);
+    for index in &bearing {
+        let field = records_total(records[*index].0).expect("it bears one");
+        let now = number(field.of(&records[*index].1)).expect("a total of a sheet");
+        let near = (now - 3..now + 4).chain([0, 1, -now, now + 10, now + 100, now + 256, now + 10_000, now + 65_536, 99_999]);
+        for text in near.filter_map(|told| spelled(told, field.width())) {
+            let mut changed = records.clone();
+            set(&mut changed[*index].1, &field, &text[..field.width()]);
+            compare.file(&joined(&changed))?;
+        }
+    }
+    for offs in 0..3usize.pow(bearing.len() as u32) {
+        let mut changed = records.clone();
+        for (place, index) in (0..).zip(&bearing) {
+            tell_more(&mut changed, *index, (offs / 3usize.pow(place) % 3) as i32 - 1);
+        }
+        compare.file(&joined(&changed))?;
+    }
+    for field in [m::NODES, m::LINES, m::AREAS].map(|index| layout(Kind::M).numbers[index]) {
+        let mut changed = records.clone();
+        let now = number(field.of(&changed[0].1)).expect("a total of a sheet");
+        set(&mut changed[0].1, &field, format!("{:5}", now + 1).as_bytes());
+        recounted(compare, &changed, OLD, |_| true)?;
+    }
+    Ok(())
+}
+
+/// Part 1 also: a mesh of as many records as its total can tell, and of one and two more. There no total is right, neither the
+/// largest nor the last five digits.
+pub fn full_totals(compare: &mut Compare) -> Agreed {
+    let mut sheet = lines_s();
+    let more = 7 * (MOST_IN_MESH - sheet.meshes[0].length());
+    sheet.meshes[0].layers[0].lines[0].points.splice(0..0, vec![(0, 0); more]);
+    let mut records = sheet.records();
+    let told: [&[(&[u8], &[u8])]; 3] = [
+        &[(b"99999", b"99998"), (b"99999", b"99999")],
+        &[(b"99999", b"99999"), (b"    0", b"99999")],
+        &[(b"    1", b"    0")],
+    ];
+    for (longer, told) in (0..).zip(told) {
+        for (mesh, layer) in told {
+            set(&mut records[0].1, &layout(Kind::M).numbers[m::RECORDS], mesh);
+            set(&mut records[1].1, &layout(Kind::H).numbers[h::RECORDS], layer);
+            if compare.turn() {
+                let file = joined(&records);
+                compare.whole_file(&file, &verdict(&file))?;
+            }
+        }
+        let points = sheet.meshes[0].layers[0].lines[0].points.len() + 7 * (longer + 1);
+        set(&mut records[3].1, &layout(Kind::L).numbers[l::POINTS], format!("{points:6}").as_bytes());
+        records.insert(5, records[4]);
     }
     Ok(())
 }

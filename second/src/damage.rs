@@ -2,7 +2,8 @@
 
 use crate::due::dues;
 use crate::fields::{number, spelled, CODE, LAND};
-use crate::layout::{a, codes, h, l, layout, lp, m, Field, Kind, Sort, RECORD, STRUCTURED, UNSTRUCTURED};
+use crate::layout::{a, codes, h, l, layout, lp, m, records_total};
+use crate::layout::{Field, Kind, Sort, RECORD, STRUCTURED, UNSTRUCTURED};
 use crate::random::Random;
 use crate::sheet::{joined, sheet_s, Area, Layer, Line, Node, Records, Sheet, Side, NOTHING, OUTSIDE};
 
@@ -355,6 +356,7 @@ fn damage_records(random: &mut Random, records: &mut Records) {
         9 => records[one].1[random.below(72)] = *random.pick(b"0123456789- /:\0\x81\x40ANMLH"),
         10 | 11 => spell_zero(random, records),
         12 => change_told_areas(random, records),
+        13 | 14 => recount_some(random, records),
         _ => change_field(random, records),
     }
 }
@@ -439,6 +441,59 @@ fn wrong_total(random: &mut Random, records: &mut Records) {
     if let Some(text) = number(field.of(bytes)).and_then(|now| spelled(now + off, field.width())) {
         set(bytes, &field, &text[..field.width()]);
     }
+}
+
+/// A way to count records: how many more than the rule an M tells, how many more again for each of its layers, and how many
+/// more an H tells.
+pub type Recount = (i32, i32, i32);
+
+/// The old way: each M and each H counts itself as well.
+pub const OLD: Recount = (1, 0, 1);
+
+/// Ways to count records that are not the rule: an M or an H counts itself or one fewer, and an M counts no H record or
+/// each of them twice.
+pub const RECOUNTS: [Recount; 14] = [
+    OLD, (1, 0, 0), (0, 0, 1), (-1, 0, 0), (0, 0, -1), (-1, 0, -1), (1, 0, -1), (-1, 0, 1), (0, -1, 0), (0, -1, 1), (1, -1, 0),
+    (1, -1, 1), (0, 1, 0), (0, 1, 1),
+];
+
+/// The records totals of a file told by another way to count: those whose M or H stands at a place that is chosen.
+pub fn recount(records: &mut Records, (mesh, of_each, layer): Recount, chosen: impl Fn(usize) -> bool) {
+    for index in (0..records.len()).filter(|index| chosen(*index)) {
+        let kind = records[index].0;
+        let more = if kind == Kind::M { mesh + of_each * layers_of(records, index) } else { layer };
+        tell_more(records, index, more);
+    }
+}
+
+/// How many H records a mesh has, by the place of its M.
+fn layers_of(records: &Records, index: usize) -> i32 {
+    let of_mesh = records[index + 1..].iter().take_while(|(kind, _)| *kind != Kind::M);
+    of_mesh.filter(|(kind, _)| *kind == Kind::H).count() as i32
+}
+
+/// The records total at a place tells so many more, if there is one and the number fits.
+pub fn tell_more(records: &mut Records, index: usize, more: i32) {
+    let (kind, bytes) = &mut records[index];
+    let Some(field) = records_total(*kind) else { return };
+    if let Some(text) = number(field.of(bytes)).and_then(|now| spelled(now + more, field.width())) {
+        set(bytes, &field, &text[..field.width()]);
+    }
+}
+
+/// Records counted in another way: in the whole file, in some of its meshes and layers, or in one of them.
+fn recount_some(random: &mut Random, records: &mut Records) {
+    let bearing: Vec<usize> = (0..records.len()).filter(|index| records_total(records[*index].0).is_some()).collect();
+    if bearing.is_empty() {
+        return;
+    }
+    let way = if random.percent(30) { OLD } else { *random.pick(&RECOUNTS) };
+    let times = *random.pick(&[0, 50, 100]);
+    let mut chosen: Vec<usize> = bearing.iter().copied().filter(|_| random.percent(times)).collect();
+    if chosen.is_empty() {
+        chosen.push(*random.pick(&bearing));
+    }
+    recount(records, way, |index| chosen.contains(&index));
 }
 
 /// A field of any kind set to an interesting value.

@@ -764,8 +764,8 @@ pub fn sheet(random: &mut Random, meshes: usize, size: usize) -> Sheet {
     Sheet { meshes: codes.into_iter().map(|code| mesh(random, code, unstructured, size)).collect() }
 }
 
-/// A mesh has at most so many records, since its total has five columns.
-const MOST_IN_MESH: usize = 99_999;
+/// A mesh has at most so many records: its M, and as many behind it as a total of five columns can tell.
+pub const MOST_IN_MESH: usize = 1 + 99_999;
 
 /// A sheet of exactly so many records: 2 to 6,399,936.
 pub fn sheet_of(random: &mut Random, records: usize) -> Sheet {

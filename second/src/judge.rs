@@ -92,13 +92,20 @@ pub fn judge(file: &[u8], table: &mut [u32], measures: &mut [i64]) -> Outcome {
 
 /// Runs the stages over a file.
 pub fn verdict(file: &[u8]) -> Verdict {
+    verdict_by(file, |_| ())
+}
+
+/// The same of a judge that takes what stage 2 finds for something else before the later stages look at it. Wrong judges are
+/// made so.
+pub fn verdict_by(file: &[u8], mistake: impl FnOnce(&mut Found)) -> Verdict {
     let mut verdict = Verdict::default();
     let mut kinds = Vec::new();
     let walked = stage_1(file).and_then(|()| stage_2(file, &mut kinds));
     verdict.kinds = kinds;
     match walked {
         Err(refusal) => verdict.early = refusal,
-        Ok(found) => {
+        Ok(mut found) => {
+            mistake(&mut found);
             verdict.table = table(&found);
             verdict.layers = found.layers().count();
             match later_stages(&found) {
@@ -200,7 +207,7 @@ fn later_stages(found: &Found) -> Result<(), Refusal> {
     broken.result()
 }
 
-/// Totals.
+/// Totals. A records total tells the records behind the one that bears it.
 fn stage_3(found: &Found, broken: &mut Broken) {
     for mesh in &found.meshes {
         let sum = |count: fn(&Layer) -> usize| mesh.layers.iter().map(count).sum::<usize>() as i64;
@@ -208,7 +215,7 @@ fn stage_3(found: &Found, broken: &mut Broken) {
             sum(|layer| layer.nodes.len()),
             sum(|layer| layer.lines.len()),
             sum(|layer| layer.areas.len()),
-            i64::from(mesh.length),
+            i64::from(mesh.behind),
         ];
         for (column, (told, counted)) in [32, 37, 42, 52].into_iter().zip(mesh.told.iter().zip(counted)) {
             if i64::from(*told) != counted {
@@ -217,7 +224,7 @@ fn stage_3(found: &Found, broken: &mut Broken) {
         }
     }
     for layer in found.layers() {
-        if i64::from(layer.told_records) != i64::from(layer.length) {
+        if i64::from(layer.told_records) != i64::from(layer.behind) {
             broken.rule(10, layer.record, 25);
         }
         for area in &layer.areas {

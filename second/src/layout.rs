@@ -148,6 +148,15 @@ pub fn codes(kind: Kind) -> &'static [usize] {
     }
 }
 
+/// The records total of a kind that bears one.
+pub fn records_total(kind: Kind) -> Option<Field> {
+    match kind {
+        Kind::M => Some(layout(kind).numbers[m::RECORDS]),
+        Kind::H => Some(layout(kind).numbers[h::RECORDS]),
+        _ => None,
+    }
+}
+
 /// The layer code of a kind that has codes: its first number.
 pub const LAYER: Field = Field { sort: Sort::Number, start: 3, end: 4 };
 

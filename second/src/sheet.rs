@@ -100,8 +100,14 @@ impl Sheet {
 }
 
 impl Mesh {
+    /// All records of the mesh.
     pub fn length(&self) -> usize {
-        1 + self.layers.iter().map(Layer::length).sum::<usize>()
+        1 + self.behind()
+    }
+
+    /// The records behind the M, those that its total tells: each layer's H and what is behind it.
+    pub fn behind(&self) -> usize {
+        self.layers.iter().map(|layer| 1 + layer.behind()).sum()
     }
 
     fn put(&self, records: &mut Records) {
@@ -113,7 +119,7 @@ impl Mesh {
             sum(|layer| layer.lines.len()),
             sum(|layer| layer.areas.len()),
             0,
-            self.length() as i32,
+            self.behind() as i32,
         ];
         put(records, Kind::M, &numbers, &self.name);
         self.layers.iter().for_each(|layer| layer.put(records));
@@ -121,11 +127,12 @@ impl Mesh {
 }
 
 impl Layer {
-    pub fn length(&self) -> usize {
+    /// The records behind the H, those that its total tells.
+    pub fn behind(&self) -> usize {
         let lines: usize = self.lines.iter().map(|line| 1 + line.points.len().div_ceil(7)).sum();
         let loops = |area: &Area| area.loops.iter().map(|one| one.len().div_ceil(12)).sum::<usize>();
         let areas: usize = self.areas.iter().map(|area| 1 + loops(area)).sum();
-        1 + self.nodes.len() + lines + areas
+        self.nodes.len() + lines + areas
     }
 
     fn put(&self, records: &mut Records) {
@@ -135,7 +142,7 @@ impl Layer {
             self.lines.len() as i32,
             self.areas.len() as i32,
             0,
-            self.length() as i32,
+            self.behind() as i32,
             self.first_made,
             self.last_changed,
         ];

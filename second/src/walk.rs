@@ -15,8 +15,8 @@ pub struct Mesh {
     pub code: i32,
     /// The totals that the M tells: nodes, lines, areas, records.
     pub told: [i32; 4],
-    /// The records counted, the M among them.
-    pub length: u32,
+    /// The records behind the M up to the mesh's last one, its H records among them: what its total has to tell.
+    pub behind: u32,
     pub layers: Vec<Layer>,
 }
 
@@ -27,8 +27,8 @@ pub struct Layer {
     pub letters: u32,
     /// The records that the H tells.
     pub told_records: i32,
-    /// The records counted, the H among them.
-    pub length: u32,
+    /// The records behind the H up to the layer's last one: what its total has to tell. 0 for an H alone.
+    pub behind: u32,
     pub nodes: Vec<Node>,
     pub lines: Vec<Line>,
     pub areas: Vec<Area>,
@@ -164,7 +164,7 @@ impl Walk<'_> {
             record,
             code,
             told: [values[m::NODES], values[m::LINES], values[m::AREAS], values[m::RECORDS]],
-            length: self.done as u32 + 1 - record,
+            behind: self.done as u32 - record,
             layers,
         })
     }
@@ -192,7 +192,7 @@ impl Walk<'_> {
             code,
             letters,
             told_records: values[h::RECORDS],
-            length: 0,
+            behind: 0,
             nodes: Vec::new(),
             lines: Vec::new(),
             areas: Vec::new(),
@@ -206,7 +206,7 @@ impl Walk<'_> {
         for serial in 1..=values[h::AREAS] {
             layer.areas.push(self.area(code, serial)?);
         }
-        layer.length = self.done as u32 + 1 - record;
+        layer.behind = self.done as u32 - record;
         Ok(layer)
     }
 

@@ -3,7 +3,7 @@
 mod parts;
 
 use parts::{are_found, compared};
-use second::compare::{one_byte_changes, Compare, NEVER};
+use second::compare::{full_totals, one_byte_changes, Compare, NEVER};
 use second::damage::{set, steering};
 use second::due::dues;
 use second::fields::{number, CODE, LAND};
@@ -374,6 +374,8 @@ fn a_right_program_agrees() {
     assert!(!compare.lines.contains(&0), "{:?}", compare.lines);
     assert!(compare.reached.iter().all(|call| call[NEVER] == 0));
     one_byte_changes(compare).unwrap();
+    full_totals(compare).unwrap();
+    assert!(!compare.totals.contains(&0), "{:?}", compare.totals);
 }
 
 #[test]

@@ -1,6 +1,6 @@
 //! Generated files are accepted, their sums agree, and they have what real sheets have.
 
-use second::generate::{assert_accepted, from_seed, sheet_of};
+use second::generate::{assert_accepted, from_seed, sheet_of, MOST_IN_MESH};
 use second::layout::{STRUCTURED, UNSTRUCTURED};
 use second::random::Random;
 use second::sheet::{Area, Layer, Line, Mesh, Sheet, Side};
@@ -99,9 +99,18 @@ fn unlike_its_area(layer: &Layer, side: &Side) -> bool {
 #[test]
 fn files_of_a_given_number_of_records() {
     let random = &mut Random::new(7);
-    for records in (2..120).chain([1000, 99_999, 100_000, 250_001]) {
+    for records in (2..120).chain([1000, 99_999, 100_000, 100_001, 250_001]) {
         let sheet = sheet_of(random, records);
         assert_accepted(&sheet);
         assert_eq!(sheet.bytes().len(), 74 * records);
     }
+}
+
+/// A mesh may have 100,000 records: its total has five columns and leaves its M out.
+#[test]
+fn a_mesh_of_the_most_records() {
+    let mut sheets = (0..).map(|seed| sheet_of(&mut Random::new(seed), MOST_IN_MESH));
+    let sheet = sheets.find(|sheet| sheet.meshes.len() == 1).unwrap();
+    assert_accepted(&sheet);
+    assert_eq!((sheet.meshes[0].length(), sheet.meshes[0].behind()), (100_000, 99_999));
 }

@@ -48,8 +48,8 @@ fn gives(changes: &[(usize, usize, &[u8])], expected: (u32, u32, u32)) {
 fn sheet_s_by_hand() {
     let name = "\u{1}\u{2}".repeat(20);
     let hand = [
-        format!("M 533945{}  1    1    1    1    0    7{:16}", &name[..20], ""),
-        format!("H2 1    1    1    1    0    6    0    0{:33}", ""),
+        format!("M 533945{}  1    1    1    1    0    6{:16}", &name[..20], ""),
+        format!("H2 1    1    1    1    0    5    0    0{:33}", ""),
         "N  1 3    1    0    0 1 2    1   -1    0    0    0    0    0    0    0  ".into(),
         format!("L  1 9    1     9    12    1288888    013101    1     5 0  0{:12}", ""),
         "    0    0    010000100001000010000    0    0    0    0    0    0    0  ".into(),
@@ -85,7 +85,7 @@ fn sheet_s_is_accepted() {
 #[test]
 fn the_proved_cases() {
     gives(&[], (0, 0, 0));
-    gives(&[(1, 52, b"    6")], (10, 1, 52));
+    gives(&[(1, 52, b"    7")], (10, 1, 52));
     gives(&[(3, 22, b" 0")], (6, 3, 22));
     gives(&[(3, 24, b" 1"), (3, 31, b"    0")], (14, 4, 24));
     gives(&[(5, 46, b"    1")], (12, 5, 41));
@@ -193,7 +193,7 @@ fn land_in_layer_1() {
 #[test]
 fn lines_by_hand() {
     let changes: [(usize, usize, &[u8]); 6] = [
-        (1, 42, b"    0"), (1, 52, b"    5"), (2, 1, b"H1"), (2, 15, b"    0"), (2, 25, b"    4"),
+        (1, 42, b"    0"), (1, 52, b"    4"), (2, 1, b"H1"), (2, 15, b"    0"), (2, 25, b"    3"),
         (4, 30, b"    0    0    0    0"),
     ];
     assert_eq!(lines_s().bytes(), s_with(&changes)[..5 * 74]);
@@ -260,7 +260,7 @@ fn lines_changed() {
     gives(&[(4, 3, b" 5")], (8, 4, 3));
     gives(&[(2, 10, b"10000")], (6, 2, 10));
     gives(&[(2, 20, b"    1")], (6, 2, 20));
-    gives(&[(2, 25, b"    5")], (10, 2, 25));
+    gives(&[(2, 25, b"    4")], (10, 2, 25));
     gives(&[(2, 36, b"  13")], (6, 2, 36));
     gives(&[(3, 5, b" 6")], (6, 3, 5));
     gives(&[(3, 7, b"    2")], (8, 3, 7));
@@ -278,7 +278,7 @@ fn lines_changed() {
     gives(&[(4, 56, b" 1")], (6, 4, 56));
     gives(&[(5, 46, b"    1")], (12, 5, 41));
     gives(&[(5, 51, b"    7")], (6, 5, 51));
-    gives(&[(1, 52, b"    6")], (10, 1, 52));
+    gives(&[(1, 52, b"    5")], (10, 1, 52));
     assert_eq!(answer(&lines_s().bytes()[..4 * 74]), (4, 5, 1));
     // What stands behind the last line is no area, whatever it is.
     let areas = &sheet_s().bytes()[5 * 74..];
@@ -361,6 +361,69 @@ fn lines_among_areas() {
     assert_eq!(answer(&file(&[&[land, lines]])), (8, 8, 3));
 }
 
+/// A records total leaves out the record that bears it. An M counts its H records, each with all that is behind it.
+#[test]
+fn records_totals() {
+    let s = |mesh, layer, expected| gives(&[(1, 52, mesh), (2, 25, layer)], expected);
+    s(b"    6", b"    5", (0, 0, 0));
+    s(b"    7", b"    5", (10, 1, 52));
+    s(b"    5", b"    5", (10, 1, 52));
+    s(b"    6", b"    6", (10, 2, 25));
+    s(b"    6", b"    4", (10, 2, 25));
+    // The old way counted the M and the H as well. The M stands first.
+    s(b"    7", b"    6", (10, 1, 52));
+    s(b"99999", b"    5", (10, 1, 52));
+    s(b"    0", b"    0", (10, 1, 52));
+    s(b"    6", b"    0", (10, 2, 25));
+    s(b"    7", b"   -1", (6, 2, 25));
+    // Two layers, the second one unstructured: five records behind the first H, three behind the other.
+    let both = |mesh: &[u8], one: &[u8], two: &[u8]| {
+        let totals: &[u8] = b"  2    2    2    1    0";
+        let first = s_with(&[(1, 29, totals), (1, 52, mesh), (2, 25, one)]);
+        answer(&[&first, &with(land_lines_s().bytes(), &[(2, 25, two)])[74..]].concat())
+    };
+    assert_eq!(both(b"   10", b"    5", b"    3"), (0, 0, 0));
+    assert_eq!(both(b"   11", b"    6", b"    4"), (10, 1, 52));
+    assert_eq!(both(b"   10", b"    6", b"    4"), (10, 2, 25));
+    assert_eq!(both(b"   10", b"    5", b"    4"), (10, 8, 25));
+    assert_eq!(both(b"   11", b"    5", b"    3"), (10, 1, 52));
+    for mesh in [b"    9", b"    8", b"    6", b"    5", b"    4", b"   12"] {
+        assert_eq!(both(mesh, b"    5", b"    3"), (10, 1, 52));
+    }
+    // In the second mesh of a file.
+    let second = |mesh, layer| {
+        let first = sheet_s().bytes();
+        answer(&[first, s_with(&[(1, 3, b"533946"), (1, 52, mesh), (2, 25, layer)])].concat())
+    };
+    assert_eq!(second(b"    6", b"    5"), (0, 0, 0));
+    assert_eq!(second(b"    7", b"    6"), (10, 8, 52));
+    assert_eq!(second(b"    6", b"    6"), (10, 9, 25));
+}
+
+/// An H alone has 0 records, and its M has 1.
+#[test]
+fn an_h_alone() {
+    for letters in [b"H1", b"H2"] {
+        let none: &[u8] = b"    0    0    0    0";
+        let changes: [(usize, usize, &[u8]); 5] =
+            [(1, 32, none), (1, 52, b"    1"), (2, 1, letters), (2, 5, none), (2, 25, b"    0")];
+        let file = with(sheet_s().bytes()[..2 * 74].to_vec(), &changes);
+        let mut table = [7; 6];
+        let outcome = judge(&file, &mut table, &mut []);
+        let counts = Counts { meshes: 1, layers: 1, nodes: 0, lines: 0, areas: 0, records: 2 };
+        assert_eq!((outcome.refusal, outcome.counts), (Refusal::default(), counts));
+        assert_eq!(table, [2, 0, 0, 0, u32::from(letters[1] - b'0'), 7]);
+        let gives = |mesh: &[u8], layer: &[u8], expected| {
+            assert_eq!(answer(&with(file.clone(), &[(1, 52, mesh), (2, 25, layer)])), expected);
+        };
+        gives(b"    1", b"    1", (10, 2, 25));
+        gives(b"    2", b"    1", (10, 1, 52));
+        gives(b"    2", b"    0", (10, 1, 52));
+        gives(b"    0", b"    0", (10, 1, 52));
+        gives(b"    1", b"   -1", (6, 2, 25));
+    }
+}
+
 #[test]
 fn lengths() {
     let s = sheet_s().bytes();
@@ -402,7 +465,7 @@ fn buffers() {
     let outcome = judge(&s, &mut table, &mut []);
     assert_eq!((outcome.refusal.number, outcome.need, outcome.counts), (19, 0, Counts::default()));
     assert_eq!(table, [2, 1, 1, 1, 2, 4, 6]);
-    let short = judge(&s_with(&[(1, 52, b"    6")]), &mut [0; 6], &mut []);
+    let short = judge(&s_with(&[(1, 52, b"    7")]), &mut [0; 6], &mut []);
     assert_eq!((short.refusal.number, short.need), (9, 7));
     let none = |number| (Refusal { number, record: 0, column: 0 }, Sums::default());
     assert_eq!(sums_of_layer(&s, &mut [0; 7], 0), none(22));
@@ -413,7 +476,7 @@ fn buffers() {
 #[test]
 fn sums_of_all_layers() {
     let s = sheet_s().bytes();
-    let wrong_total = s_with(&[(1, 52, b"    6")]);
+    let wrong_total = s_with(&[(1, 52, b"    7")]);
     let cases: [(&[u8], usize, usize, (u32, u32, u32), u64); 10] = [
         (&s, 7, 0, (48, 0, 0), 0),
         (&s, 8, 1, (48, 0, 0), 0),

@@ -72,7 +72,7 @@ impl Later {
 
 /// Totals of the H and of each A.
 fn stage_3(layer: &Layer) -> Kept {
-    rule(10, layer.record, 25, layer.told_records as u32 == layer.length)?;
+    rule(10, layer.record, 25, layer.told_records as u32 == layer.behind)?;
     let mut loops = layer.loops.iter();
     for area in &layer.areas {
         let lines: u32 = loops.by_ref().take(area.loops as usize).map(|one| one.count).sum();

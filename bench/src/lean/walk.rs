@@ -12,7 +12,7 @@ pub trait Judge {
     fn mesh(&mut self, mesh: &Mesh);
 }
 
-/// A mesh: what its M tells and what was counted: nodes, lines, areas, records.
+/// A mesh: what its M tells and what was counted: nodes, lines, areas, the records behind the M.
 pub struct Mesh {
     pub record: u32,
     pub told: [i32; 4],
@@ -29,8 +29,8 @@ pub struct Layer {
     /// 1 for H1, 2 for H2.
     pub letters: u32,
     pub told_records: i32,
-    /// The records counted, the H among them.
-    pub length: u32,
+    /// The records behind the H, which its total has to tell.
+    pub behind: u32,
     pub nodes: Vec<Node>,
     pub node_entries: Vec<i32>,
     pub lines: Vec<Line>,
@@ -186,7 +186,7 @@ impl<'a> Walk<'a> {
                 *sum += count;
             }
         }
-        counted[3] = self.done + 1 - at;
+        counted[3] = self.done - at;
         Ok(Mesh { record: at, told, counted })
     }
 
@@ -229,7 +229,7 @@ impl<'a> Walk<'a> {
         for serial in 1..=head.areas {
             self.area(head.code, serial)?;
         }
-        self.layer.length = self.done + 1 - self.layer.record;
+        self.layer.behind = self.done - self.layer.record;
         Ok(head.code)
     }
 

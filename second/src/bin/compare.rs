@@ -1,8 +1,9 @@
 //! compare: the proved program against this one. Exit status 1 at the first disagreement.
 
-use second::compare::{damages, every_code, every_field, every_letter, full_counts, land_changes, large, odd_values};
-use second::compare::{numbers, one_byte_changes, outside_sheet, positions, unstructured_changes, walks_astray};
-use second::compare::{Agreed, Compare, Disagreement, Reached, CALLS, LAND_BECAME, LINES_BECAME, NEVER};
+use second::compare::{damages, every_code, every_field, every_letter, full_counts, full_totals, land_changes, large};
+use second::compare::{numbers, odd_values, one_byte_changes, outside_sheet, positions, records_totals};
+use second::compare::{unstructured_changes, walks_astray, Agreed, Compare, Disagreement, Reached};
+use second::compare::{CALLS, LAND_BECAME, LINES_BECAME, NEVER, TOTALS_BECAME};
 use second::piped::Pipe;
 use second::product::{Product, Second};
 use second::random::Random;
@@ -109,10 +110,12 @@ fn main() -> ExitCode {
     }
     let result = parts(&mut compares, &options).and_then(|()| each(&mut compares, |compare| compare.end()));
     let (reached, due, land, lines) = (reached(&compares), due(&compares), land(&compares), lines(&compares));
+    let totals = totals(&compares);
     print_reached(&reached);
     print_due(&due);
     print_land(&land);
     print_lines(&lines);
+    print_totals(&totals);
     match result {
         Ok(()) if reached.iter().any(|call| call[NEVER] > 0) => {
             println!("{NEVER} was the answer, which it never is.");
@@ -132,6 +135,10 @@ fn main() -> ExitCode {
         }
         Ok(()) if options.parts == ALL && lines.contains(&0) => {
             println!("An unstructured layer was never accepted, refused, read or written back in one of these ways.");
+            ExitCode::from(1)
+        }
+        Ok(()) if options.parts == ALL && totals.contains(&0) => {
+            println!("Records totals were never accepted or refused in one of these ways.");
             ExitCode::from(1)
         }
         Ok(()) => {
@@ -177,6 +184,9 @@ fn parts(compares: &mut [Compare], options: &Options) -> Agreed {
         each(compares, land_changes)?;
         each(compares, unstructured_changes)?;
         told(compares, "every one-byte change of sheet S, of codes in layer 5, and of what tells of areas under an H1");
+        each(compares, records_totals)?;
+        each(compares, full_totals)?;
+        told(compares, "records totals");
     }
     if runs('2') {
         each(compares, |compare| every_field(compare, options.seed..options.seed + few(2, 40)))?;
@@ -240,6 +250,11 @@ fn lines(compares: &[Compare]) -> [u64; 12] {
     std::array::from_fn(|became| compares.iter().map(|compare| compare.lines[became]).sum())
 }
 
+/// What became of records totals, in all comparisons.
+fn totals(compares: &[Compare]) -> [u64; 15] {
+    std::array::from_fn(|became| compares.iter().map(|compare| compare.totals[became]).sum())
+}
+
 fn print_reached(reached: &Reached) {
     print!("number");
     for call in CALLS {
@@ -265,6 +280,10 @@ fn print_land(land: &[u64; 5]) {
 
 fn print_lines(lines: &[u64; 12]) {
     print_times("unstructured layers", &LINES_BECAME, lines);
+}
+
+fn print_totals(totals: &[u64; 15]) {
+    print_times("records totals", &TOTALS_BECAME, totals);
 }
 
 fn print_times(of: &str, names: &[&str], times: &[u64]) {
