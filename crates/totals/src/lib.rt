@@ -160,7 +160,7 @@ fn judge_total(t: &[u8], c: Columns, counted: usize, row: u32) -> Verdict
     }
 }
 
-// The totals of an M.
+// The totals of an M, by what follows it in its mesh: the M itself is not counted.
 fn judge_mesh(t: &[u8], s: Sums, row: u32) -> Verdict
     ensures { λ r. ⌜ r ≡ firstBroken (block fourth row (meshTotals (now (t .entry)) s)) ⌝ }
 {
@@ -191,7 +191,8 @@ fn judge_mesh(t: &[u8], s: Sums, row: u32) -> Verdict
     judge_total(t, records::MESH_RECORDS, s.records, row)
 }
 
-// The totals of record `k + 1`, due as `d`; `next` is the state behind it.
+// The totals of record `k + 1`, due as `d`; `next` is the state behind it. Counting begins behind the record,
+// so an M or an H is no part of its own total.
 fn judge_totals(d: Due, file: &[u8], k: usize, next: State) -> Verdict
     requires { ⌜ (k < 6399936) × (next ≡ stateAt (now file) (k + 1)) ⌝ }
     ensures { λ r. ⌜ r ≡ firstBroken (block fourth (k + 1) (totalChecks d (now (file .entry)) k)) ⌝ }
