@@ -15,24 +15,13 @@ use Rattle.verdict.specs.declared.Verdict.the-variants.{Fine}
 use Rattle.verdict.specs.Rules.{firstBroken}
 use Rattle.verdict.proofs.Holding.{Holding, row-fine, all-hold}
 use Rattle.rules.specs.declared.Due.{Due}
-use Rattle.rules.specs.declared.Due.the-variants.{Mesh, Layer, Node, Line, Coordinates, Area, Loop}
+use Rattle.rules.specs.declared.Due.the-variants.{Mesh, Layer}
 use Rattle.walk.specs.States.{sizeAt, dueOf, stateAt}
 use Rattle.walk.specs.Stages.{recordsOf}
 use Rattle.totals.specs.declared.Sums.{Sums}
 use Rattle.totals.specs.Totals.{rankOf, noSums, addedFor, sumsFrom, sumsBehind, meshTotals, layerTotals, totalChecks, fourth, stageThree}
 use Rattle.totals.specs.Leads.{Leads}
-use Rattle.totals.proofs.Summing.{sums-start, sums-stop, sums-more, sums-end, totalsOf}
-
--- every record adds one
-one-counted : (d : Due) (s : Sums) (t : List ℕ) → addedFor d s t .records ≡ s .records + 1
-one-counted (Mesh last) s t = refl
-one-counted (Layer last) s t = refl
-one-counted (Node layer last) s t = refl
-one-counted (Line layer last letters) s t = refl
-one-counted (Coordinates left) s t = refl
-one-counted (Area layer last) s t = refl
-one-counted (Loop last count zero) s t = refl
-one-counted (Loop last count (suc left)) s t = refl
+use Rattle.totals.proofs.Summing.{added-grown, sums-start, sums-stop, sums-more, sums-end, totalsOf}
 
 module _ (r : ℕ) (file : List ℕ) where
   -- no two numbers lead on from one record: what the smaller one leads to, the larger one passes
@@ -79,7 +68,7 @@ module _ (r : ℕ) (file : List ℕ) where
   by-rank k s false l t f q c =
       let h = leb-false _ _ t in
       let a = c (sums-more r file k s l refl refl refl h refl f q) in
-      let g = ap (λ (u : Sums). u .records) f ∙ one-counted (dueOf (stateAt file k)) s (recordOf file (k + 1)) in
+      let g = ap (λ (u : Sums). u .records) f ∙ added-grown (dueOf (stateAt file k)) s (recordOf file (k + 1)) .records in
       (omega (arith, a .0), one-leads k (omega (arith, a .0)) h (a .1))
 
   records-lead : (n k : ℕ) (s : Sums) {z : Sums} → k + n ≡ recordsOf file → sumsFrom r file k (recordsOf file - k) s ≡ z → Counted k s z

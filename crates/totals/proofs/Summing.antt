@@ -44,31 +44,50 @@ most-addable k l a = record {
   entries = omega (arith, a .entries);
 }
 
-one-addable : (k : ℕ) {s u : Sums} → Addable k s
-    → u .records ≡ s .records + 1 → u .nodes ≤ s .nodes + 999999 → u .lines ≤ s .lines + 999999
-    → u .areas ≤ s .areas + 999999 → u .entries ≤ s .entries + 999999
-    → Addable (k + 1) u
-one-addable k a r n l p e = record {
-  records = omega (arith, a .records);
-  nodes = omega (arith, a .nodes);
-  lines = omega (arith, a .lines);
-  areas = omega (arith, a .areas);
-  entries = omega (arith, a .entries);
+-- what a record adds to the sums: itself, and to each of the others a number of six digits at most
+pub record Grown (s u : Sums) : Type 0 where
+  pub records : u .records ≡ s .records + 1
+  pub nodes : u .nodes ≤ s .nodes + 999999
+  pub lines : u .lines ≤ s .lines + 999999
+  pub areas : u .areas ≤ s .areas + 999999
+  pub entries : u .entries ≤ s .entries + 999999
+
+one-grown : (s : Sums) → Grown s (oneMore s)
+one-grown s = record { records = refl; nodes = omega arith; lines = omega arith; areas = omega arith; entries = omega arith }
+
+pub added-grown : (d : Due) (s : Sums) (t : List ℕ) → Grown s (addedFor d s t)
+added-grown (Mesh last) s t = one-grown s
+added-grown (Layer last) s t = record {
+  records = refl;
+  nodes = omega (arith, size-small t 5 5);
+  lines = omega (arith, size-small t 10 5);
+  areas = omega (arith, size-small t 15 5);
+  entries = omega arith;
+}
+added-grown (Node layer last) s t = one-grown s
+added-grown (Line layer last letters) s t = one-grown s
+added-grown (Coordinates left) s t = one-grown s
+added-grown (Area layer last) s t = one-grown s
+added-grown (Loop last count zero) s t = record {
+  records = refl;
+  nodes = omega arith;
+  lines = omega arith;
+  areas = omega arith;
+  entries = omega (arith, size-small t 6 4);
+}
+added-grown (Loop last count (suc left)) s t = one-grown s
+
+grown-addable : (k : ℕ) {s u : Sums} → Grown s u → Addable k s → Addable (k + 1) u
+grown-addable k g a = record {
+  records = omega (arith, g .records, a .records);
+  nodes = omega (arith, g .nodes, a .nodes);
+  lines = omega (arith, g .lines, a .lines);
+  areas = omega (arith, g .areas, a .areas);
+  entries = omega (arith, g .entries, a .entries);
 }
 
-added-addable : (k : ℕ) (d : Due) (s : Sums) (t : List ℕ) → Addable k s → Addable (k + 1) (addedFor d s t)
-added-addable k (Mesh last) s t a = one-addable k a refl (omega arith) (omega arith) (omega arith) (omega arith)
-added-addable k (Layer last) s t a =
-    one-addable k a refl (omega (arith, size-small t 5 5)) (omega (arith, size-small t 10 5)) (omega (arith, size-small t 15 5)) (omega arith)
-added-addable k (Node layer last) s t a = one-addable k a refl (omega arith) (omega arith) (omega arith) (omega arith)
-added-addable k (Line layer last letters) s t a = one-addable k a refl (omega arith) (omega arith) (omega arith) (omega arith)
-added-addable k (Coordinates left) s t a = one-addable k a refl (omega arith) (omega arith) (omega arith) (omega arith)
-added-addable k (Area layer last) s t a = one-addable k a refl (omega arith) (omega arith) (omega arith) (omega arith)
-added-addable k (Loop last count zero) s t a = one-addable k a refl (omega arith) (omega arith) (omega arith) (omega (arith, size-small t 6 4))
-added-addable k (Loop last count (suc left)) s t a = one-addable k a refl (omega arith) (omega arith) (omega arith) (omega arith)
-
 pub more-addable : (k : ℕ) (d : Due) (s : Sums) (t : List ℕ) {x : Sums} → x ≡ addedFor d s t → Addable k s → Addable (k + 1) x
-more-addable k d s t e a = rw e (added-addable k d s t a)
+more-addable k d s t e a = rw e (grown-addable k (added-grown d s t) a)
 
 -- ---- quiet records
 

@@ -21,6 +21,7 @@ use Rattle.totals.specs.declared.Sums.{Sums}
 
 -- ---- what follows a record
 
+-- RULES 2.3: the sums of an M end at the next M, those of an H at the next H or M, those of an A at the next that is no loop record
 abbrev pub rankOf : Due → ℕ
 rankOf (Mesh last) = 0
 rankOf (Layer last) = 1
@@ -69,6 +70,7 @@ sumsFrom r file k (suc n) s =
     s
     (sumsFrom r file (suc k) n (addedFor (dueOf (stateAt file k)) s (recordOf file (suc k))))
 
+-- RULES 6.6: those of what follows the first k records; the last of these, which bears the total, is no part of them
 unfoldable pub sumsBehind : ℕ → List ℕ → ℕ → Sums
 sumsBehind r file k = sumsFrom r file k (recordsOf file - k) noSums
 
