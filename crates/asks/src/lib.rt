@@ -3,6 +3,8 @@
 // to a row of these tables is checked without the judge of records.
 //
 // The contracts cite `specs/Asks`.
+#![tactic(auto)]
+
 ghost use Rattle.std.specs.Prelude.{◌≡◌, [], ◌∷◌, ltb, get_or};
 ghost use Rattle.permitted.specs.Permitted.{is_slot, is_loop_serial};
 ghost use Rattle.asks.specs.Asks.{permitted, in_step, at, layer_ask, mesh_asks, layer_asks, node_asks, line_asks, coordinate_asks, area_asks, loop_asks};

@@ -3,6 +3,8 @@
 // what a record's kind is by number.
 //
 // The contracts cite the definitions of the calls below, and `specs/Values.antt` for the kinds.
+#![tactic(auto)]
+
 ghost use Rattle.std.specs.Prelude.{◌≡◌, length};
 ghost use Rattle.walk.specs.Stages.{need_of};
 ghost use Rattle.dues.specs.Dues.{due_at};
@@ -17,7 +19,7 @@ use positions::Placed;
 use records::{Kind, Record};
 
 // What a kind's number stands for: a kind, or nothing.
-#[derive(Drop)]
+#[derive(Clone, Copy)]
 pub enum Meant {
     A(Kind),
     Nothing,
@@ -26,7 +28,7 @@ pub enum Meant {
 // A record's value with its kind as a number: 1 M, 2 H, 3 N, 4 L, 5 coordinates, 6 A, 7 loop. The marks and
 // then the letters stand behind the name, as in the header.
 #[repr(C)]
-#[derive(Drop)]
+#[derive(Clone, Copy)]
 pub struct Value {
     pub kind: u32,
     pub numbers: [i32; 16],
@@ -38,7 +40,7 @@ pub struct Value {
 // What reading finds: a refusal's number with its place, record and column, or 0 at 0, 0; and the
 // value.
 #[repr(C)]
-#[derive(Drop)]
+#[derive(Clone, Copy)]
 pub struct Found {
     pub number: u32,
     pub place: u32,

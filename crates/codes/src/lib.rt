@@ -4,6 +4,8 @@
 //
 // In which records " 0000" may stand is no matter of the field: `records` asks for layer 5.
 // The contracts cite `specs/Code`; `proofs/CodeLaws` has the laws.
+#![tactic(auto)]
+
 ghost use Rattle.std.specs.Prelude.{◌≡◌};
 ghost use Rattle.fields.specs.Answer.{Wrote};
 ghost use Rattle.codes.specs.Code.{is_land, land_at, code_at, code_fits, spell_code};
@@ -11,7 +13,7 @@ ghost use Rattle.codes.specs.Code.{is_land, land_at, code_at, code_fits, spell_c
 use fields::{Number, Writing};
 
 // The answer to a code field: its value and its mark, or refusal 5.
-#[derive(Drop)]
+#[derive(Clone, Copy)]
 pub enum Code {
     Refused,
     Value(i32, u32),

@@ -2,6 +2,8 @@
 // function takes every file and every number.
 //
 // The contract cites `specs/Dues`, which goes by the walk (RULES 2) as stage 2 does.
+#![tactic(auto)]
+
 ghost use Rattle.std.specs.Prelude.{◌≡◌, ◌≤◌};
 ghost use Rattle.walk.specs.States.{state_at};
 ghost use Rattle.dues.specs.Dues.{due_at};
@@ -10,7 +12,7 @@ use records::Kind;
 use walk::State;
 
 // What is told of a record: the kind that is due there, or nothing.
-#[derive(Drop)]
+#[derive(Clone, Copy)]
 pub enum Owed {
     A(Kind),
     Nothing,

@@ -3,6 +3,8 @@
 //
 // The contracts cite `specs/`: `Entries` says which entries a loop and an area have, `Loops` what their
 // measures are.
+#![tactic(auto)]
+
 ghost use Rattle.std.specs.Prelude.{◌≡◌, ◌≤◌, min, length};
 ghost use Rattle.std.proofs.lemmas.List.Edits.{sets};
 ghost use Rattle.permitted.specs.Permitted.{size};

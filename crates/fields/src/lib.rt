@@ -9,26 +9,28 @@
 // are checked in seconds and the code is not, so a change to a part of the code costs the check of that
 // part alone: `texts` reads names and blanks, `numerals` reads numbers, `glances` has what serves
 // speed alone, `writers` writes all three.
+#![tactic(auto)]
+
 ghost use Rattle.std.specs.Prelude.{◌≡◌};
 ghost use Rattle.fields.specs.Number.{is_digit};
 ghost use Rattle.fields.specs.Place.{is_inside};
 
 // The answer to a number field: its value, or refusal 5.
-#[derive(Drop)]
+#[derive(Clone, Copy)]
 pub enum Number {
     Refused,
     Value(i32),
 }
 
 // The answer to a name or a blank field: well formed, or refusal 5. Its value is its bytes.
-#[derive(Drop)]
+#[derive(Clone, Copy)]
 pub enum Text {
     Refused,
     WellFormed,
 }
 
 // A writer's answer: written, or refusal 20 with the buffer as it was.
-#[derive(Drop)]
+#[derive(Clone, Copy)]
 pub enum Writing {
     Refused,
     Done,
@@ -36,7 +38,7 @@ pub enum Writing {
 
 // What is still to be written, column by column from the right: a number's digits and then its
 // minus sign, if it has one; the minus sign alone; or spaces.
-#[derive(Drop)]
+#[derive(Clone, Copy)]
 pub enum Left {
     Blanks,
     Minus,

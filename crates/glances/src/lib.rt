@@ -4,12 +4,14 @@
 //
 // The contracts cite `specs/Glimpse`: what a glance says of a field's number, the sum of the remainders
 // of its bytes, and the end of a field that says 0.
+#![tactic(auto)]
+
 ghost use Rattle.std.specs.Prelude.{◌≡◌, [], ◌∷◌, length};
 ghost use Rattle.fields.specs.Number.{is_digit, number_of, number_at};
 ghost use Rattle.glances.specs.Glimpse.{glimpse_of, remainders, remainders_at, is_lone_zero};
 
 // What a field says at a glance: a number, or nothing.
-#[derive(Drop)]
+#[derive(Clone, Copy)]
 pub enum Glance {
     Unsure,
     Sure(u32),

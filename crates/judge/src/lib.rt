@@ -4,6 +4,8 @@
 //
 // The contracts cite `specs/`: `Rulebook` has the rules in that order, `Outcomes` what is answered and
 // what each lent buffer holds afterwards.
+#![tactic(auto)]
+
 ghost use Rattle.std.specs.Prelude.{◌≡◌, suc, ◌+◌, ◌*◌, ◌≤◌, pos, length};
 ghost use Rattle.std.proofs.lemmas.List.Edits.{sets};
 ghost use Rattle.verdict.specs.declared.Verdict.TheVariants.{Fine};
@@ -30,7 +32,7 @@ use walk::{Counts, Tabled};
 // areas and records, 0 where it is refused; and the words that it needs where the table is too short (9),
 // 0 elsewhere.
 #[repr(C)]
-#[derive(Drop)]
+#[derive(Clone, Copy)]
 pub struct Outcome {
     pub number: u32,
     pub place: u32,
@@ -47,7 +49,7 @@ pub struct Outcome {
 // What is answered for a layer: a refusal's number and place, or 0 at 0, 0; the sum of the areas'
 // measures, and the outside sum.
 #[repr(C)]
-#[derive(Drop)]
+#[derive(Clone, Copy)]
 pub struct Sums {
     pub number: u32,
     pub place: u32,

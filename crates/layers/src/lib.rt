@@ -3,6 +3,8 @@
 //
 // The contracts cite `specs/`: `Naming` says what a number names, `Passing` the layer of a record, `Standing`
 // where a walk over the records stands.
+#![tactic(auto)]
+
 ghost use Rattle.std.specs.Prelude.{◌≡◌, cond, List, ℕ, ◌+◌, ◌-◌, ◌*◌, ◌≤◌, ◌<◌, min, get_or};
 ghost use Rattle.walk.specs.Row.{row_length};
 ghost use Rattle.layers.specs.Naming.{row_word, words_before, layer_in, names, names_line, node_of, line_of, area_of};
@@ -13,7 +15,7 @@ use rules::Due;
 use walk::State;
 
 // Where the lines and the areas of all layers begin in the table.
-#[derive(Drop)]
+#[derive(Clone, Copy)]
 pub struct Bases {
     pub lines: u32,
     pub areas: u32,
@@ -21,7 +23,7 @@ pub struct Bases {
 
 // A layer: its H record; how many nodes, lines and areas it has; and where the words of its first line
 // and of its first area stand in the table.
-#[derive(Drop)]
+#[derive(Clone, Copy)]
 pub struct Layer {
     pub head: u32,
     pub nodes: u32,
@@ -172,7 +174,7 @@ pub fn rows_of(d: Due) -> usize
 
 // Where a walk stands behind its first `records` records: the state; how many layers came; and the layer
 // in which the numbers of the next record name records.
-#[derive(Drop)]
+#[derive(Clone, Copy)]
 pub struct Standing {
     pub state: State,
     pub rows: usize,

@@ -2,6 +2,8 @@
 // both sides say the same. Every public function takes every file and every table.
 //
 // The contracts cite `specs/Links.antt`.
+#![tactic(auto)]
+
 ghost use Rattle.std.specs.Prelude.{◌≡◌, false, true, cond, not, ◌+◌, ◌-◌, ◌≤◌, ◌<◌, get_or};
 ghost use Rattle.verdict.specs.declared.Verdict.TheVariants.{Broken};
 ghost use Rattle.verdict.specs.Rules.{first_broken, block};
@@ -85,7 +87,7 @@ pub fn slot_of(file: &[u8], f: usize, e: usize) -> i32
 }
 
 // Whose slots they are: those of an N; or those of the loop records of an area.
-#[derive(Drop)]
+#[derive(Clone, Copy)]
 pub enum Owner {
     Node,
     Area,

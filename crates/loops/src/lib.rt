@@ -3,6 +3,8 @@
 // every file and every table.
 //
 // The contracts cite `specs/Loops.antt`.
+#![tactic(auto)]
+
 ghost use Rattle.std.specs.Prelude.{◌≡◌, not, ◌+◌, ◌*◌, ◌-◌, ◌≤◌, ◌<◌, length};
 ghost use Rattle.records.specs.Columns.{loop_entries, slot_column};
 ghost use Rattle.verdict.specs.declared.Verdict.TheVariants.{Broken};

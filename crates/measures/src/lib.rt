@@ -3,13 +3,15 @@
 //
 // The contracts cite `specs/`: `Measures` says what a line's, a loop's and an area's measure is,
 // `Points` which points a line of a file has, `Sound` which lines the code measures so.
+#![tactic(auto)]
+
 ghost use Rattle.std.specs.Prelude.{◌≡◌, ◌≤◌};
 ghost use Rattle.measures.specs.Points.{pair_by, point_count, measure_by};
 ghost use Rattle.measures.specs.Walks.{Small, Near, far, Seven, step_to, walk_along};
 ghost use Rattle.measures.specs.Sound.{added_up};
 
 // A walk walkAlong points: the sum so far, and the point where it stands.
-#[derive(Drop)]
+#[derive(Clone, Copy)]
 struct Walk {
     sum: i64,
     x: i64,

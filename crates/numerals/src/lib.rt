@@ -4,6 +4,8 @@
 //
 // The contracts cite `Number` of `fields`, a definition a step: `after_blanks`, `plain_of`, and `number_at` for
 // the whole.
+#![tactic(auto)]
+
 ghost use Rattle.std.specs.Prelude.{◌≡◌, ◌≤◌, length, drop};
 ghost use Rattle.fields.specs.Number.{is_width, after_blanks, plain_of, number_of, number_at};
 ghost use Rattle.fields.specs.Answer.{value_of};
@@ -103,7 +105,7 @@ fn digits(f: &[u8], from: usize) -> Number
 // glance in front and its digits from the right. It says what the same definition says.
 
 // The digits at a field's end: the index where they start, and the number that they say.
-#[derive(Drop)]
+#[derive(Clone, Copy)]
 struct Ending {
     from: usize,
     size: u32,

@@ -3,6 +3,8 @@
 // ask here too, and so that a change to one rule is checked without the judge of records.
 //
 // The contracts cite `specs/Permitted`.
+#![tactic(auto)]
+
 ghost use Rattle.std.specs.Prelude.{◌≡◌, ◌&&◌, leb};
 ghost use Rattle.permitted.specs.Permitted.{natural, size, is_zero, within, is, at_least, is_mesh_code, follows_mesh, one_or_five, is_layer_code, follows_layer};
 ghost use Rattle.permitted.specs.Permitted.{is_date, node_item_one, node_item_five, is_node_item, on_frame, layered, is_frame, line_item_one};

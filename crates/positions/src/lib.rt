@@ -2,11 +2,13 @@
 // code of its sheet and its X and Y there. The public function takes every number.
 //
 // The contracts cite `specs/Degrees.antt`. What is permitted stands in `permitted`.
+#![tactic(auto)]
+
 ghost use Rattle.std.specs.Prelude.{◌≡◌, ◌≤◌};
 ghost use Rattle.positions.specs.Degrees.{position_of, placed, not_placed};
 
 #[repr(C)]
-#[derive(Drop)]
+#[derive(Clone, Copy)]
 pub struct Position {
     pub latitude: f64,
     pub longitude: f64,
@@ -14,7 +16,7 @@ pub struct Position {
 
 // A position beside its refusal number: 0, or 6 with both degrees 0.
 #[repr(C)]
-#[derive(Drop)]
+#[derive(Clone, Copy)]
 pub struct Placed {
     pub number: u32,
     pub position: Position,

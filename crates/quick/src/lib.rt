@@ -3,6 +3,8 @@
 // fewer steps, so that `rules` can be read without it.
 //
 // The contracts cite `specs/Checks` of `rules`.
+#![tactic(auto)]
+
 ghost use Rattle.std.specs.Prelude.{◌≡◌, cond, ℕ, ◌/◌, ltb};
 ghost use Rattle.verdict.specs.Rules.{first_broken, is_fine, block};
 ghost use Rattle.rules.specs.Checks.{checks_of};

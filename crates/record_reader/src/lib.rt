@@ -2,6 +2,8 @@
 // The one public function takes every input.
 //
 // The contracts cite `Reading` of `records`.
+#![tactic(auto)]
+
 ghost use Rattle.std.specs.Prelude.{◌≡◌, ◌+◌, ◌≤◌, length};
 ghost use Rattle.std.proofs.lemmas.List.Edits.{sets};
 ghost use Rattle.records.specs.Reading.{accepted, refused_at, fields_of, reading_of};

@@ -2,6 +2,8 @@
 // copied. The one public function takes every input.
 //
 // The contracts cite `Writing` of `records`.
+#![tactic(auto)]
+
 ghost use Rattle.std.specs.Prelude.{◌≡◌, drop};
 ghost use Rattle.records.specs.Writing.{no_numbers, no_bytes, mark_fits, second_letter, letters_fit, SpelledAs, Written};
 
@@ -9,7 +11,7 @@ use fields::Writing;
 use records::{Field, Kind, Record};
 
 // A record's 74 bytes, where its value fits.
-#[derive(Drop)]
+#[derive(Clone, Copy)]
 struct Spelled {
     ok: bool,
     line: [u8; 74],

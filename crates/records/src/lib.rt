@@ -4,6 +4,8 @@
 //
 // The contracts cite `specs/`: `Layout` has the layouts, `Reading` and `Writing` say what a record's
 // bytes and a record's value are to each other, `View` is a record of a file.
+#![tactic(auto)]
+
 ghost use Rattle.std.specs.Prelude.{◌≡◌, ◌≤◌, get_or};
 ghost use Rattle.records.specs.Layout.{mesh_layout, layer_layout, node_layout, line_layout, coordinates_layout, area_layout, loop_layout, layout_of};
 ghost use Rattle.records.specs.Reading.{letters_fault, head_letters, is_head, letters_in, in_layer_five, code_in};
@@ -14,7 +16,7 @@ use codes::Code;
 use fields::Number;
 
 // The seven kinds: M, H, N, L, coordinates, A and loop.
-#[derive(Drop)]
+#[derive(Clone, Copy)]
 pub enum Kind {
     Mesh,
     Layer,
@@ -27,7 +29,7 @@ pub enum Kind {
 
 // A field of a layout, with its first column and its width: a number, a code, a name, or blanks; or type
 // letters, the first and the two of which either may stand second; or no field.
-#[derive(Drop)]
+#[derive(Clone, Copy)]
 pub enum Field {
     End,
     Letters(u8, u8, u8),
@@ -38,12 +40,12 @@ pub enum Field {
 }
 
 // The columns of a field: the first one, and how many.
-#[derive(Drop)]
+#[derive(Clone, Copy)]
 pub struct Columns(pub usize, pub usize);
 
 // A row of slots of width 5: the first one's column, how many columns one starts behind the other, and how
 // many there are.
-#[derive(Drop)]
+#[derive(Clone, Copy)]
 pub struct Slots(pub u8, pub u8, pub u8);
 
 // ---- the number fields that are read alone, by name (RULES 4.1 to 4.7)
@@ -122,7 +124,7 @@ pub const SLOT_WIDTH: usize = 5;
 
 // A record's value (RULES 4.8): its kind, its numbers in column order, its name bytes, the marks of its
 // codes and the letters of an H, 1 or 2. What the kind lacks is 0.
-#[derive(Drop)]
+#[derive(Clone, Copy)]
 pub struct Record {
     pub kind: Kind,
     pub numbers: [i32; 16],
@@ -133,7 +135,7 @@ pub struct Record {
 
 // What reading finds: a refusal's number with its place, record and column, or 0 at 0, 0; and the
 // value.
-#[derive(Drop)]
+#[derive(Clone, Copy)]
 pub struct Reading {
     pub number: u32,
     pub place: u32,

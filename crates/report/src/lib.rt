@@ -3,6 +3,8 @@
 // one call.
 //
 // The contracts cite `specs/`: `Texts` has the text of every input.
+#![tactic(auto)]
+
 ghost use Rattle.std.specs.Prelude.{◌≡◌, ◌++◌, ◌+◌, ◌*◌, ◌≤◌, pos, length, get_or};
 ghost use Rattle.walk.specs.Stages.{records_of};
 ghost use Rattle.report.specs.Texts.{decimal, signed, text_line, refused_text, ok_text, shown_in, area_text, record_text, area_count, areas_text, check_text, measure_text};
@@ -14,7 +16,7 @@ use streams::Input;
 use walk::State;
 
 // What is printed of an area, beside its measure.
-#[derive(Drop)]
+#[derive(Clone, Copy)]
 pub struct Shown {
     pub mesh: usize,
     pub layer: usize,

@@ -3,6 +3,8 @@
 //
 // The contracts cite `specs/Checks`, the checks of a record in the order of judgement. What is asked of
 // each number stands in `asks`, and what a permitted value is in `permitted`.
+#![tactic(auto)]
+
 ghost use Rattle.std.specs.Prelude.{◌≡◌, [], ◌≤◌, get_or};
 ghost use Rattle.verdict.specs.declared.Verdict.TheVariants.{Broken};
 ghost use Rattle.verdict.specs.Rules.{first_broken, block};
@@ -15,7 +17,7 @@ use records::{Field, Kind};
 use verdict::Verdict;
 
 // What is due at a place of a file, with what its rules need to know of the records before it.
-#[derive(Drop)]
+#[derive(Clone, Copy)]
 pub enum Due {
     Mesh(usize), // M: the mesh code before it, or 0
     Layer(usize), // H: the layer code before it in its mesh, or 0

@@ -1,4 +1,6 @@
 // Each argument names a file of data/: its name, and what the programs `check` and `measure` print of it.
+#![tactic(auto)]
+
 use libc::STDOUT_FILENO;
 
 // Opens a file for one program; -1 where that fails, which is told.

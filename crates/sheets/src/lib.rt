@@ -1,2 +1,3 @@
 // The smallest sheet and its neighbours (RULES 11), and what the judge's definitions answer to each,
 // computed. Definitions and theorems; no code.
+#![tactic(auto)]

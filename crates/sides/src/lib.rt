@@ -2,6 +2,8 @@
 // Every public function takes every file and every table.
 //
 // The contracts cite `specs/`: `Sides` has the rules of the stage, `Marking` the marks that spare searches.
+#![tactic(auto)]
+
 ghost use Rattle.std.specs.Prelude.{◌≡◌, ◌≤◌};
 ghost use Rattle.verdict.specs.declared.Verdict.TheVariants.{Broken};
 ghost use Rattle.verdict.specs.Rules.{first_broken, block};

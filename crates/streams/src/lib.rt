@@ -2,12 +2,14 @@
 // fails is told on standard error.
 //
 // The contract of `read_input` cites `specs/Reading`.
+#![tactic(auto)]
+
 ghost use Rattle.streams.specs.Reading.{Within};
 
 use libc::STDOUT_FILENO;
 
 // What reading gave: so many bytes, or a read that failed.
-#[derive(Drop)]
+#[derive(Clone, Copy)]
 pub enum Input {
     Bytes(usize),
     Failed,

@@ -2,6 +2,8 @@
 // width. The writers ask here too, so it is a crate below theirs.
 //
 // The contracts cite `Text` of `fields`.
+#![tactic(auto)]
+
 ghost use Rattle.std.specs.Prelude.{◌≡◌};
 ghost use Rattle.fields.specs.Text.{is_pair, is_name, is_blanks, text_at};
 

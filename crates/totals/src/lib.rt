@@ -2,6 +2,8 @@
 //
 // The contracts cite `specs/Totals.antt`, which says what follows a record and what its totals have to
 // be.
+#![tactic(auto)]
+
 ghost use Rattle.std.specs.Prelude.{◌≡◌, [], ◌∷◌, ◌+◌, ◌≤◌, ◌<◌, eqb};
 ghost use Rattle.verdict.specs.Rules.{check, first_broken, block};
 ghost use Rattle.walk.specs.States.{size_in, state_at};
@@ -15,7 +17,7 @@ use walk::State;
 
 // What follows a record: how many records, the totals of the H records among them, and the line counts of
 // the loops.
-#[derive(Drop)]
+#[derive(Clone, Copy)]
 struct Sums {
     records: usize,
     nodes: usize,

@@ -1,9 +1,11 @@
 // What a stage answers (RULES 6.1, 6.2): every rule is kept, or
 // the first broken one with its number and its place.
+#![tactic(auto)]
+
 ghost use Rattle.std.specs.Prelude.{◌≡◌};
 ghost use Rattle.verdict.specs.Rules.{told_of};
 
-#[derive(Drop)]
+#[derive(Clone, Copy)]
 pub enum Verdict {
     Fine,
     Broken {
@@ -15,7 +17,7 @@ pub enum Verdict {
 
 // The same by refusal number (RULES 6.2): acceptance is number 0 at 0, 0.
 #[repr(C)]
-#[derive(Drop)]
+#[derive(Clone, Copy)]
 pub struct Told {
     pub number: u32,
     pub place: u32,

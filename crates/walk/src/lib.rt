@@ -3,6 +3,8 @@
 //
 // The contracts cite `specs/`: `States` says what is due at each record, `Stages` has the rules up to
 // refusal 9 in the order of judgement, `Table` what the table is.
+#![tactic(auto)]
+
 ghost use Rattle.std.specs.Prelude.{◌≡◌, ◌+◌, ◌-◌, ◌*◌, ◌/◌, ◌≤◌, ◌<◌, min, length};
 ghost use Rattle.std.proofs.lemmas.List.Edits.{sets};
 ghost use Rattle.verdict.specs.declared.Verdict.TheVariants.{Broken};
@@ -33,14 +35,14 @@ pub const AREAS_WORD: usize = 3;
 pub const LETTERS_WORD: usize = 4;
 
 // The mesh that the walk is in: its code, and how many of its layers have not begun.
-#[derive(Drop)]
+#[derive(Clone, Copy)]
 pub struct MeshPart {
     pub code: usize,
     pub layers: usize,
 }
 
 // The layer: its code, its totals, how many of each came, and its letters.
-#[derive(Drop)]
+#[derive(Clone, Copy)]
 pub struct LayerPart {
     pub code: usize,
     pub nodes: usize,
@@ -53,13 +55,13 @@ pub struct LayerPart {
 }
 
 // The line: how many of its points are left.
-#[derive(Drop)]
+#[derive(Clone, Copy)]
 pub struct LinePart {
     pub points: usize,
 }
 
 // The area: its loops, how many of them were begun, and the last one's line count and entries left.
-#[derive(Drop)]
+#[derive(Clone, Copy)]
 pub struct AreaPart {
     pub loops: usize,
     pub begun: usize,
@@ -68,7 +70,7 @@ pub struct AreaPart {
 }
 
 // Where the walk stands.
-#[derive(Drop)]
+#[derive(Clone, Copy)]
 pub struct State {
     pub mesh: MeshPart,
     pub layer: LayerPart,
@@ -77,7 +79,7 @@ pub struct State {
 }
 
 // What the records were, and the words that the layers among them need.
-#[derive(Drop)]
+#[derive(Clone, Copy)]
 pub struct Counts {
     pub meshes: usize,
     pub layers: usize,
@@ -88,7 +90,7 @@ pub struct Counts {
 }
 
 // What stages 1 and 2 answer; the counts of a refused file are 0.
-#[derive(Drop)]
+#[derive(Clone, Copy)]
 pub struct Walked {
     pub verdict: Verdict,
     pub counts: Counts,
@@ -280,7 +282,7 @@ pub fn next(s: State, t: &[u8]) -> State
 // ---- quiet records
 
 // A state behind some records, and how many they were.
-#[derive(Drop)]
+#[derive(Clone, Copy)]
 pub struct Pass {
     pub state: State,
     pub records: usize,
@@ -631,7 +633,7 @@ fn put_row(
 }
 
 // Where the sections of the table begin: the lines' and the areas'. The rows' is 0.
-#[derive(Drop)]
+#[derive(Clone, Copy)]
 struct Bases {
     lines: usize,
     areas: usize,
@@ -701,7 +703,7 @@ fn fill(file: &[u8], total: Counts, table: &mut [u32])
 }
 
 // What stages 1 and 2 and refusal 9 answer; the counts of a file refused in stage 1 or 2 are 0.
-#[derive(Drop)]
+#[derive(Clone, Copy)]
 pub struct Tabled {
     pub verdict: Verdict,
     pub counts: Counts,

@@ -2,6 +2,8 @@
 // buffer, column and width. Spaces are written as what is left of a number, so all three are one crate.
 //
 // The contracts cite `Spelling`, `Number` and `Answer` of `fields`.
+#![tactic(auto)]
+
 ghost use Rattle.std.specs.Prelude.{◌≡◌, ◌++◌, ◌+◌, ◌<◌, ◌≤◌, length, take, drop, replicate, nat_abs};
 ghost use Rattle.fields.specs.Place.{is_inside};
 ghost use Rattle.fields.specs.Number.{holds};
