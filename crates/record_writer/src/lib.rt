@@ -172,6 +172,6 @@ pub fn write_record(buf: &mut [u8], r: Record) -> u32
     if !spelled.ok {
         return 20;
     }
-    bytes::copy(&line, buf);
+    buf[..74].copy_from_slice(&line);
     0
 }

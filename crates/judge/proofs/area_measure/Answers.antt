@@ -1,0 +1,57 @@
+use mathlib.Core.Path.{◌≡◌, refl}
+use Prim.Native.Nat.{◌+◌, ◌*◌, ◌-◌, ◌≤◌}
+use native.Mathlib.Numerals.{add-one}
+use native.Mathlib.Omega.{arith}
+use mir.Syntax.{w64}
+use mir.Val.{to_z}
+use borrow.Author.Rules.{rules}
+use Rattle.measures.specs.Sum.{sum}
+use Rattle.measures.specs.Measures.{area_measure}
+use Rattle.entries.specs.Entries.{loops_at, loops_to, records_to}
+use Rattle.entries.specs.Keeping.{kept_measure, kept_loop}
+use Rattle.judge.specs.Measuring.{kept_area}
+use Rattle.judge.proofs.Adding.{Added, loop_added}
+use Rattle.judge.proofs.area_measure.Goals as goal
+use Rattle.judge.proofs.area_measure.Goals.{After-loop_measure-sum}
+
+-- the loop's measure goes to the sum
+next : (c : After-loop_measure-sum)
+    → Added (to_z w64 c.loop-i.sum-bits) c.loop_measure-sum.result
+    (area_measure (kept_measure c.args.l c.args.kept.now)
+    (loops_to c.args.file.now
+    c.args.a (c.loop-i.i + 1)))
+unfolding kept_loop
+next c =
+    let l = c.loop-i in
+    loop_added _ _ _ l.i c.requires.1 (omega (arith, c.loop-i-test.true, c.loops_at-n.ensures.0))
+    l.invariant.1 l.invariant.3 c.loop_measure-sum.ok c.loop_measure-sum.ensures
+
+pub loop-i-init : goal.loop-i-init
+unfolding records_to area_measure loops_to sum
+loop-i-init c = (omega arith, omega arith, omega arith, refl)
+
+pub overflow_add-sum : goal.overflow_add-sum
+overflow_add-sum c = (next (goal.at.overflow_add-sum c).After-loop_measure-sum).ranges
+
+pub overflow_add-f-in-loop-i : goal.overflow_add-f-in-loop-i
+overflow_add-f-in-loop-i c = omega (arith, c.loop-i-test.true, c.loops_at-n.ensures.1, c.loop_records-f.ensures.1)
+
+pub overflow_add-i : goal.overflow_add-i
+overflow_add-i c = omega (arith, c.loop-i-test.true, c.loops_at-n.ensures.1)
+
+pub loop-i-preserved : goal.loop-i-preserved
+unfolding records_to
+loop-i-preserved c =
+    let l = c.loop-i in
+    let r = c.loop_records-f.ensures in
+    let a = c.args in
+    let e : records_to a.file.now a.a (l.i + 1) ≡ records_to a.file.now a.a l.i + c.loop_records-f.result = rw (add-one, ← l.invariant.1, r.0) in
+    (omega (arith, c.loop-i-test.true), omega (arith, e), omega (arith, e, r.1), (next (goal.at.loop-i-preserved c).After-loop_measure-sum).is)
+
+pub returns : goal.returns
+unfolding kept_area
+returns c =
+    let l = c.loop-i in
+    let a = c.args in
+    let e : l.i ≡ loops_at a.file.now a.a = omega (arith, c.loop-i-test.false, c.loops_at-n.ensures.0) in
+    rw (← e) l.invariant.3

@@ -1,0 +1,21 @@
+-- `judge::fill_measures` meets its contract: each turn fills in the next layer's measures behind the others. Assumes nothing.
+use mathlib.Core.Path.{◌≡◌, refl, sym, ◌∙◌, ap}
+use Prim.Native.Nat.{◌-◌, ◌≤◌}
+use native.Mathlib.Omega.{arith}
+use lib.IntN.{pos}
+use lib.ListN.{length, length-replicate}
+use lib.Seq.{length-take-le}
+use borrow.Author.Rules.{rules}
+use Rattle.walk.specs.Table.{filled}
+use Rattle.layers.specs.Naming.{words_before}
+use Rattle.entries.proofs.Keeping.{kept_length, kept_room, kept_lines}
+use Rattle.ground.specs.Layers.{measures_to}
+use Rattle.judge.proofs.Adding.{none_filled, next_summable, same_many, room, at_more, layer_put}
+use Rattle.judge.proofs.fill_measures.Given as goal
+
+abbrev pub invariant-loop-i : goal.invariant-loop-i
+invariant-loop-i l =
+    (l.i ≤ l.n) × (length l.kept ≡ 9999) × (l.at ≡ words_before l.table 3 l.i) × (l.measures ≡ filled (measures_to l.file l.table l.b l.i) l.initial.measures)
+
+abbrev pub decreases-loop-i : goal.decreases-loop-i
+decreases-loop-i l = l.n - l.i

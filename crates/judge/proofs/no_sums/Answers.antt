@@ -1,0 +1,6 @@
+-- `judge::no_sums` meets its contract: the verdict by its numbers, beside two sums of 0. Assumes nothing.
+use borrow.Author.Rules.{rules}
+use Rattle.judge.proofs.no_sums.Goals as goal
+
+pub returns : goal.returns
+returns c = rw (← c.by_number-refusal.ensures)

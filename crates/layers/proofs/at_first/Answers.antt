@@ -1,0 +1,7 @@
+-- `layers::at_first` meets its contract, whatever the file. Assumes nothing.
+use Rattle.layers.proofs.Walks.{first_is}
+use borrow.Author.Rules.{rules}
+use Rattle.layers.proofs.at_first.Goals as goal
+
+pub returns : goal.returns
+returns c = λ file. first_is file _ _ c.at_start-state.ensures c.layer_in-layer.ensures

@@ -1,0 +1,78 @@
+use mathlib.Core.Path.{◌≡◌, sym}
+use Prim.Native.Nat.{◌-◌, ◌≤◌, ◌<◌}
+use native.Mathlib.Omega.{arith}
+use lib.ListN.{length, take}
+use lib.Seq.{length-take-le}
+use borrow.Author.Rules.{rules}
+use Rattle.walk.specs.States.{counts_at}
+use Rattle.layers.proofs.Walks.{Stands, stands, records_are, rows_are, stands_behind, stands_past, records_past}
+use Rattle.layers.proofs.Stages.{Passed, passed_first, passed_more, passed_quiet, stage_stops, stage_done}
+use Rattle.entries.specs.Keeping.{Kept}
+use Rattle.loops.specs.Loops.{area_record, areas_at, sixth, stage_five}
+use Rattle.loops.specs.Scanning.{Unrepeated, SoundTable}
+use Rattle.loops.proofs.Repeats.{unrepeated_none}
+use Rattle.loops.proofs.StageLaws.{kept_for, kept_next, known_next, quiet_none}
+use Rattle.loops.proofs.stage_five.Goals as goal
+
+pub loop-x-init : goal.loop-x-init
+unfolding counts_at
+loop-x-init c =
+    let e = c.at_first-x.ensures _ in (
+      stands _ _ _ e (omega arith),
+      λ h. passed_first sixth (areas_at _ _) _ _ _ e,
+      search rules,
+      search rules,
+      search rules,
+      λ h p. absurd (omega (arith, p, rows_are _ _ _ e)),
+      unrepeated_none _ _,
+    )
+
+pub slice_bounds-judge_record-end : goal.slice_bounds-judge_record-end
+slice_bounds-judge_record-end c =
+    sym (length-take-le _ _ (omega (arith, c.loop-x.invariant.2, c.loop-x.invariant.3)))
+
+pub returns-in-Broken : goal.returns-in-Broken
+unfolding stage_five
+returns-in-Broken c =
+    let e = c.loop-x.invariant.0.here in
+    λ w.
+    let h = c.judge_record-v.ensures (kept_for _ _ _ e c.due-d.ensures _ (c.loop-x.invariant.5 w)) in
+    stage_stops sixth (areas_at _ _) _ _ _ e c.records_of-n.ensures.0 c.loop-x-test.true (rw c.due-d.ensures at h) c.in-Broken.is (c.loop-x.invariant.1 w)
+
+pub slice_bounds-kept_behind-end : goal.slice_bounds-kept_behind-end
+slice_bounds-kept_behind-end c =
+    sym c.loop-x.invariant.3
+
+pub kept_behind-have-requires : goal.kept_behind-have-requires
+kept_behind-have-requires c =
+    omega (arith, c.loop-x.invariant.2, c.loop-x.invariant.3)
+
+pub loop-x-smaller : goal.loop-x-smaller
+loop-x-smaller c =
+    let y = c.behind-x.ensures c.loop-x.invariant.0.here (rw c.records_of-n.ensures.0 at c.loop-x-test.true) in
+    omega (arith, c.loop-x-test.true, records_are _ _ _ y, records_past _ _ c.past_quiet-x.ensures)
+
+pub loop-x-preserved : goal.loop-x-preserved
+loop-x-preserved c =
+    let e = c.loop-x.invariant.0.here in
+    let i = rw c.records_of-n.ensures.0 at c.loop-x-test.true in
+    let y = c.behind-x.ensures e i in
+    let p = stands_behind _ _ _ c.loop-x.invariant.0 i y in (
+      stands_past _ _ _ p _ c.past_quiet-x.ensures,
+      λ s.
+          let h = c.judge_record-v.ensures (kept_for _ _ _ e c.due-d.ensures _ (c.loop-x.invariant.5 s)) in
+          let f = passed_more sixth (areas_at _ _) _ _ _ e y (rw c.due-d.ensures at h) c.in_default.is (c.loop-x.invariant.1 s) in
+          passed_quiet sixth (areas_at _ _) _ _ _ p.here _ c.past_quiet-x.ensures (quiet_none _ _) f,
+      omega (arith, c.kept_behind-have.ensures.room, c.kept-in-loop-x-2-1.given),
+      c.kept-in-loop-x-2-1.given,
+      c.marks-in-loop-x-1.given,
+      λ s.
+          rw c.past_quiet-x.ensures
+          (kept_next _ _ _ e y c.due-d.ensures c.kept_behind-have.ensures (omega (arith, c.loop-x.invariant.3)) i s (c.loop-x.invariant.5 s)),
+      rw c.past_quiet-x.ensures (known_next _ _ _ e y c.due-d.ensures c.known_behind-known.ensures),
+    )
+
+pub returns : goal.returns
+unfolding stage_five
+returns c =
+    λ w. stage_done sixth (areas_at _ _) _ _ _ c.loop-x.invariant.0 c.records_of-n.ensures.0 c.loop-x-test.false (c.loop-x.invariant.1 w)

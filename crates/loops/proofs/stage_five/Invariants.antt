@@ -1,0 +1,30 @@
+-- `loops::stage_five` meets its contract: the loop leaves at the first broken rule, passes quiet records, and carries what is kept of the
+-- layer's lines and known of the next record's area. Assumes nothing.
+use mathlib.Core.Path.{◌≡◌, sym}
+use Prim.Native.Nat.{◌-◌, ◌≤◌, ◌<◌}
+use native.Mathlib.Omega.{arith}
+use lib.ListN.{length, take}
+use lib.Seq.{length-take-le}
+use borrow.Author.Rules.{rules}
+use Rattle.walk.specs.States.{counts_at}
+use Rattle.layers.proofs.Walks.{Stands, stands, records_are, rows_are, stands_behind, stands_past, records_past}
+use Rattle.layers.proofs.Stages.{Passed, passed_first, passed_more, passed_quiet, stage_stops, stage_done}
+use Rattle.entries.specs.Keeping.{Kept}
+use Rattle.loops.specs.Loops.{area_record, areas_at, sixth, stage_five}
+use Rattle.loops.specs.Scanning.{Unrepeated, SoundTable}
+use Rattle.loops.proofs.Repeats.{unrepeated_none}
+use Rattle.loops.proofs.StageLaws.{kept_for, kept_next, known_next, quiet_none}
+use Rattle.loops.proofs.stage_five.Given as goal
+
+abbrev pub invariant-loop-x : goal.invariant-loop-x
+invariant-loop-x l =
+    Stands l.file l.table l.b l.x
+    × (SoundTable l.file l.table l.b → Passed sixth (areas_at l.file l.table) l.file l.table l.b l.x)
+    × (l.have ≤ 9999)
+    × (length l.kept ≡ 9999)
+    × (length l.marks ≡ 20000)
+    × (SoundTable l.file l.table l.b → 0 < l.x.rows → Kept l.file l.table l.x.layer (take l.have l.kept))
+    × Unrepeated l.file (area_record l.table l.x.layer l.x.state.layer.area) l.known
+
+abbrev pub decreases-loop-x : goal.decreases-loop-x
+decreases-loop-x l = l.n - l.x.records

@@ -1,0 +1,23 @@
+-- `measures::line_measure` meets its contract. The loop's invariant: the walk has gone along the points that are not left, seven a record.
+-- Assumes nothing.
+use mathlib.Core.Path.{◌≡◌, sym, ◌∙◌}
+use Prim.Native.Nat.{◌-◌, ◌*◌, ◌≤◌, ◌<◌}
+use native.Mathlib.Omega.{arith}
+use borrow.Author.Rules.{rules}
+use Rattle.measures.specs.Points.{point_by}
+use Rattle.measures.specs.Sound.{added_up}
+use Rattle.measures.specs.Walks.{walk_along, begin}
+use Rattle.records.proofs.Numbers.{record_past}
+use Rattle.measures.proofs.Walking.{one_or_more, turn, sum_back, near_le, line_near, measure_none, measure_is, full}
+use Rattle.measures.proofs.line_measure.Given as goal
+
+abbrev pub invariant-loop-left : goal.invariant-loop-left
+invariant-loop-left l =
+    (l.left ≤ l.n)
+    × (l.line ≤ l.k)
+    × (l.k - l.line ≤ l.n - l.left)
+    × (l.w ≡ walk_along begin (point_by added_up l.file l.line) (l.n - l.left))
+    × (0 < l.left → l.n - l.left ≡ 7 * (l.k - l.line))
+
+abbrev pub decreases-loop-left : goal.decreases-loop-left
+decreases-loop-left l = l.left

@@ -1,0 +1,15 @@
+-- `texts::pairs` meets its contract. The loop's invariant: what is left is a name exactly if the whole is. Assumes nothing.
+use mathlib.Core.Path.{◌≡◌, refl, sym, ◌∙◌}
+use Prim.Native.Nat.{◌≤◌, ◌-◌}
+use lib.ListN.{length, drop}
+use borrow.Author.Rules.{rules}
+use borrow.Author.Tests.{not-true, not-false}
+use Rattle.fields.specs.Text.{is_name}
+use Rattle.texts.proofs.TextSteps.{name_end, name_odd, name_pair}
+use Rattle.texts.proofs.pairs.Given as goal
+
+abbrev pub invariant-loop-i : goal.invariant-loop-i
+invariant-loop-i l = (l.i ≤ length l.f) × (is_name l.f ≡ is_name (drop l.i l.f))
+
+abbrev pub decreases-loop-i : goal.decreases-loop-i
+decreases-loop-i l = length l.f - l.i

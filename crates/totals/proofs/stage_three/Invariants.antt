@@ -1,0 +1,20 @@
+-- `totals::stage_three` meets its contract: the loop leaves at the first broken total, and quiet records have none. Assumes nothing.
+use mathlib.Core.Path.{◌≡◌, ◌∙◌}
+use Prim.Native.Nat.{◌-◌, ◌≤◌}
+use native.Mathlib.Nat.{le_refl}
+use native.Mathlib.Omega.{arith}
+use borrow.Author.Rules.{rules}
+use Rattle.verdict.specs.declared.Verdict.TheVariants.{Fine}
+use Rattle.verdict.specs.Rules.{first_broken, rows}
+use Rattle.verdict.proofs.Parts.{rows_none, rows_pass}
+use Rattle.walk.specs.States.{state_at}
+use Rattle.walk.proofs.Walking.{at_none, next_state}
+use Rattle.walk.proofs.Passing.{pass_most, pass_are_quiet, passed_state}
+use Rattle.totals.proofs.Summing.{totals_of, rule_is, three_quiet, three_stops, three_done}
+use Rattle.totals.proofs.stage_three.Given as goal
+
+abbrev pub invariant-loop-k : goal.invariant-loop-k
+invariant-loop-k l = (l.k ≤ l.n) × (l.s ≡ state_at l.file l.k) × (first_broken (rows l.k (totals_of l.file)) ≡ Fine)
+
+abbrev pub decreases-loop-k : goal.decreases-loop-k
+decreases-loop-k l = l.n - l.k

@@ -1,0 +1,16 @@
+-- `walk::stage_one` meets its contract: the loop leaves at the first broken line end; behind it all are kept, and the length decides.
+-- Assumes nothing.
+use mathlib.Core.Path.{◌≡◌}
+use Prim.Native.Nat.{◌-◌, ◌≤◌}
+use borrow.Author.Rules.{rules}
+use Rattle.verdict.specs.declared.Verdict.TheVariants.{Fine}
+use Rattle.verdict.specs.Rules.{first_broken, rows}
+use Rattle.verdict.proofs.Parts.{rows_none, rows_pass}
+use Rattle.walk.proofs.Judging.{ends_of, end_is, one_stops, one_done}
+use Rattle.walk.proofs.stage_one.Given as goal
+
+abbrev pub invariant-loop-k : goal.invariant-loop-k
+invariant-loop-k l = (l.k ≤ l.n) × (first_broken (rows l.k (ends_of l.file)) ≡ Fine)
+
+abbrev pub decreases-loop-k : goal.decreases-loop-k
+decreases-loop-k l = l.n - l.k

@@ -1,0 +1,20 @@
+-- `writers::fill` meets its contract. The loop's invariant: the buffer with the columns that are left is the buffer that is wanted.
+-- Assumes nothing.
+use mathlib.Core.List.{◌++◌}
+use mathlib.Core.Path.{◌≡◌, refl, sym, ◌∙◌}
+use Prim.Native.Nat.{◌≤◌, ◌-◌, ◌+◌}
+use native.Mathlib.Omega.{arith}
+use lib.ListN.{length, take, drop, length-set}
+use borrow.Author.Rules.{rules}
+use Rattle.fields.specs.Spelling.{columns}
+use Rattle.writers.proofs.Filling.{fill_step, fill_done}
+use Rattle.writers.proofs.fill.Given as goal
+
+abbrev pub invariant-loop-k : goal.invariant-loop-k
+invariant-loop-k l =
+    (length l.buf ≡ length l.initial.buf)
+    × (l.k ≤ l.width)
+    × (take l.at l.initial.buf ++ (columns l.width l.initial.l ++ drop (l.at + l.width) l.initial.buf) ≡ take l.at l.buf ++ (columns l.k l.l ++ drop (l.at + l.k) l.buf))
+
+abbrev pub decreases-loop-k : goal.decreases-loop-k
+decreases-loop-k l = l.k
