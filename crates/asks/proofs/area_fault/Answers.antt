@@ -47,4 +47,4 @@ pub returns-in_default : goal.returns-in_default
 unfolding area_asks
 returns-in_default c =
     let a = c.args in
-    none_asked (area_asks a.layer a.last a.ns.now) a.i (above 7 _ c.in_default.rest)
+    none_asked (area_asks a.layer a.last a.ns.now) a.i (above 7 _ c.in_default.in_default-own.rest)

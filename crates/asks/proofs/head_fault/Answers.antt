@@ -65,4 +65,4 @@ pub returns-in_default : goal.returns-in_default
 unfolding layer_asks
 returns-in_default c =
     let a = c.args in
-    none_asked (layer_asks a.last a.letters a.ns.now) a.i (above 8 _ c.in_default.rest)
+    none_asked (layer_asks a.last a.letters a.ns.now) a.i (above 8 _ c.in_default.in_default-own.rest)

@@ -116,4 +116,4 @@ pub returns-in_default : goal.returns-in_default
 unfolding line_asks
 returns-in_default c =
     let a = c.args in
-    none_asked (line_asks a.layer a.last a.letters a.ns.now) a.i (above 15 _ c.in_default.rest)
+    none_asked (line_asks a.layer a.last a.letters a.ns.now) a.i (above 15 _ c.in_default.in_default-own.rest)

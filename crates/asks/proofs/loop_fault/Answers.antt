@@ -18,7 +18,7 @@ number : (c : After-at-v) → to_z w32 (of_z w32 c.at-v.result) ≡ at c.args.ns
 number c = passed_on c.at-v.type_inv c.at-v.ensures
 
 pub overflow_sub-i : goal.overflow_sub-i
-overflow_sub-i c = above 2 _ c.in_default-1.rest
+overflow_sub-i c = above 2 _ c.in-2-to-13.in_default-own.rest
 
 pub returns-in-0 : goal.returns-in-0
 unfolding loop_asks
@@ -43,13 +43,13 @@ returns-in-2-to-13 c =
     let count : c.size.result ≡ size (at a.ns.now 1) =
     c.size.ensures ∙ ap size (passed_on c.at.type_inv c.at.ensures) in
     let due : n ≡ entries_due (size (at a.ns.now 1)) a.left = c.entries_due.ensures ∙ rw count in
-    let l = above 2 a.i c.in_default-1.rest in
+    let l = above 2 a.i c.in-2-to-13.in_default-own.rest in
     c.slot_fault.ensures
     ∙ slot_asked (loop_asks a.last a.count a.left a.ns.now) 2 12 n a.i a.ns.now
-    (number (goal.at.returns-in-2-to-13 c).After-at-v) (rw due) l (omega (arith, c.in-2-to-13.true))
+    (number (goal.at.returns-in-2-to-13 c).After-at-v) (rw due) l (omega (arith, c.in-2-to-13.if-i-lt14-own.true))
 
 pub returns-in_default : goal.returns-in_default
 unfolding loop_asks from
 returns-in_default c =
     let a = c.args in
-    none_asked (loop_asks a.last a.count a.left a.ns.now) a.i c.in_default.false
+    none_asked (loop_asks a.last a.count a.left a.ns.now) a.i c.in_default.if-i-lt14-own.false

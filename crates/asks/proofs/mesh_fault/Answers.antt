@@ -54,4 +54,4 @@ pub returns-in_default : goal.returns-in_default
 unfolding mesh_asks
 returns-in_default c =
     let a = c.args in
-    none_asked (mesh_asks a.last a.ns.now) a.i (above 7 _ c.in_default.rest)
+    none_asked (mesh_asks a.last a.ns.now) a.i (above 7 _ c.in_default.in_default-own.rest)

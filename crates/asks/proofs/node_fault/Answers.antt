@@ -18,7 +18,7 @@ number : (c : After-at-v) → to_z w32 (of_z w32 c.at-v.result) ≡ at c.args.ns
 number c = passed_on c.at-v.type_inv c.at-v.ensures
 
 pub overflow_sub-i : goal.overflow_sub-i
-overflow_sub-i c = above 7 _ c.in_default-1.rest
+overflow_sub-i c = above 7 _ c.in-7-to-15.in_default-own.rest
 
 pub returns-in-0 : goal.returns-in-0
 unfolding node_asks
@@ -62,13 +62,13 @@ returns-in-7-to-15 c =
     let a = c.args in
     let n = c.size.result in
     let count : n ≡ size (at a.ns.now 6) = c.size.ensures ∙ ap size (passed_on c.at-in-7-to-15.type_inv c.at-in-7-to-15.ensures) in
-    let l = above 7 a.i c.in_default-1.rest in
+    let l = above 7 a.i c.in-7-to-15.in_default-own.rest in
     c.slot_fault.ensures
     ∙ slot_asked (node_asks a.layer a.last a.ns.now) 7 9 n a.i a.ns.now
-    (number (goal.at.returns-in-7-to-15 c).After-at-v) (rw count) l (omega (arith, c.in-7-to-15.true))
+    (number (goal.at.returns-in-7-to-15 c).After-at-v) (rw count) l (omega (arith, c.in-7-to-15.if-i-lt16-own.true))
 
 pub returns-in_default : goal.returns-in_default
 unfolding node_asks from
 returns-in_default c =
     let a = c.args in
-    none_asked (node_asks a.layer a.last a.ns.now) a.i c.in_default.false
+    none_asked (node_asks a.layer a.last a.ns.now) a.i c.in_default.if-i-lt16-own.false

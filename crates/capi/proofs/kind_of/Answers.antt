@@ -32,4 +32,4 @@ unfolding meant_by
 returns-in-7 c = rw c.in-7.is
 
 pub returns-in_default : goal.returns-in_default
-returns-in_default c = none_meant c.args.n c.in_default.rest
+returns-in_default c = none_meant c.args.n c.in_default.in_default-own.rest

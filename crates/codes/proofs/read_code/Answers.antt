@@ -17,5 +17,5 @@ returns-in_default c =
 
 pub returns : goal.returns
 returns c =
-    rw (to_z-of_z {w = w32} (record { sfits = c.in-Value.given.0.1 }))
+    rw (to_z-of_z {w = w32} (record { sfits = c.in-Value.known_told-1-own.given.0.1 }))
     (number_coded _ _ _ c.read_number-answer.ensures _ c.in-Value.is)

@@ -27,7 +27,7 @@ returns-in_default-answer c = ap value_of (sym c.in_default-answer.is ∙ c.numb
 
 pub returns-in_default : goal.returns-in_default
 returns-in_default c =
-    to_z-of_z (record { sfits = c.in-Value.given.0.1 }) ∙ ap value_of (sym c.in-Value.is ∙ c.number_of-answer.ensures)
+    to_z-of_z (record { sfits = c.in-Value.known_told-in-Value-1-own.given.0.1 }) ∙ ap value_of (sym c.in-Value.is ∙ c.number_of-answer.ensures)
 
 pub overflow_cast-result : goal.overflow_cast-result
 overflow_cast-result c = size_fits _ (omega (arith, (sure (goal.at.overflow_cast-result c).In-Sure-2).1))

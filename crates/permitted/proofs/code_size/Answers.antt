@@ -9,4 +9,4 @@ pub returns-in-5 : goal.returns-in-5
 returns-in-5 c = rw c.in-5.is
 
 pub returns-in_default : goal.returns-in_default
-returns-in_default c = rw (ne_eqb _ 1 c.in_default.rest.0.1, ne_eqb _ 5 c.in_default.rest.1)
+returns-in_default c = rw (ne_eqb _ 1 c.in_default.in_default-own.rest.0.1, ne_eqb _ 5 c.in_default.in_default-own.rest.1)

@@ -29,4 +29,4 @@ returns-in-5 c =
 
 pub returns-in_default : goal.returns-in_default
 unfolding is_line_item
-returns-in_default c = rw (c.natural-plain.ensures, ne_eqb _ 1 c.in_default.rest.0.1, ne_eqb _ 5 c.in_default.rest.1, to_z-of_z c.ranges.v)
+returns-in_default c = rw (c.natural-plain.ensures, ne_eqb _ 1 c.in_default.in_default-own.rest.0.1, ne_eqb _ 5 c.in_default.in_default-own.rest.1, to_z-of_z c.ranges.v)

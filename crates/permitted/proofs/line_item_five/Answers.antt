@@ -6,4 +6,4 @@ pub returns-in-2 : goal.returns-in-2
 returns-in-2 c = one_of_two _ 2 9 c.in-2.is
 
 pub returns-in_default : goal.returns-in_default
-returns-in_default c = none_of_two _ 2 9 c.in_default.rest.1
+returns-in_default c = none_of_two _ 2 9 c.in_default.in_default-own.rest.1

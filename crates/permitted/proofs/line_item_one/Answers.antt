@@ -4,14 +4,14 @@ use borrow.Author.Tests.{le-leb, lt-leb, ne_eqb}
 use Rattle.permitted.proofs.line_item_one.Goals as goal
 
 pub returns-in_default : goal.returns-in_default
-returns-in_default c = let n = c.args.n in rw (lt-leb 1 n c.in_default.true, ne_eqb n 9 c.in_default-1.rest.1)
+returns-in_default c = let n = c.args.n in rw (lt-leb 1 n c.in_default.if-n-lt1-own.true, ne_eqb n 9 c.in_default.in_default-own.rest.1)
 
 pub returns-in_default-2 : goal.returns-in_default-2
 returns-in_default-2 c =
-    let n = c.args.n in rw (le-leb 1 n (omega arith), lt-leb n 5 (omega arith), ne_eqb n 9 c.in_default-1.rest.1)
+    let n = c.args.n in rw (le-leb 1 n (omega arith), lt-leb n 5 (omega arith), ne_eqb n 9 c.in_default.in_default-own.rest.1)
 
 pub returns-in-1-to-5 : goal.returns-in-1-to-5
-returns-in-1-to-5 c = rw c.in-1-to-5.keys1
+returns-in-1-to-5 c = rw c.in-1-to-5.in-1-to-5-own.keys1
 
 pub returns-in-1-to-5-2 : goal.returns-in-1-to-5-2
 returns-in-1-to-5-2 c = let n = c.args.n in rw (le-leb 1 n (omega arith), le-leb n 5 (omega arith))

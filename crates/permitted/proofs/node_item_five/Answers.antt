@@ -6,4 +6,4 @@ pub returns-in-1 : goal.returns-in-1
 returns-in-1 c = one_of_three _ 1 6 8 c.in-1.is
 
 pub returns-in_default : goal.returns-in_default
-returns-in_default c = none_of_three _ 1 6 8 c.in_default.rest.1
+returns-in_default c = none_of_three _ 1 6 8 c.in_default.in_default-own.rest.1

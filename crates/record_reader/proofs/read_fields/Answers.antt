@@ -130,7 +130,7 @@ loop-numbers-smaller-in-Number c = omega (arith, number-room (goal.at.loop-numbe
 
 pub loop-numbers-preserved-in-Number : goal.loop-numbers-preserved-in-Number
 loop-numbers-preserved-in-Number c =
-    rw (to_z-of_z {w = w32} (record { sfits = c.in-Value.given.0.1 }))
+    rw (to_z-of_z {w = w32} (record { sfits = c.in-Value.known_told-in-Value-1-own.given.0.1 }))
     (number_next _ c.loop-numbers.invariant _ _ (number_is (goal.at.loop-numbers-preserved-in-Number c).In-Number-2) c.read_number-answer.ensures _ c.in-Value.is)
 
 pub returns-in_default-answer : goal.returns-in_default-answer
@@ -215,5 +215,5 @@ loop-numbers-smaller c = omega (arith, code-room (goal.at.loop-numbers-smaller c
 
 pub loop-numbers-preserved : goal.loop-numbers-preserved
 loop-numbers-preserved c =
-    rw (to_z-of_z {w = w32} (record { sfits = c.in-Value-answer.given.0.1 }))
+    rw (to_z-of_z {w = w32} (record { sfits = c.in-Value-answer.known_told-in-Value-answer-4-1-own.given.0.1 }))
     (code_next _ c.loop-numbers.invariant _ _ (code_is (goal.at.loop-numbers-preserved c).In-Code-2) c.read_code-answer.ensures _ _ c.in-Value-answer.is)

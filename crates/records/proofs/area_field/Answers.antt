@@ -31,4 +31,4 @@ pub returns-in-8 : goal.returns-in-8
 returns-in-8 c = rw c.in-8.is
 
 pub returns-in_default : goal.returns-in_default
-returns-in_default c = past_end area_layout c.args.j (above 9 _ c.in_default.rest)
+returns-in_default c = past_end area_layout c.args.j (above 9 _ c.in_default.in_default-own.rest)

@@ -11,4 +11,4 @@ returns-in_default c = layer_none _ c.read_number-answer.ensures c.in_default.is
 pub returns : goal.returns
 returns c =
     layer_said _ c.read_number-answer.ensures _ c.in-Value.is
-    (rw (to_z-of_z {w = w32} (record { sfits = c.in-Value.given.0.1 })) at c.is.ensures)
+    (rw (to_z-of_z {w = w32} (record { sfits = c.in-Value.known_told-1-own.given.0.1 })) at c.is.ensures)

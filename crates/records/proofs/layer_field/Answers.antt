@@ -40,4 +40,4 @@ pub returns-in-11 : goal.returns-in-11
 returns-in-11 c = rw c.in-11.is
 
 pub returns-in_default : goal.returns-in_default
-returns-in_default c = past_end layer_layout c.args.j (above 12 _ c.in_default.rest)
+returns-in_default c = past_end layer_layout c.args.j (above 12 _ c.in_default.in_default-own.rest)

@@ -55,4 +55,4 @@ pub returns-in-16 : goal.returns-in-16
 returns-in-16 c = rw c.in-16.is
 
 pub returns-in_default : goal.returns-in_default
-returns-in_default c = past_end line_layout c.args.j (above 17 _ c.in_default.rest)
+returns-in_default c = past_end line_layout c.args.j (above 17 _ c.in_default.in_default-own.rest)

@@ -34,4 +34,4 @@ pub returns-in-9 : goal.returns-in-9
 returns-in-9 c = rw c.in-9.is
 
 pub returns-in_default : goal.returns-in_default
-returns-in_default c = past_end mesh_layout c.args.j (above 10 _ c.in_default.rest)
+returns-in_default c = past_end mesh_layout c.args.j (above 10 _ c.in_default.in_default-own.rest)

@@ -11,7 +11,7 @@ returns-in_default c = code_none _ _ _ c.read_code-answer.ensures c.in_default.i
 
 pub returns-then-mark-eq0 : goal.returns-then-mark-eq0
 returns-then-mark-eq0 c =
-    rw (to_z-of_z {w = w32} (record { sfits = c.in-Value.given.0.1 }))
+    rw (to_z-of_z {w = w32} (record { sfits = c.in-Value.known_told-1-own.given.0.1 }))
     (code_plain _ _ _ c.read_code-answer.ensures _ _ c.in-Value.is c.if-mark-eq0.true)
 
 pub returns-then-not-in_layer_five : goal.returns-then-not-in_layer_five
@@ -21,6 +21,6 @@ returns-then-not-in_layer_five c =
 
 pub returns : goal.returns
 returns c =
-    rw (to_z-of_z {w = w32} (record { sfits = c.in-Value.given.0.1 }))
+    rw (to_z-of_z {w = w32} (record { sfits = c.in-Value.known_told-1-own.given.0.1 }))
     (code_land _ _ _ c.read_code-answer.ensures _ _ c.in-Value.is
     c.if-mark-eq0.false c.in_layer_five.ensures (not-false _ c.if-not-in_layer_five.false-raw))

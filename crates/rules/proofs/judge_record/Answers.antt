@@ -137,7 +137,7 @@ pub returns-then-fault-ne0-2 : goal.returns-then-fault-ne0-2
 returns-then-fault-ne0-2 c =
     c.broken-then-fault-ne0-2.ensures
     ∙ number_broken c.loop-a.invariant _ _ (number_is (goal.at.returns-then-fault-ne0-2 c).In-Number-2) c.read_number-answer.ensures _ c.in-Value.is
-    ((rw (to_z-of_z {w = w32} (record { sfits = c.in-Value.given.0.1 })) at c.value_fault-fault.ensures)
+    ((rw (to_z-of_z {w = w32} (record { sfits = c.in-Value.known_told-in-Value-1-own.given.0.1 })) at c.value_fault-fault.ensures)
     ∙ ap first_asked (asked_by _ _ (letters-are (goal.at.returns-then-fault-ne0-2 c).At-loop-a) _ _))
     c.if-fault-ne0-2.true
 
@@ -152,9 +152,9 @@ loop-a-smaller-in-Number c = omega (arith, number-room (goal.at.loop-a-smaller-i
 
 pub loop-a-preserved-in-Number : goal.loop-a-preserved-in-Number
 loop-a-preserved-in-Number c =
-    rw (to_z-of_z {w = w32} (record { sfits = c.in-Value.given.0.1 }))
+    rw (to_z-of_z {w = w32} (record { sfits = c.in-Value.known_told-in-Value-1-own.given.0.1 }))
     (number_next c.loop-a.invariant _ _ (number_is (goal.at.loop-a-preserved-in-Number c).In-Number-2) c.read_number-answer.ensures _ c.in-Value.is
-    ((rw (to_z-of_z {w = w32} (record { sfits = c.in-Value.given.0.1 })) at c.value_fault-fault.ensures)
+    ((rw (to_z-of_z {w = w32} (record { sfits = c.in-Value.known_told-in-Value-1-own.given.0.1 })) at c.value_fault-fault.ensures)
     ∙ ap first_asked (asked_by _ _ (letters-are (goal.at.loop-a-preserved-in-Number c).At-loop-a) _ _))
     c.if-fault-ne0-2.false)
 
@@ -215,7 +215,7 @@ pub returns-then-fault-ne0-3 : goal.returns-then-fault-ne0-3
 returns-then-fault-ne0-3 c =
     c.broken-then-fault-ne0-3.ensures
     ∙ code_broken c.loop-a.invariant _ _ (code_is (goal.at.returns-then-fault-ne0-3 c).In-Code-2) c.read_code-answer.ensures _ _ c.in-Value-answer.is
-    ((rw (to_z-of_z {w = w32} (record { sfits = c.in-Value-answer.given.0.1 })) at c.value_fault-fault-in-Code.ensures)
+    ((rw (to_z-of_z {w = w32} (record { sfits = c.in-Value-answer.known_told-in-Value-answer-4-1-own.given.0.1 })) at c.value_fault-fault-in-Code.ensures)
     ∙ ap first_asked (asked_by _ _ (letters-are (goal.at.returns-then-fault-ne0-3 c).At-loop-a) _ _))
     c.if-fault-ne0-3.true
 
@@ -230,8 +230,8 @@ loop-a-smaller c = omega (arith, code-room (goal.at.loop-a-smaller c).In-Code-2)
 
 pub loop-a-preserved : goal.loop-a-preserved
 loop-a-preserved c =
-    rw (to_z-of_z {w = w32} (record { sfits = c.in-Value-answer.given.0.1 }))
+    rw (to_z-of_z {w = w32} (record { sfits = c.in-Value-answer.known_told-in-Value-answer-4-1-own.given.0.1 }))
     (code_next c.loop-a.invariant _ _ (code_is (goal.at.loop-a-preserved c).In-Code-2) c.read_code-answer.ensures _ _ c.in-Value-answer.is
-    ((rw (to_z-of_z {w = w32} (record { sfits = c.in-Value-answer.given.0.1 })) at c.value_fault-fault-in-Code.ensures)
+    ((rw (to_z-of_z {w = w32} (record { sfits = c.in-Value-answer.known_told-in-Value-answer-4-1-own.given.0.1 })) at c.value_fault-fault-in-Code.ensures)
     ∙ ap first_asked (asked_by _ _ (letters-are (goal.at.loop-a-preserved c).At-loop-a) _ _))
     c.if-fault-ne0-3.false)

@@ -8,5 +8,5 @@ returns-in_default c = (size_none _ _ _ c.read_number-answer.ensures c.in_defaul
 
 pub returns : goal.returns
 returns c =
-    let e = size_value _ _ _ c.read_number-answer.ensures c.in-Value.is (record { sfits = c.in-Value.given.0.1 }) c.size.ensures in
+    let e = size_value _ _ _ c.read_number-answer.ensures c.in-Value.is (record { sfits = c.in-Value.known_told-1-own.given.0.1 }) c.size.ensures in
     (e, rw e (size_small _ _ _))

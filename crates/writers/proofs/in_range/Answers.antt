@@ -30,4 +30,4 @@ unfolding holds
 returns-in-6 c = rw (c.in-6.is, to_z-of_z c.ranges.value)
 
 pub returns-in_default : goal.returns-in_default
-returns-in_default c = let r = c.in_default.rest in sym (holds_no_width _ r.0.0.0.0.0.1 r.0.0.0.0.1 r.0.0.0.1 r.0.0.1 r.0.1 r.1 _)
+returns-in_default c = let r = c.in_default.in_default-own.rest in sym (holds_no_width _ r.0.0.0.0.0.1 r.0.0.0.0.1 r.0.0.0.1 r.0.0.1 r.0.1 r.1 _)
