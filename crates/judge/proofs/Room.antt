@@ -12,7 +12,7 @@ use Rattle.verdict.specs.declared.Verdict.{Verdict}
 use Rattle.verdict.specs.declared.Verdict.TheVariants.{Fine, Broken}
 use Rattle.verdict.specs.Rules.{Rule, Check, block, first_broken, told_of}
 use Rattle.verdict.proofs.Numbers.{unlike, between_unlike, given_unlike, numbered, Numbered, block_numbered, append_numbered, not_told}
-use Rattle.verdict.proofs.Parts.{◌orElse◌, in_turn, both_fine, check_none, check_kept}
+use Rattle.verdict.proofs.Parts.{◌or_else◌, in_turn, both_fine, check_none, check_kept}
 use Rattle.walk.specs.declared.Counts.{Counts}
 use Rattle.walk.specs.States.{counts_at}
 use Rattle.walk.specs.Stages.{records_of, stage_one, stage_two, walked_of, need_of, third, words_of, room_rule, early}

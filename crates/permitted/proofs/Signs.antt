@@ -69,7 +69,7 @@ module _ {v : ℤ} (f : SFits w32 v) where
 
 -- a call's answer z, as the next call gets it: a z that fits is read back as it was
 pub passed_on : {z x : ℤ} → mag z < 2 ^ hbits w32 → z ≡ x → to_z w32 (of_z w32 z) ≡ x
-passed_on h e = to_z-of_z (record { sfits = h }) ∙ e
+passed_on h e = to_z-of_z {w = w32} (record { sfits = h }) ∙ e
 
 -- an answer r about a function's own parameter v is the definition's about v
 pub own_told : {A : Type 0} (P : ℤ → A) {v : ℤ} {r : A} → SFits w32 v → r ≡ P (to_z w32 (of_z w32 v)) → r ≡ P v

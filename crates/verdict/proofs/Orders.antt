@@ -16,6 +16,7 @@ use Rattle.verdict.specs.Order.{place_of, before, In, Least, Answer, Ahead, Sort
 -- ---- the answer is right
 
 ahead : (a : Rule) (rs : List Rule) → Ahead a rs → (b : Rule) → In b rs → before (place_of a) (place_of b) ≡ true
+ahead a [] h b i = elim i [ ]
 ahead a (x ∷ rs) h b i = ⊎_elim (λ e. rw e h.0) (λ j. ahead a rs h.1 b j) i
 
 clash : (b : Bool) → b ≡ true → b ≡ false → ⊥

@@ -24,8 +24,8 @@ fine_is Fine e h = refl
 fine_is (Broken n r c) e h = absurd (false≢true (sym e ∙ h))
 
 -- a, and b where a is fine
-infixr 30 ◌orElse◌
-abbrev pub ◌orElse◌ : Verdict → Verdict → Verdict
+infixr 30 ◌or_else◌
+abbrev pub ◌or_else◌ : Verdict → Verdict → Verdict
 Fine or_else b = b
 Broken n r c or_else b = Broken n r c
 

@@ -1,65 +1,49 @@
 -- `glances::glance_at` meets its contract: where the digits begin, the law of `AtGlance` says of what there is to be sure, and the code's
 -- test is that law's. Assumes nothing.
-use mathlib.Core.Bool.{true, false, not}
+use mathlib.Core.Bool.{Bool, true, false, not}
 use mathlib.Core.List.{List}
-use mathlib.Core.Path.{sym, ◌∙◌, refl}
-use Prim.Native.Nat.{◌+◌, ◌*◌, ℕ}
+use mathlib.Core.Path.{◌≡◌, sym, ◌∙◌, refl}
+use Prim.Native.Nat.{◌+◌, ◌-◌, ◌*◌, ℕ}
 use lib.Dec.{eqb, lit<}
 use borrow.Author.Rules.{rules}
 use borrow.Author.Tests.{eq-eqb, ne_eqb, not-true}
+use Rattle.fields.specs.Number.{is_digit}
 use Rattle.fields.specs.Ending.{DigitsFrom, EndsIn}
 use Rattle.glances.proofs.AtGlance.{Digit, is_digit_lem, passed_digit, bytes, one_digit, next_digit}
 use Rattle.glances.proofs.AtGlance.{glimpse_endless, from_4, from_3, from_2, from_1, from_0, from_none}
 use Rattle.fields.proofs.Places.{both}
 use Rattle.glances.proofs.glance_at.Goals as goal
-use Rattle.glances.proofs.glance_at.Goals.{After-wide, After-wide-2, After-wide-3, After-wide-one, Start, Then-digit-a, Then-not-digit-2, Then-not-digit-3, Then-not-digit-4}
+use Rattle.glances.proofs.glance_at.Goals.{Then-digit-a}
 
--- LEFT
-abbrev seen : tie.Start → List ℕ
-seen s = bytes s.args.a s.args.b s.args.c s.args.d s.args.e
+-- a byte b that the code has taken: its number w, and the answer t to whether it is a digit
+abbrev Took : ℕ → ℕ → Bool → Type 0
+Took b w t = (w ≡ b - 48) × (t ≡ is_digit b) × (not t ≡ false)
 
--- the digits that the code has taken, from the right
-said-4 : (c : After-wide-one) → DigitsFrom (seen (HELPER c).Start) 4 c.wide-one.result
-said-4 c = rw c.wide-one.ensures (one_digit _ _ _ _ _ (passed_digit _ _ c.digit.ensures c.if-not-digit.false-raw))
+module _ (a b c d e : ℕ) {w : ℕ} {t : Bool} (k : Took e w t) where
+  -- the digits that the code has taken, from the right
+  said-4 : DigitsFrom (bytes a b c d e) 4 w
+  said-4 = rw k.0 (one_digit a b c d e (passed_digit _ _ k.1 k.2))
 
-said-3 : (c : After-wide)
-    → DigitsFrom (seen (HELPER c).Start) 3 (c.wide-one.result + c.wide.result * 10)
-said-3 c =
-    rw c.wide.ensures
-    (next_digit (seen (HELPER c).Start) 4 _ 10 (lit< tt) refl (said-4 (HELPER c).After-wide-one)
-    (passed_digit _ _ c.digit-2.ensures c.if-not-digit-2.false-raw))
+  -- and no digit stands before them
+  ends-4 : {s : Bool} → s ≡ is_digit d → not s ≡ true → EndsIn (bytes a b c d e) 4 w
+  ends-4 h n = record { digits = said-4; all = λ q. sym h ∙ not-true _ n }
 
-said-2 : (c : After-wide-2)
-    → DigitsFrom (seen (HELPER c).Start) 2
-    (c.wide-one.result + c.wide.result * 10 + c.wide-2.result * 100)
-said-2 c =
-    rw c.wide-2.ensures
-    (next_digit (seen (HELPER c).Start) 3 _ 100 (lit< tt) refl (said-3 (HELPER c).After-wide)
-    (passed_digit _ _ c.digit-3.ensures c.if-not-digit-3.false-raw))
+  module _ {w₂ : ℕ} {t₂ : Bool} (k₂ : Took d w₂ t₂) where
+    said-3 : DigitsFrom (bytes a b c d e) 3 (w + w₂ * 10)
+    said-3 = rw k₂.0 (next_digit (bytes a b c d e) 4 _ 10 (lit< tt) refl said-4 (passed_digit _ _ k₂.1 k₂.2))
 
-said-1 : (c : After-wide-3)
-    → DigitsFrom (seen (HELPER c).Start) 1
-    (c.wide-one.result
-    + c.wide.result * 10 + c.wide-2.result * 100 + c.wide-3.result * 1000)
-said-1 c =
-    rw c.wide-3.ensures
-    (next_digit (seen (HELPER c).Start) 2 _ 1000 (lit< tt) refl (said-2 (HELPER c).After-wide-2)
-    (passed_digit _ _ c.digit-4.ensures c.if-not-digit-4.false-raw))
+    ends-3 : {s : Bool} → s ≡ is_digit c → not s ≡ true → EndsIn (bytes a b c d e) 3 (w + w₂ * 10)
+    ends-3 h n = record { digits = said-3; all = λ q. sym h ∙ not-true _ n }
 
--- and no digit stands before them
-ends-4 : (c : Then-not-digit-2) → EndsIn (seen (HELPER c).Start) 4 c.wide-one.result
-ends-4 c = record { digits = said-4 (HELPER c).After-wide-one; all = λ q. sym c.digit-2.ensures ∙ not-true _ c.if-not-digit-2.true-raw }
+    module _ {w₃ : ℕ} {t₃ : Bool} (k₃ : Took c w₃ t₃) where
+      said-2 : DigitsFrom (bytes a b c d e) 2 (w + w₂ * 10 + w₃ * 100)
+      said-2 = rw k₃.0 (next_digit (bytes a b c d e) 3 _ 100 (lit< tt) refl said-3 (passed_digit _ _ k₃.1 k₃.2))
 
-ends-3 : (c : Then-not-digit-3)
-    → EndsIn (seen (HELPER c).Start) 3
-    (c.wide-one.result + c.wide.result * 10)
-ends-3 c = record { digits = said-3 (HELPER c).After-wide; all = λ q. sym c.digit-3.ensures ∙ not-true _ c.if-not-digit-3.true-raw }
+      ends-2 : {s : Bool} → s ≡ is_digit b → not s ≡ true → EndsIn (bytes a b c d e) 2 (w + w₂ * 10 + w₃ * 100)
+      ends-2 h n = record { digits = said-2; all = λ q. sym h ∙ not-true _ n }
 
-ends-2 : (c : Then-not-digit-4)
-    → EndsIn (seen (HELPER c).Start) 2
-    (c.wide-one.result
-    + c.wide.result * 10 + c.wide-2.result * 100)
-ends-2 c = record { digits = said-2 (HELPER c).After-wide-2; all = λ q. sym c.digit-4.ensures ∙ not-true _ c.if-not-digit-4.true-raw }
+      said-1 : {w₄ : ℕ} {t₄ : Bool} → Took b w₄ t₄ → DigitsFrom (bytes a b c d e) 1 (w + w₂ * 10 + w₃ * 100 + w₄ * 1000)
+      said-1 k₄ = rw k₄.0 (next_digit (bytes a b c d e) 2 _ 1000 (lit< tt) refl said-2 (passed_digit _ _ k₄.1 k₄.2))
 
 -- the first of five digits
 last : (c : Then-digit-a)
@@ -74,37 +58,37 @@ pub overflow_sub-e : goal.overflow_sub-e
 overflow_sub-e c = (passed_digit _ _ c.digit.ensures c.if-not-digit.false-raw).low
 
 pub returns-then-a-b : goal.returns-then-a-b
-returns-then-a-b c = from_4 (ends-4 (goal.at.returns-then-a-b c).Then-not-digit-2) true c.if-a-b.true
+returns-then-a-b c = from_4 (ends-4 c.args.a c.args.b c.args.c c.args.d c.args.e (c.wide-one.ensures, c.digit.ensures, c.if-not-digit.false-raw) c.digit-2.ensures c.if-not-digit-2.true-raw) true c.if-a-b.true
 
 pub returns-then-not-digit-2 : goal.returns-then-not-digit-2
-returns-then-not-digit-2 c = from_4 (ends-4 (goal.at.returns-then-not-digit-2 c).Then-not-digit-2) false c.if-a-b.false
+returns-then-not-digit-2 c = from_4 (ends-4 c.args.a c.args.b c.args.c c.args.d c.args.e (c.wide-one.ensures, c.digit.ensures, c.if-not-digit.false-raw) c.digit-2.ensures c.if-not-digit-2.true-raw) false c.if-a-b.false
 
 pub overflow_sub-d : goal.overflow_sub-d
 overflow_sub-d c = (passed_digit _ _ c.digit-2.ensures c.if-not-digit-2.false-raw).low
 
 pub returns-then-a-b-2 : goal.returns-then-a-b-2
-returns-then-a-b-2 c = from_3 (ends-3 (goal.at.returns-then-a-b-2 c).Then-not-digit-3) true c.if-a-b-2.true
+returns-then-a-b-2 c = from_3 (ends-3 c.args.a c.args.b c.args.c c.args.d c.args.e (c.wide-one.ensures, c.digit.ensures, c.if-not-digit.false-raw) (c.wide.ensures, c.digit-2.ensures, c.if-not-digit-2.false-raw) c.digit-3.ensures c.if-not-digit-3.true-raw) true c.if-a-b-2.true
 
 pub returns-then-not-digit-3 : goal.returns-then-not-digit-3
-returns-then-not-digit-3 c = from_3 (ends-3 (goal.at.returns-then-not-digit-3 c).Then-not-digit-3) false c.if-a-b-2.false
+returns-then-not-digit-3 c = from_3 (ends-3 c.args.a c.args.b c.args.c c.args.d c.args.e (c.wide-one.ensures, c.digit.ensures, c.if-not-digit.false-raw) (c.wide.ensures, c.digit-2.ensures, c.if-not-digit-2.false-raw) c.digit-3.ensures c.if-not-digit-3.true-raw) false c.if-a-b-2.false
 
 pub overflow_sub-c : goal.overflow_sub-c
 overflow_sub-c c = (passed_digit _ _ c.digit-3.ensures c.if-not-digit-3.false-raw).low
 
 pub returns-then-a-b-3 : goal.returns-then-a-b-3
-returns-then-a-b-3 c = from_2 (ends-2 (goal.at.returns-then-a-b-3 c).Then-not-digit-4) true c.if-a-b-3.true
+returns-then-a-b-3 c = from_2 (ends-2 c.args.a c.args.b c.args.c c.args.d c.args.e (c.wide-one.ensures, c.digit.ensures, c.if-not-digit.false-raw) (c.wide.ensures, c.digit-2.ensures, c.if-not-digit-2.false-raw) (c.wide-2.ensures, c.digit-3.ensures, c.if-not-digit-3.false-raw) c.digit-4.ensures c.if-not-digit-4.true-raw) true c.if-a-b-3.true
 
 pub returns-then-not-digit-4 : goal.returns-then-not-digit-4
-returns-then-not-digit-4 c = from_2 (ends-2 (goal.at.returns-then-not-digit-4 c).Then-not-digit-4) false c.if-a-b-3.false
+returns-then-not-digit-4 c = from_2 (ends-2 c.args.a c.args.b c.args.c c.args.d c.args.e (c.wide-one.ensures, c.digit.ensures, c.if-not-digit.false-raw) (c.wide.ensures, c.digit-2.ensures, c.if-not-digit-2.false-raw) (c.wide-2.ensures, c.digit-3.ensures, c.if-not-digit-3.false-raw) c.digit-4.ensures c.if-not-digit-4.true-raw) false c.if-a-b-3.false
 
 pub overflow_sub-b : goal.overflow_sub-b
 overflow_sub-b c = (passed_digit _ _ c.digit-4.ensures c.if-not-digit-4.false-raw).low
 
 pub returns-then-b-ne48 : goal.returns-then-b-ne48
-returns-then-b-ne48 c = from_1 (said-1 (goal.at.returns-then-b-ne48 c).After-wide-3) c.if-a-eq32.true false (ne_eqb _ _ c.if-b-ne48.true)
+returns-then-b-ne48 c = from_1 (said-1 c.args.a c.args.b c.args.c c.args.d c.args.e (c.wide-one.ensures, c.digit.ensures, c.if-not-digit.false-raw) (c.wide.ensures, c.digit-2.ensures, c.if-not-digit-2.false-raw) (c.wide-2.ensures, c.digit-3.ensures, c.if-not-digit-3.false-raw) (c.wide-3.ensures, c.digit-4.ensures, c.if-not-digit-4.false-raw)) c.if-a-eq32.true false (ne_eqb _ _ c.if-b-ne48.true)
 
 pub returns-then-a-eq32 : goal.returns-then-a-eq32
-returns-then-a-eq32 c = from_1 (said-1 (goal.at.returns-then-a-eq32 c).After-wide-3) c.if-a-eq32.true true (eq-eqb _ _ c.if-b-ne48.false)
+returns-then-a-eq32 c = from_1 (said-1 c.args.a c.args.b c.args.c c.args.d c.args.e (c.wide-one.ensures, c.digit.ensures, c.if-not-digit.false-raw) (c.wide.ensures, c.digit-2.ensures, c.if-not-digit-2.false-raw) (c.wide-2.ensures, c.digit-3.ensures, c.if-not-digit-3.false-raw) (c.wide-3.ensures, c.digit-4.ensures, c.if-not-digit-4.false-raw)) c.if-a-eq32.true true (eq-eqb _ _ c.if-b-ne48.false)
 
 pub overflow_sub-a : goal.overflow_sub-a
 overflow_sub-a c = (last (goal.at.overflow_sub-a c).Then-digit-a).low
@@ -112,7 +96,7 @@ overflow_sub-a c = (last (goal.at.overflow_sub-a c).Then-digit-a).low
 pub returns-then-digit-a : goal.returns-then-digit-a
 returns-then-digit-a c =
     let n = not-true (eqb c.args.a 48) (both c.digit-5.result (not (eqb c.args.a 48)) c.if-digit-a.true).1 in
-    rw c.wide-then-digit-a.ensures (from_0 (said-1 (goal.at.returns-then-digit-a c).After-wide-3) (last (goal.at.returns-then-digit-a c).Then-digit-a) false n)
+    rw c.wide-then-digit-a.ensures (from_0 (said-1 c.args.a c.args.b c.args.c c.args.d c.args.e (c.wide-one.ensures, c.digit.ensures, c.if-not-digit.false-raw) (c.wide.ensures, c.digit-2.ensures, c.if-not-digit-2.false-raw) (c.wide-2.ensures, c.digit-3.ensures, c.if-not-digit-3.false-raw) (c.wide-3.ensures, c.digit-4.ensures, c.if-not-digit-4.false-raw)) (last (goal.at.returns-then-digit-a c).Then-digit-a) false n)
 
 pub returns : goal.returns
-returns c = from_none (said-1 (goal.at.returns c).After-wide-3) c.if-a-eq32.false _ c.digit-5.ensures c.if-digit-a.false
+returns c = from_none (said-1 c.args.a c.args.b c.args.c c.args.d c.args.e (c.wide-one.ensures, c.digit.ensures, c.if-not-digit.false-raw) (c.wide.ensures, c.digit-2.ensures, c.if-not-digit-2.false-raw) (c.wide-2.ensures, c.digit-3.ensures, c.if-not-digit-3.false-raw) (c.wide-3.ensures, c.digit-4.ensures, c.if-not-digit-4.false-raw)) c.if-a-eq32.false _ c.digit-5.ensures c.if-digit-a.false

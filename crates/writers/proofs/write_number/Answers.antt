@@ -33,7 +33,7 @@ fits : (c : Else-not-in_range)
     c.args.width c.args.value
     ≡ true
 fits c =
-    number_fit _ _ _ c.inside.ensures _ (not-false _ c.if-not-inside.false-raw) (ranged (HELPER c).After-in_range)
+    number_fit _ _ _ c.inside.ensures _ (not-false _ c.if-not-inside.false-raw) (c.in_range.ensures ∙ ap (holds c.args.width) (to_z-of_z c.ranges.value))
     ∙ not-false _ c.if-not-in_range.false-raw
 
 -- what is to be written is the value
@@ -54,7 +54,7 @@ overflow_sub-column c = let p = bounds (goal.at.overflow_sub-column c).Else-not-
 
 pub left_of-requires : goal.left_of-requires
 left_of-requires c =
-    rw (to_z-of_z c.NOSTEP.fits.value) (holds_small c.args.width c.args.value (sym (ranged (goal.at.left_of-requires c).After-in_range) ∙ not-false _ c.if-not-in_range.false-raw))
+    rw (to_z-of_z c.ranges.value) (holds_small c.args.width c.args.value (sym (ranged (goal.at.left_of-requires c).After-in_range) ∙ not-false _ c.if-not-in_range.false-raw))
 
 pub fill-requires : goal.fill-requires
 fill-requires c = let p = bounds (goal.at.fill-requires c).Else-not-inside in omega arith
