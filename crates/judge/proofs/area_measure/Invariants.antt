@@ -16,7 +16,7 @@ use Rattle.judge.proofs.area_measure.Given as goal
 
 abbrev pub invariant-loop-i : goal.invariant-loop-i
 invariant-loop-i l =
-    (l.i ≤ l.n) × (l.f ≡ l.a + 1 + records_to l.file l.a l.i) × (records_to l.file l.a l.i ≤ 834 * l.i) × (to_z w64 l.sum ≡ area_measure (kept_measure l.l l.kept) (loops_to l.file l.a l.i))
+    (l.i ≤ l.n) × (l.f ≡ l.a + 1 + records_to l.file l.a l.i) × (records_to l.file l.a l.i ≤ 834 * l.i) × (l.sum ≡ area_measure (kept_measure l.l l.kept) (loops_to l.file l.a l.i))
 
 abbrev pub decreases-loop-i : goal.decreases-loop-i
 decreases-loop-i l = l.n - l.i

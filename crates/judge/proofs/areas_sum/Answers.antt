@@ -31,7 +31,7 @@ area_measure-sum-requires c =
     (c.area_word.ensures.1, area_measurable _ _ _ c.loop-a-test.true c.area_word.ensures.0 c.requires.0 c.requires.1)
 
 pub overflow_add-sum : goal.overflow_add-sum
-overflow_add-sum c = (next (goal.at.overflow_add-sum c).After-area_measure-sum).ranges
+overflow_add-sum c = (next (goal.at.overflow_add-sum c).After-area_measure-sum).fits
 
 pub loop-a-preserved : goal.loop-a-preserved
 loop-a-preserved c = (omega (arith, c.loop-a-test.true), (next (goal.at.loop-a-preserved c).After-area_measure-sum).is)

@@ -12,7 +12,7 @@ use Rattle.judge.proofs.Adding.{Added, sum_added, area_measurable, area_told}
 use Rattle.judge.proofs.areas_sum.Given as goal
 
 abbrev pub invariant-loop-a : goal.invariant-loop-a
-invariant-loop-a l = (l.a ≤ l.n) × (to_z w64 l.sum ≡ sum_to l.a (area_of_layer l.file l.table l.l))
+invariant-loop-a l = (l.a ≤ l.n) × (l.sum ≡ sum_to l.a (area_of_layer l.file l.table l.l))
 
 abbrev pub decreases-loop-a : goal.decreases-loop-a
 decreases-loop-a l = l.n - l.a

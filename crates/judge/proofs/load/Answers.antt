@@ -1,4 +1,4 @@
--- `judge::load` meets its contract: a refusal stands, of the or.before.before.before.before.before for too few places, and else the measures are filled in.
+-- `judge::load` meets its contract: a refusal stands, of the stages or for too few places, and else the measures are filled in.
 -- Assumes nothing.
 use mathlib.Core.Path.{◌≡◌, refl, sym}
 use lib.Seq.{length-take-le}
@@ -13,7 +13,6 @@ use Rattle.judge.proofs.Calling.{outcome_told, table_told, lent_refused, stages_
 use Rattle.judge.proofs.load.Goals as goal
 use Rattle.judge.proofs.load.Goals.{In_default}
 
--- what the said.before.before.before.before.before, before more was asked
 
 -- accepted: they are kept
 kept : (c : In_default) → c.judge_file-t.result.verdict ≡ Fine

@@ -36,7 +36,7 @@ outside_at-sum-requires c =
     (omega (arith, c.loop-i-test.true, p.1.sound.few), p.0)
 
 pub overflow_add-sum : goal.overflow_add-sum
-overflow_add-sum c = (next (goal.at.overflow_add-sum c).After-outside_at-sum).ranges
+overflow_add-sum c = (next (goal.at.overflow_add-sum c).After-outside_at-sum).fits
 
 pub overflow_add-i-in-loop-i : goal.overflow_add-i-in-loop-i
 overflow_add-i-in-loop-i c = omega (arith, c.loop-i-test.true, c.requires.1.sound.few)

@@ -14,7 +14,7 @@ use Rattle.judge.proofs.Adding.{Added, sum_added}
 use Rattle.judge.proofs.outside_sum.Given as goal
 
 abbrev pub invariant-loop-i : goal.invariant-loop-i
-invariant-loop-i l = (l.i ≤ l.n) × (to_z w64 l.sum ≡ sum_to l.i (outside_at l.file l.table l.l))
+invariant-loop-i l = (l.i ≤ l.n) × (l.sum ≡ sum_to l.i (outside_at l.file l.table l.l))
 
 abbrev pub decreases-loop-i : goal.decreases-loop-i
 decreases-loop-i l = l.n - l.i

@@ -16,7 +16,7 @@ use Rattle.links.proofs.first_repeat.Given as goal
 
 abbrev pub invariant-loop-j : goal.invariant-loop-j
 invariant-loop-j l =
-    (l.j ≤ l.stop) × (l.at ≡ l.initial.at) × (some l.j (λ l.j. equal (slot_by l.o l.file l.f (l.from + l.i)) (slot_by l.o l.file l.f l.j)) ≡ false)
+    (l.j ≤ l.stop) × (l.at ≡ l.initial.at) × (some l.j (λ j. equal (slot_by l.o l.file l.f (l.from + l.i)) (slot_by l.o l.file l.f j)) ≡ false)
 
 abbrev pub decreases-loop-j : goal.decreases-loop-j
 decreases-loop-j l = l.stop - l.j

@@ -19,7 +19,7 @@ mark_at-requires c = marked_small _ _ _ c.slot_of-v.type_inv c.slot_of-v.ensures
 pub loop-e-preserved : goal.loop-e-preserved
 loop-e-preserved c =
     (
-      c.put_mark.auto.0 ∙ c.loop-e.invariant.0,
+      c.put_mark.auto.marks ∙ c.loop-e.invariant.0,
       marked_more _ _ _ c.slot_of-v.type_inv c.slot_of-v.ensures c.size.ensures c.natural.ensures
           c.mark_at.ensures c.area_slots-n.ensures.0 c.loop-e-test.true c.loop-e.invariant.1 c.put_mark.ensures,
     )

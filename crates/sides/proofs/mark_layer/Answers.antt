@@ -13,7 +13,7 @@ mark_area-requires c = c.loop-i.invariant.1
 
 pub loop-i-preserved : goal.loop-i-preserved
 loop-i-preserved c =
-    (c.mark_area.auto.1.1.0 ∙ c.loop-i.invariant.0, c.mark_area.ensures)
+    (c.mark_area.auto.marks ∙ c.loop-i.invariant.0, c.mark_area.ensures)
 
 pub shape_of-marks : goal.shape_of-marks
 shape_of-marks c = c.loop-i.invariant.0

@@ -56,7 +56,7 @@ loop-x-preserved c =
       stands_past _ _ _ p _ c.past_quiet-x.ensures,
       passed_quiet seventh (sides_at _ _) _ _ _ p.here _ c.past_quiet-x.ensures (quiet_none _ _) f,
       c.mark_behind.ensures,
-      c.mark_behind.auto.1.1.1.1.0 ∙ c.loop-x.invariant.3,
+      c.mark_behind.auto.marks ∙ c.loop-x.invariant.3,
     )
 
 pub returns : goal.returns
