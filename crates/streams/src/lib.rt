@@ -1,12 +1,12 @@
-// What the programs read and write. Which bytes those are no contract can say; that a read or a write
-// fails is told on standard error.
+// What the programs read and write. Which bytes the system gives or takes no contract can say; that a read or
+// a write fails is told to `errors`, which is the programs' standard error.
 //
 // The contract of `read_input` cites `specs/Reading`.
 #![tactic(auto)]
 
 ghost use Rattle.streams.specs.Reading.{Within};
 
-use libc::STDOUT_FILENO;
+use std::io::{Error, Read, Write};
 
 // What reading gave: so many bytes, or a read that failed.
 #[derive(Clone, Copy)]
@@ -15,31 +15,39 @@ pub enum Input {
     Failed,
 }
 
-// Reads until `input` is full or what `fd` reads ends. Where a read fails, standard error is told `what` and
+// Reads until `input` is full or what `source` gives ends. Where a read fails, `errors` is told `what` and
 // why.
-pub fn read_input(fd: i32, input: &mut [u8], what: &[u8]) -> Input
+pub fn read_input<R: Read, E: Write>(
+    source: &mut R,
+    errors: &mut E,
+    input: &mut [u8],
+    what: &[u8],
+) -> Input
     ensures { Within result input.new }
 {
     let mut n: usize = 0;
     while n < input.len() {
-        let got = libc::read(fd, &mut input[n..]);
-        if got < 0 {
-            os::fail(what);
-            return Input::Failed;
+        match source.read(&mut input[n..]) {
+            Ok(0) => return Input::Bytes(n),
+            Ok(more) => n += more,
+            Err(why) => {
+                tell(errors, what, &why);
+                return Input::Failed;
+            }
         }
-        let more = io::count(got, &input[n..]);
-        if more == 0 {
-            return Input::Bytes(n);
-        }
-        n += more;
     }
     Input::Bytes(n)
 }
 
-// Writes `text` to standard output. Where not all of it could be written, standard error is told `what` and
-// why.
-pub fn write_text(text: &[u8], what: &[u8]) {
-    if !io::write_all(STDOUT_FILENO, text) {
-        os::fail(what);
+// Writes `text` to `output`. Where not all of it could be written, `errors` is told `what` and why.
+pub fn write_text<W: Write, E: Write>(output: &mut W, errors: &mut E, text: &[u8], what: &[u8]) {
+    if let Err(why) = output.write_all(text) {
+        tell(errors, what, &why);
     }
+}
+
+// Tells `errors` in a line `what` failed, a colon and why. If that fails too there is nobody left to tell.
+pub fn tell<E: Write>(errors: &mut E, what: &[u8], why: &Error) {
+    let _ = errors.write_all(what);
+    let _ = writeln!(errors, ": {why}");
 }
