@@ -1,7 +1,7 @@
 -- A record's codes: what the steps of the code found, and what a code is to whoever looks at values alone. Assumes nothing.
 use mathlib.Core.Bool.{Bool, true, false}
 use mathlib.Core.List.{List}
-use mathlib.Core.Path.{◌≡◌, refl, sym, ◌∙◌}
+use mathlib.Core.Path.{◌≡◌, refl, sym, ap, ◌∙◌}
 use Prim.Native.Nat.{ℕ, zero, suc}
 use lib.IntN.{ℤ}
 use Rattle.fields.specs.Answer.{value_of}
@@ -47,11 +47,11 @@ module _ (s : List ℕ) (c w : ℕ) {r : Code} (q : r ≡ code_at s c w) where
 
       pub code_elsewhere : t ≡ false → Refused ≡ code_in s c w
       unfolding code_in
-      code_elsewhere f = rw (← q, z, ← e, f, (marked m n).1)
+      code_elsewhere f = rw (← q, z) (sym (ap (λ x. landed x (Value v m)) (sym e ∙ f) ∙ (marked m n).1))
 
       pub code_land : t ≡ true → Value v m ≡ code_in s c w
       unfolding code_in
-      code_land y = rw (← q, z, ← e, y, (marked m n).0)
+      code_land y = rw (← q, z) (sym (ap (λ x. landed x (Value v m)) (sym e ∙ y) ∙ (marked m n).0))
 
 -- ---- codes as values
 

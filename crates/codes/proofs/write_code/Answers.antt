@@ -72,5 +72,5 @@ pub returns : goal.returns
 returns c =
     let b = bounds (goal.at.returns c).Else-not-inside in
     land_written _ _ _ _ _ c.if-mark-ne1.false (wide (goal.at.returns c).Else-not-inside) c.inside.ensures
-    (zero_value _ c.NOSTEP.fits.value c.if-value-ne0.false) (not-false _ c.if-not-inside.false-raw) _
+    (zero_value _ c.ranges.value c.if-value-ne0.false) (not-false _ c.if-not-inside.false-raw) _
     (five_stored (c.args.column - 1) c.args.buf.now 32 48 48 48 48 (omega (arith, wide (goal.at.returns c).Else-not-inside)))

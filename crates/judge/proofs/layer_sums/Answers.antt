@@ -13,7 +13,7 @@ use Rattle.judge.proofs.Loading.{counts_few}
 use Rattle.judge.proofs.Calling.{judged_counts, judged_fit, judged_words, layer_summable, layer_sums_are}
 use Rattle.judge.proofs.Calling.{table_told, sums_refused, stages_fine, last_kept, sums_kept}
 use Rattle.judge.proofs.layer_sums.Goals as goal
-use Rattle.judge.proofs.layer_sums.Goals.{After-asked-v, After-struct_known-1, In_default, In_default-1}
+use Rattle.judge.proofs.layer_sums.Goals.{After-asked-v, After-struct_known-1, In_default}
 
 -- what the said.before.before.before.before.before, before more was asked, and the layer's number
 
@@ -49,27 +49,27 @@ slice_bounds-words-end c =
 pub slice_bounds-words-end-2 : goal.slice_bounds-words-end-2
 slice_bounds-words-end-2 c =
     let j = c.judge_file-t.ensures in
-    sym (length-take-le _ _ (judged_fit _ _ j.0 (kept (goal.at.slice_bounds-words-end-2 c).In_default-1) _ refl j.1))
+    sym (length-take-le _ _ (judged_fit _ _ j.0 (kept (goal.at.slice_bounds-words-end-2 c).In_default) _ refl j.1))
 
 pub bases_of-requires : goal.bases_of-requires
-bases_of-requires c = counts_few _ (judged_counts _ _ c.judge_file-t.ensures.0 (kept (goal.at.bases_of-requires c).In_default-1))
+bases_of-requires c = counts_few _ (judged_counts _ _ c.judge_file-t.ensures.0 (kept (goal.at.bases_of-requires c).In_default))
 
 pub overflow_sub-i : goal.overflow_sub-i
-overflow_sub-i c = (there (goal.at.overflow_sub-i c).In_default-1).0
+overflow_sub-i c = (there (goal.at.overflow_sub-i c).In_default).0
 
 pub sums_in-requires : goal.sums_in-requires
 sums_in-requires c =
     let j = c.judge_file-t.ensures in
-    let w = judged_words _ _ j.0 (kept (goal.at.sums_in-requires c).In_default-1) _ refl j.1 in
-    (layer_summable _ _ j.0 (kept (goal.at.sums_in-requires c).In_default-1) w c.bases_of.ensures _ c.layer_in-l.ensures (there (goal.at.sums_in-requires c).In_default-1).0 (there (goal.at.sums_in-requires c).In_default-1).1, search rules)
+    let w = judged_words _ _ j.0 (kept (goal.at.sums_in-requires c).In_default) _ refl j.1 in
+    (layer_summable _ _ j.0 (kept (goal.at.sums_in-requires c).In_default) w c.bases_of.ensures _ c.layer_in-l.ensures (there (goal.at.sums_in-requires c).In_default).0 (there (goal.at.sums_in-requires c).In_default).1, search rules)
 
 pub returns : goal.returns
 unfolding sums_of
 returns c =
     let j = c.judge_file-t.ensures in
     let r = layer_rule (number (goal.at.returns c).After-struct_known-1) in
-    let w = judged_words _ _ j.0 (kept (goal.at.returns c).In_default-1) _ refl j.1 in
-    let s = layer_sums_are _ _ j.0 (kept (goal.at.returns c).In_default-1) w c.bases_of.ensures _ c.layer_in-l.ensures in (
+    let w = judged_words _ _ j.0 (kept (goal.at.returns c).In_default) _ refl j.1 in
+    let s = layer_sums_are _ _ j.0 (kept (goal.at.returns c).In_default) w c.bases_of.ensures _ c.layer_in-l.ensures in (
       sums_kept _ _ j.0 r c.asked-v.ensures c.in_default.is _ (rw s at c.sums_in.ensures),
       table_told _ _ j.0 r c.asked-v.ensures refl _ refl j.1,
     )

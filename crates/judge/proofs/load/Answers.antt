@@ -11,7 +11,7 @@ use Rattle.judge.proofs.Loading.{counts_few}
 use Rattle.judge.proofs.Calling.{judged_countable, judged_counts, judged_fit, judged_words, summable_to, areas_fit, measures_are}
 use Rattle.judge.proofs.Calling.{outcome_told, table_told, lent_refused, stages_fine, last_kept, lent_kept}
 use Rattle.judge.proofs.load.Goals as goal
-use Rattle.judge.proofs.load.Goals.{In_default, In_default-1}
+use Rattle.judge.proofs.load.Goals.{In_default}
 
 -- what the said.before.before.before.before.before, before more was asked
 
@@ -39,17 +39,17 @@ slice_bounds-fill_measures-end c =
 pub slice_bounds-fill_measures-end-2 : goal.slice_bounds-fill_measures-end-2
 slice_bounds-fill_measures-end-2 c =
     let j = c.judge_file-t.ensures in
-    sym (length-take-le _ _ (judged_fit _ _ j.0 (kept (goal.at.slice_bounds-fill_measures-end-2 c).In_default-1) _ refl j.1))
+    sym (length-take-le _ _ (judged_fit _ _ j.0 (kept (goal.at.slice_bounds-fill_measures-end-2 c).In_default) _ refl j.1))
 
 pub bases_of-requires : goal.bases_of-requires
-bases_of-requires c = counts_few _ (judged_counts _ _ c.judge_file-t.ensures.0 (kept (goal.at.bases_of-requires c).In_default-1))
+bases_of-requires c = counts_few _ (judged_counts _ _ c.judge_file-t.ensures.0 (kept (goal.at.bases_of-requires c).In_default))
 
 pub fill_measures-requires : goal.fill_measures-requires
 fill_measures-requires c =
     let j = c.judge_file-t.ensures in
-    let w = judged_words _ _ j.0 (kept (goal.at.fill_measures-requires c).In_default-1) _ refl j.1 in
+    let w = judged_words _ _ j.0 (kept (goal.at.fill_measures-requires c).In_default) _ refl j.1 in
     let l = leb-true _ _ (last_kept _ _ j.0 (measure_rule _) c.asked-v.ensures c.in_default.is) in
-    (summable_to _ _ j.0 (kept (goal.at.fill_measures-requires c).In_default-1) w c.bases_of.ensures, rw (areas_fit _ _ j.0 (kept (goal.at.fill_measures-requires c).In_default-1) w c.bases_of.ensures) l)
+    (summable_to _ _ j.0 (kept (goal.at.fill_measures-requires c).In_default) w c.bases_of.ensures, rw (areas_fit _ _ j.0 (kept (goal.at.fill_measures-requires c).In_default) w c.bases_of.ensures) l)
 
 pub outcome_of-requires-2 : goal.outcome_of-requires-2
 outcome_of-requires-2 c = judged_countable _ _ c.judge_file-t.ensures.0
@@ -58,8 +58,8 @@ pub returns : goal.returns
 unfolding measures_after
 returns c =
     let j = c.judge_file-t.ensures in
-    let w = judged_words _ _ j.0 (kept (goal.at.returns c).In_default-1) _ refl j.1 in
-    let f = measures_are _ _ j.0 (kept (goal.at.returns c).In_default-1) w c.bases_of.ensures in (
+    let w = judged_words _ _ j.0 (kept (goal.at.returns c).In_default) _ refl j.1 in
+    let f = measures_are _ _ j.0 (kept (goal.at.returns c).In_default) w c.bases_of.ensures in (
       outcome_told _ _ j.0 (measure_rule _) c.asked-v.ensures c.outcome_of-2.ensures,
       table_told _ _ j.0 (measure_rule _) c.asked-v.ensures refl _ refl j.1,
       lent_kept _ _ j.0 (measure_rule _) c.asked-v.ensures c.in_default.is _ _ (rw f at c.fill_measures.ensures),

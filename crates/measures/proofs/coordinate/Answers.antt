@@ -7,8 +7,7 @@ use mir.Syntax.{w64}
 use borrow.Author.Rules.{rules}
 use Rattle.measures.specs.Sound.{added_up}
 use Rattle.measures.proofs.coordinate.Goals as goal
-use Rattle.measures.proofs.coordinate.Goals.{After-sum_of_five}
 
 pub returns : goal.returns
 unfolding added_up
-returns c = to_z_pos w64 (cast-result (goal.at.returns c).After-sum_of_five).sfits ∙ ap pos (omega (arith, c.sum_of_five.ensures))
+returns c = to_z_pos w64 (search rules) ∙ ap pos (omega (arith, c.sum_of_five.ensures))

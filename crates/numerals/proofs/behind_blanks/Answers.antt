@@ -1,8 +1,5 @@
-use mathlib.Core.Path.{◌≡◌, refl, ◌∙◌}
-use Prim.Native.Nat.{◌≤◌, ◌-◌}
-use lib.ListN.{length, drop}
+use mathlib.Core.Path.{refl, ◌∙◌}
 use borrow.Author.Rules.{rules}
-use Rattle.fields.specs.Number.{after_blanks}
 use Rattle.numerals.proofs.Steps.{blanks_end, blanks_more, blanks_stop}
 use Rattle.numerals.proofs.behind_blanks.Goals as goal
 

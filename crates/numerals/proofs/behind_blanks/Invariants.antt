@@ -1,11 +1,9 @@
 -- `numerals::behind_blanks` meets its contract. The loop's invariant: spaces alone stand before index `i`, so what follows the spaces of
 -- the field is what follows those from there on. Assumes nothing.
-use mathlib.Core.Path.{◌≡◌, refl, ◌∙◌}
+use mathlib.Core.Path.{◌≡◌}
 use Prim.Native.Nat.{◌≤◌, ◌-◌}
 use lib.ListN.{length, drop}
-use borrow.Author.Rules.{rules}
 use Rattle.fields.specs.Number.{after_blanks}
-use Rattle.numerals.proofs.Steps.{blanks_end, blanks_more, blanks_stop}
 use Rattle.numerals.proofs.behind_blanks.Given as goal
 
 abbrev pub invariant-loop-i : goal.invariant-loop-i

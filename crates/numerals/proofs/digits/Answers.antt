@@ -1,11 +1,9 @@
-use mathlib.Core.Path.{◌≡◌, sym, ap, ◌∙◌}
-use Prim.Native.Nat.{◌≤◌, ◌<◌, ◌-◌, ◌^◌}
+use mathlib.Core.Path.{sym, ap, ◌∙◌}
+use Prim.Native.Nat.{◌≤◌, ◌<◌}
 use native.Mathlib.Nat.{one-le-pow}
 use native.Mathlib.Omega.{arith}
 use lib.Dec.{lit<}
-use lib.ListN.{length, drop}
 use borrow.Author.Rules.{rules}
-use Rattle.fields.specs.Number.{plain_of, digits_of}
 use Rattle.fields.specs.declared.Number.TheVariants.{Value}
 use Rattle.numerals.proofs.Signs.{size_fits, size_is}
 use Rattle.numerals.proofs.Steps.{digits_none, zero_leads, digits_lead, digits_end, digits_more, digits_stop}

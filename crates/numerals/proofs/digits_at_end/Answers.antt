@@ -1,11 +1,8 @@
 use mathlib.Core.Path.{◌≡◌}
-use Prim.Native.Nat.{◌≤◌, ◌-◌, ◌^◌}
+use Prim.Native.Nat.{◌≤◌}
 use native.Mathlib.Nat.{sub_self}
 use native.Mathlib.Omega.{arith}
-use lib.ListN.{length}
-use borrow.Author.Rules.{rules}
 use borrow.Author.Tests.{le-leb, lt-leb}
-use Rattle.fields.specs.Ending.{DigitsFrom}
 use Rattle.fields.proofs.FromRight.{unit_small, digit_small, digits_none, digits_more}
 use Rattle.numerals.proofs.digits_at_end.Goals as goal
 use Rattle.numerals.proofs.digits_at_end.Goals.{After-wide}

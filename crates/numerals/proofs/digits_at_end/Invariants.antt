@@ -1,14 +1,9 @@
 -- `numerals::digits_at_end` meets its contract. The loop's invariant: from index `i` on there are digits
 -- alone, they say `size`, and the next digit to the left counts `unit`. Assumes nothing.
 use mathlib.Core.Path.{◌≡◌}
-use Prim.Native.Nat.{◌≤◌, ◌-◌, ◌^◌}
-use native.Mathlib.Nat.{sub_self}
-use native.Mathlib.Omega.{arith}
+use Prim.Native.Nat.{◌-◌, ◌^◌}
 use lib.ListN.{length}
-use borrow.Author.Rules.{rules}
-use borrow.Author.Tests.{le-leb, lt-leb}
 use Rattle.fields.specs.Ending.{DigitsFrom}
-use Rattle.fields.proofs.FromRight.{unit_small, digit_small, digits_none, digits_more}
 use Rattle.numerals.proofs.digits_at_end.Given as goal
 
 abbrev pub invariant-loop-i : goal.invariant-loop-i

@@ -4,7 +4,6 @@ use mathlib.Core.Path.{sym}
 use Prim.Native.Nat.{◌<◌}
 use native.Mathlib.Omega.{arith}
 use lib.ListN.{length}
-use borrow.Author.Rules.{rules}
 use Rattle.fields.proofs.FromRight.{too_wide, refused_endless, refused_zero, leads, leads_not}
 use Rattle.numerals.proofs.number_of.Goals as goal
 use Rattle.numerals.proofs.number_of.Goals.{Else-from-n}

@@ -1,47 +1,66 @@
 -- `numerals::read_number` meets its contract: blanks, sign and digits each are a step of the definition. Assumes nothing.
-use mathlib.Core.Bool.{Bool, true}
+use mathlib.Core.Bool.{Bool, true, not}
 use mathlib.Core.List.{List}
-use mathlib.Core.Logic.{⊎_elim}
 use mathlib.Core.Path.{◌≡◌, sym, ap, ◌∙◌}
 use Prim.Native.Nat.{ℕ, ◌+◌, ◌-◌, ◌≤◌, ◌<◌}
 use native.Mathlib.Omega.{arith}
 use lib.Dec.{eqb}
+use lib.IntN.{ℤ}
 use lib.ListN.{length, get_or, take, drop}
-use borrow.Author.Rules.{rules}
-use borrow.Author.Tests.{not-true, not-false}
-use Rattle.fields.specs.Number.{number_at, minus, plain_of, signed_of}
+use borrow.Author.Tests.{eq-eqb, ne_eqb}
+use Rattle.fields.specs.Number.{number_at, after_blanks, minus, plain_of, signed_of, is_width}
 use Rattle.fields.specs.Place.{is_inside}
 use Rattle.fields.specs.declared.Number.{Number}
-use Rattle.fields.specs.declared.Number.TheVariants.{Value}
+use Rattle.fields.specs.declared.Number.TheVariants.{Value, Refused}
 use Rattle.fields.proofs.Answers.{number_outside}
 use Rattle.fields.proofs.Spelled.{signed}
 use Rattle.fields.proofs.Places.{passed}
 use Rattle.numerals.proofs.Steps.{part_length, width_refused, width_taken, width_most, sign_refused, sign_off, sign_on, sign_end, sign_minus, sign_none}
 use Rattle.numerals.proofs.Signs.{Small, digits_small, value_held, minus_none, minus_held_fits, minus_held}
 use Rattle.numerals.proofs.read_number.Goals as goal
-use Rattle.numerals.proofs.read_number.Goals.{After-behind_blanks-i, Else-not-inside, Else-not-is_width, Else-not-minus, In-Value, Joined-minus, Start}
+use Rattle.numerals.proofs.read_number.Goals.{Else-not-inside, Joined-minus, In-Value, then-minus, else-minus}
 
--- LEFT
--- what the definition says of the field that is asked for
-abbrev asked : tie.Start → Number
-asked s = number_at s.args.s.now s.args.column s.args.width
+-- the bytes that the code cuts out
+abbrev part : List ℕ → ℕ → ℕ → List ℕ
+part s c w = take (c - 1 + w - (c - 1)) (drop (c - 1) s)
+
+-- past both tests: a field that lies within s, of a width that number fields have
+module _ (s : List ℕ) (c w : ℕ) (i : is_inside s c w ≡ true) {r : Bool} (e : r ≡ is_width w) (t : r ≡ true) where
+  narrow : length (part s c w) ≤ 6
+  narrow = rw (part_length s c w i) (width_most s c w i _ e (ap not t))
+
+  -- what it says, by what follows the spaces: the columns from index k on
+  module _ (k : ℕ) (a : after_blanks (part s c w) ≡ drop k (part s c w)) where
+    said : number_at s c w ≡ signed_of (drop k (part s c w))
+    said = sym (width_taken s c w i _ e (ap not t)) ∙ ap signed_of a
+
+    spaces : k ≡ w → Refused ≡ number_at s c w
+    spaces z = sym (said ∙ sign_end (part s c w) k (omega (arith, part_length s c w i)))
+
+-- what a number field says where the byte b stands behind its spaces and the digits there say d
+record Told (n : Number) (b : ℕ) (d : Number) : Type 0 where
+  is : n ≡ signed (eqb b 45) d
+
+module _ {n d : Number} {b : ℕ} (h : Told n b d) where
+  told_refused : d ≡ Refused → Refused ≡ n
+  told_refused e = sym (h.is ∙ ap (signed (eqb b 45)) e ∙ sign_refused (eqb b 45))
+
+  told_plain : {v : ℤ} → d ≡ Value v → (b ≡ 45 → ⊥) → Value v ≡ n
+  told_plain e t = sym (h.is ∙ sign_off (eqb b 45) d (ap not (ne_eqb _ _ t)) ∙ e)
+
+  told_minus : {v : ℤ} → d ≡ Value v → b ≡ 45 → minus (Value v) ≡ n
+  told_minus e t = sym (h.is ∙ sign_on (eqb b 45) d (ap not (eq-eqb _ _ t)) ∙ ap minus e)
 
 -- past the first test the field lies inside
-inside : (c : Else-not-inside)
-    → is_inside c.args.s.now c.args.column c.args.width
-    ≡ true
-inside c = sym c.inside.ensures ∙ not-false _ c.if-not-inside.false-raw
-
-bounds : (c : Else-not-inside)
-    → (1 ≤ c.args.column)
-    × (c.args.column - 1 + c.args.width ≤ length c.args.s.now)
-bounds c = passed _ _ _ _ c.inside.ensures c.if-not-inside.false-raw
+bounds : (c : Else-not-inside) → (1 ≤ c.args.column) × (c.args.column - 1 + c.args.width ≤ length c.args.s.now)
+bounds c = passed _ _ _ _ c.inside.ensures (ap not c.if-not-inside.false)
 
 pub returns-then-not-inside : goal.returns-then-not-inside
-returns-then-not-inside c = number_outside _ _ _ c.inside.ensures (not-true _ c.if-not-inside.true-raw)
+returns-then-not-inside c = number_outside _ _ _ c.inside.ensures c.if-not-inside.true
 
 pub returns-then-not-is_width : goal.returns-then-not-is_width
-returns-then-not-is_width c = width_refused _ _ _ (inside (goal.at.returns-then-not-is_width c).Else-not-inside) _ c.is_width.ensures c.if-not-is_width.true-raw
+returns-then-not-is_width c =
+    width_refused _ _ _ (sym c.inside.ensures ∙ c.if-not-inside.false) _ c.is_width.ensures (ap not c.if-not-is_width.true)
 
 pub overflow_sub-at : goal.overflow_sub-at
 overflow_sub-at c = let p = bounds (goal.at.overflow_sub-at c).Else-not-inside in omega arith
@@ -52,81 +71,52 @@ overflow_add-f c = let p = bounds (goal.at.overflow_add-f c).Else-not-inside in 
 pub slice_bounds-f-end : goal.slice_bounds-f-end
 slice_bounds-f-end c = let p = bounds (goal.at.slice_bounds-f-end c).Else-not-inside in omega arith
 
--- LEFT
--- past the second test its width is 1 to 6; the bytes that are cut out
-abbrev part : tie.Else2 → List ℕ
-part c =
-    let a = c.before.before.before.before.before.args in
-    take (a.column - 1 + a.width - (a.column - 1)) (drop (a.column - 1) a.s.now)
-
-narrow : (c : Else-not-is_width) → length (part c) ≤ 6
-narrow c = rw (part_length _ _ _ (inside (HELPER c).Else-not-inside)) (width_most _ _ _ (inside (HELPER c).Else-not-inside) _ c.is_width.ensures c.if-not-is_width.false-raw)
-
--- what they say, by what follows the spaces
-said : (c : After-behind_blanks-i)
-    → asked (HELPER c).Start
-    ≡ signed_of (drop c.behind_blanks-i.result (part (HELPER c).Else-not-is_width))
-said c =
-    sym (width_taken _ _ _ (inside (HELPER c).Else-not-inside) _ c.is_width.ensures c.if-not-is_width.false-raw) ∙ ap signed_of c.behind_blanks-i.ensures.1
-
 pub returns-then-i-width : goal.returns-then-i-width
 returns-then-i-width c =
-    let l : length (part (goal.at.returns-then-i-width c).Else-not-is_width) ≤ c.behind_blanks-i.result =
-    omega (arith, part_length _ _ _ (inside (goal.at.returns-then-i-width c).Else-not-inside), c.if-i-width.true) in
-    sym (said (goal.at.returns-then-i-width c).After-behind_blanks-i ∙ sign_end _ _ l)
+    spaces _ _ _ (sym c.inside.ensures ∙ c.if-not-inside.false) c.is_width.ensures c.if-not-is_width.false
+    _ c.behind_blanks-i.ensures.1 c.if-i-width.true
 
--- LEFT
--- and by the sign, with digits from index `i` on
-abbrev sign : tie.Joined4 → Bool
-sign c = eqb (get_or (part c.before.before.before.before.before) c.before.before.before.behind-blanks.result 0) 45
-
-by_sign : (c : Joined-minus)
-    → asked (HELPER c).Start
-    ≡ signed (sign c) (plain_of (drop c.if-minus.i (part (HELPER c).Else-not-is_width)))
-by_sign c =
-    let l : c.behind_blanks-i.result < length (part (HELPER c).Else-not-is_width) =
-    omega (arith, c.behind_blanks-i.ensures.0, part_length _ _ _ (inside (HELPER c).Else-not-inside), c.if-i-width.false) in
-    said (HELPER c).After-behind_blanks-i ∙ ⊎_elim (λ w. sign_minus _ _ l w.0.taken _ w.1) (λ w. sign_none _ _ l w.0.left _ w.1) c.if-minus.branch
+-- the digits are from index `i` on
+told : (c : Joined-minus)
+    → Told (number_at c.args.s.now c.args.column c.args.width)
+    (get_or (part c.args.s.now c.args.column c.args.width) c.behind_blanks-i.result 0)
+    (plain_of (drop c.if-minus.i (part c.args.s.now c.args.column c.args.width)))
+told c =
+    let i : is_inside c.args.s.now c.args.column c.args.width ≡ true = sym c.inside.ensures ∙ c.if-not-inside.false in
+    let l : c.behind_blanks-i.result < length (part c.args.s.now c.args.column c.args.width) =
+    omega (arith, c.behind_blanks-i.ensures.0, part_length _ _ _ i) in
+    let e = said _ _ _ i c.is_width.ensures c.if-not-is_width.false _ c.behind_blanks-i.ensures.1 in
+    elim c.if-minus.branch [
+      | then-minus w ↦ record { is = e ∙ sign_minus _ _ l (eq-eqb _ _ w.if-minus.true) _ w.i-is }
+      | else-minus w ↦ record { is = e ∙ sign_none _ _ l (ne_eqb _ _ w.if-minus.false) _ w.i-is }
+    ]
 
 pub digits-answer-requires : goal.digits-answer-requires
-digits-answer-requires c = narrow (goal.at.digits-answer-requires c).Else-not-is_width
+digits-answer-requires c = narrow _ _ _ (sym c.inside.ensures ∙ c.if-not-inside.false) c.is_width.ensures c.if-not-is_width.false
 
 pub returns-in_default : goal.returns-in_default
 returns-in_default c =
-    sym (by_sign (goal.at.returns-in_default c).Joined-minus ∙ ap (signed (sign (goal.at.returns-in_default c).Joined-minus)) (sym c.digits-answer.ensures ∙ c.in_default.is) ∙ sign_refused (sign (goal.at.returns-in_default c).Joined-minus))
-
--- what the digits say
-value : (c : In-Value)
-    → plain_of (drop c.if-minus.i (part (HELPER c).Else-not-is_width))
-    ≡ Value c.in-Value.n
-value c = sym c.digits-answer.ensures ∙ c.in-Value.is
+    told_refused (told (goal.at.returns-in_default c).Joined-minus) (sym c.digits-answer.ensures ∙ c.in_default.is)
 
 small : (c : In-Value) → Small c.in-Value.n
 small c =
-    digits_small (part (HELPER c).Else-not-is_width) c.if-minus.i _ (narrow (HELPER c).Else-not-is_width) (value c)
-
--- so this is the field's answer
-answer : (c : In-Value)
-    → asked (HELPER c).Start
-    ≡ signed (sign (HELPER c).Joined-minus) (Value c.in-Value.n)
-answer c = by_sign (HELPER c).Joined-minus ∙ ap (signed (sign (HELPER c).Joined-minus)) (value c)
-
--- with a minus sign
-below : (c : Else-not-minus)
-    → asked (HELPER c).Start
-    ≡ minus (Value c.in-Value.n)
-below c = answer (HELPER c).In-Value ∙ sign_on (sign (HELPER c).Joined-minus) (Value c.in-Value.n) c.if-not-minus.false-raw
+    digits_small _ _ _ (narrow _ _ _ (sym c.inside.ensures ∙ c.if-not-inside.false) c.is_width.ensures c.if-not-is_width.false)
+    (sym c.digits-answer.ensures ∙ c.in-Value.is)
 
 pub returns-then-not-minus : goal.returns-then-not-minus
 returns-then-not-minus c =
     value_held (small (goal.at.returns-then-not-minus c).In-Value)
-    ∙ sym (answer (goal.at.returns-then-not-minus c).In-Value ∙ sign_off (sign (goal.at.returns-then-not-minus c).Joined-minus) _ c.if-not-minus.true-raw)
+    ∙ told_plain (told (goal.at.returns-then-not-minus c).Joined-minus) (sym c.digits-answer.ensures ∙ c.in-Value.is) c.if-not-minus.true
 
 pub returns-then-n-eq0 : goal.returns-then-n-eq0
-returns-then-n-eq0 c = minus_none (small (goal.at.returns-then-n-eq0 c).In-Value) c.if-n-eq0.true ∙ sym (below (goal.at.returns-then-n-eq0 c).Else-not-minus)
+returns-then-n-eq0 c =
+    minus_none (small (goal.at.returns-then-n-eq0 c).In-Value) c.if-n-eq0.true
+    ∙ told_minus (told (goal.at.returns-then-n-eq0 c).Joined-minus) (sym c.digits-answer.ensures ∙ c.in-Value.is) c.if-not-minus.false
 
 pub overflow_sub-result : goal.overflow_sub-result
 overflow_sub-result c = minus_held_fits (small (goal.at.overflow_sub-result c).In-Value)
 
 pub returns : goal.returns
-returns c = minus_held (small (goal.at.returns c).In-Value) c.if-n-eq0.false ∙ sym (below (goal.at.returns c).Else-not-minus)
+returns c =
+    minus_held (small (goal.at.returns c).In-Value) c.if-n-eq0.false
+    ∙ told_minus (told (goal.at.returns c).Joined-minus) (sym c.digits-answer.ensures ∙ c.in-Value.is) c.if-not-minus.false

@@ -45,17 +45,17 @@ returns-then-not-within-2 c =
 mesh-size : (c : After-size) → (c.size.result ≡ size c.args.mesh) × (c.size.result ≤ 999999)
 mesh-size c =
     let e = own_told size c.ranges.mesh c.size.ensures in
-    (e, rw e (code_most _ (code-fine (HELPER c).Else-not-is_mesh_code)))
+    (e, rw e (code_most _ (own_asked is_mesh_code c.ranges.mesh c.is_mesh_code.ensures (not-false _ c.if-not-is_mesh_code.false-raw))))
 
 x-size : (c : After-size-2) → (c.size-2.result ≡ size c.args.x) × (c.size-2.result ≤ 10000)
 x-size c =
     let e = own_told size c.ranges.x c.size-2.ensures in
-    (e, rw e (within_most 0 10000 _ (x-fine (HELPER c).Else-not-within)))
+    (e, rw e (within_most 0 10000 _ (own_asked (within 0 10000) c.ranges.x c.within.ensures (not-false _ c.if-not-within.false-raw))))
 
 y-size : (c : After-size-3) → (c.size-3.result ≡ size c.args.y) × (c.size-3.result ≤ 10000)
 y-size c =
     let e = own_told size c.ranges.y c.size-3.ensures in
-    (e, rw e (within_most 0 10000 _ (y-fine (HELPER c).Else-not-within-2)))
+    (e, rw e (within_most 0 10000 _ (own_asked (within 0 10000) c.ranges.y c.within-2.ensures (not-false _ c.if-not-within-2.false-raw))))
 
 pub overflow_cast-size : goal.overflow_cast-size
 overflow_cast-size c = omega (arith, (mesh-size (goal.at.overflow_cast-size c).After-size).1)

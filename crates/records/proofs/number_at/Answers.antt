@@ -1,5 +1,6 @@
 -- `records::number_at` meets its contract: the first tests are those of the record, the others those of the columns, and past them all
 -- the part of the file is the field's bytes. Assumes nothing.
+use mir.Syntax.{w32}
 use mathlib.Core.Path.{sym, ◌∙◌}
 use native.Mathlib.Omega.{arith}
 use mir.Facts.{to_z-of_z}
@@ -25,4 +26,4 @@ returns-then-width-column c = sym (number_past _ _ (omega arith) c.if-file-k.fal
 pub returns : goal.returns
 returns c =
     let i = c.if-file-k.false in
-    to_z-of_z (record { sfits = c.value_of.type_inv }) ∙ c.value_of.ensures ∙ sym (number_there _ _ (omega arith) i _ _ (omega arith) (omega arith))
+    to_z-of_z {w = w32} (record { sfits = c.value_of.type_inv }) ∙ c.value_of.ensures ∙ sym (number_there _ _ (omega arith) i _ _ (omega arith) (omega arith))

@@ -16,12 +16,12 @@ loop-k-init c =
       search rules,
       c.at_start-s.ensures ∙ at_none _,
       c.no_counts-c.ensures ∙ counts_none _,
-      none_filled _ _ c.records_of-n.ensures.0 c.requires.0 c.requires.1,
+      none_filled _ _ c.records_of-n.ensures.0 c.requires.total_value c.requires.areas_in_bounds,
     )
 
 pub put_record-requires : goal.put_record-requires
 put_record-requires c =
-    room_left _ _ c.records_of-n.ensures.0 c.requires.0 c.requires.1 _ c.loop-k-test.true
+    room_left _ _ c.records_of-n.ensures.0 c.requires.total_value c.requires.areas_in_bounds _ c.loop-k-test.true
     (c.due-d.ensures ∙ ap due_of c.loop-k.invariant.1) c.loop-k.invariant.2 c.loop-k.invariant.3
 
 pub counted-c-requires : goal.counted-c-requires
@@ -69,18 +69,18 @@ loop-k-preserved c =
     let q = c.pass_quiet-p.ensures in
     let u = pass_are_quiet _ _ q.0 in
     let f =
-    one_filled _ _ c.records_of-n.ensures.0 c.requires.0 c.requires.1 _ c.loop-k-test.true (c.due-d.ensures ∙ ap due_of c.loop-k.invariant.1)
+    one_filled _ _ c.records_of-n.ensures.0 c.requires.total_value c.requires.areas_in_bounds _ c.loop-k-test.true (c.due-d.ensures ∙ ap due_of c.loop-k.invariant.1)
     c.loop-k.invariant.2 c.loop-k.invariant.3 c.record_view-t.ensures c.put_record.ensures in (
       omega (arith, c.loop-k-test.true, pass_most _ _ q.0),
       q.1 ∙ passed_state _ _ b.0 u _ (le_refl _),
       c.counted_past-c.ensures ∙ passed_counts _ _ b.0 u _ (le_refl _) b.1,
-      quiet_filled _ _ c.records_of-n.ensures.0 c.requires.0 c.requires.1 _ b.0 u f,
+      quiet_filled _ _ c.records_of-n.ensures.0 c.requires.total_value c.requires.areas_in_bounds _ b.0 u f,
     )
 
 pub shape_of-table : goal.shape_of-table
 shape_of-table c =
-    filled_many _ _ c.records_of-n.ensures.0 c.requires.0 c.requires.1 _ c.loop-k.invariant.0 c.loop-k.invariant.3
+    filled_many _ _ c.records_of-n.ensures.0 c.requires.total_value c.requires.areas_in_bounds _ c.loop-k.invariant.0 c.loop-k.invariant.3
 
 pub returns : goal.returns
 returns c =
-    all_filled _ _ c.records_of-n.ensures.0 c.requires.0 c.requires.1 _ c.loop-k.invariant.0 c.loop-k-test.false c.loop-k.invariant.3
+    all_filled _ _ c.records_of-n.ensures.0 c.requires.total_value c.requires.areas_in_bounds _ c.loop-k.invariant.0 c.loop-k-test.false c.loop-k.invariant.3

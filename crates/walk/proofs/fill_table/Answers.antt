@@ -19,7 +19,7 @@ returns-then-table-counts c =
 pub fill-requires : goal.fill-requires
 fill-requires c =
     let w = c.walk_file-w.ensures in
-    (all_counted _ w c.in_default.is, room_enough _ w c.in_default.is _ (search rules))
+    record { total_value = all_counted _ w c.in_default.is; areas_in_bounds = room_enough _ w c.in_default.is _ (search rules) }
 
 pub returns : goal.returns
 returns c =

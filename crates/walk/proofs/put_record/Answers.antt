@@ -10,14 +10,10 @@ overflow_mul-c c =
 
 pub put_row-requires : goal.put_row-requires
 put_row-requires c =
-    let r = rw c.in-Layer.is at c.requires.room in (
-      omega (arith, r),
-      (
-        c.size_at-nodes.ensures.1,
-        c.size_at-lines.ensures.1,
-        c.size_at-areas.ensures.1,
-      ),
-    )
+    let r = rw c.in-Layer.is at c.requires.room in record {
+      row_length_in_bounds = omega (arith, r);
+      nodes_bound = (c.size_at-nodes.ensures.1, c.size_at-lines.ensures.1, c.size_at-areas.ensures.1);
+    }
 
 pub overflow_add-table : goal.overflow_add-table
 overflow_add-table c =
