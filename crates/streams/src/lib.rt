@@ -4,6 +4,7 @@
 // The contract of `read_input` cites `specs/Reading`.
 #![tactic(auto)]
 
+ghost use Rattle.std.specs.Prelude.{◌≤◌, length};
 ghost use Rattle.streams.specs.Reading.{Within};
 
 use std::io::{Error, Read, Write};
@@ -46,8 +47,31 @@ pub fn write_text<W: Write, E: Write>(output: &mut W, errors: &mut E, text: &[u8
     }
 }
 
-// Tells `errors` in a line `what` failed, a colon and why. If that fails too there is nobody left to tell.
+// Tells `errors` in a line `what`, a colon and why. If that fails too, there is nobody left to tell.
 pub fn tell<E: Write>(errors: &mut E, what: &[u8], why: &Error) {
+    let mut text = [0u8; 320];
+    let n = put_shown(&mut text, why);
     let _ = errors.write_all(what);
-    let _ = writeln!(errors, ": {why}");
+    let _ = errors.write_all(b": ");
+    let _ = errors.write_all(in_words(&text[..n]).as_bytes());
+    let _ = errors.write_all(b"\n");
+}
+
+// What is shown of `why` stands in the first bytes of `text`, as many as are answered.
+fn put_shown(text: &mut [u8], why: &Error) -> usize
+    ensures { result ≤ length text.new }
+{
+    let size = text.len();
+    let mut rest: &mut [u8] = text;
+    let _ = write!(rest, "{why}");
+    size.saturating_sub(rest.len())
+}
+
+// The system's words alone: its number stands behind them in brackets.
+fn in_words(shown: &[u8]) -> &str {
+    let shown = str::from_utf8(shown).unwrap_or("");
+    match shown.split_once(" (os error ") {
+        Some((words, _)) => words,
+        None => shown,
+    }
 }
