@@ -1,11 +1,13 @@
-// What the programs read and write. Which bytes the system gives or takes no contract can say; that a read or
-// a write fails is told to `errors`, which is the programs' standard error.
+// What the programs read and write. Where it is known which bytes a reader gives or a writer holds, as of those
+// over memory, the contracts say which were read and written; of the system's no contract can say. That a read
+// or a write fails is told to `errors`, which is the programs' standard error.
 //
 // The contract of `read_input` cites `specs/Reading`.
 #![tactic(auto)]
 
-ghost use Rattle.std.specs.Prelude.{◌≤◌, length};
-ghost use Rattle.streams.specs.Reading.{Within};
+ghost use Rattle.std.specs.Prelude.{◌≤◌, length, IsTrue};
+ghost use Rattle.std.specs.Io.KnownBytes.{Appends};
+ghost use Rattle.streams.specs.Reading.{Within, Taken};
 
 use std::io::{Error, Read, Write};
 
@@ -24,7 +26,8 @@ pub fn read_input<R: Read, E: Write>(
     input: &mut [u8],
     what: &[u8],
 ) -> Input
-    ensures { Within result input.new }
+    ensures within { Within result input.new }
+    ensures bytes { Taken (R.remaining source.old) (R.remaining source.new) result input.new }
 {
     let mut n: usize = 0;
     while n < input.len() {
@@ -40,10 +43,21 @@ pub fn read_input<R: Read, E: Write>(
     Input::Bytes(n)
 }
 
-// Writes `text` to `output`. Where not all of it could be written, `errors` is told `what` and why.
-pub fn write_text<W: Write, E: Write>(output: &mut W, errors: &mut E, text: &[u8], what: &[u8]) {
-    if let Err(why) = output.write_all(text) {
-        tell(errors, what, &why);
+// Writes `text` to `output`; true where all of it could be written. Where not, `errors` is told `what` and why.
+pub fn write_text<W: Write, E: Write>(
+    output: &mut W,
+    errors: &mut E,
+    text: &[u8],
+    what: &[u8],
+) -> bool
+    ensures { IsTrue result → Appends (W.contents output.old) (W.contents output.new) text.now }
+{
+    match output.write_all(text) {
+        Ok(()) => true,
+        Err(why) => {
+            tell(errors, what, &why);
+            false
+        }
     }
 }
 
