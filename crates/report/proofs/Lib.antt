@@ -7,3 +7,4 @@ pub mod Areas
 pub mod Lent
 pub mod Answers
 pub mod Accepted
+pub mod Programs

@@ -1,11 +1,13 @@
 // What the programs `check` and `measure` print of an input (RULES 12). The text is put into a
 // buffer, and the contracts say which text; what is printed is that buffer's first bytes, written in
-// one call.
+// one call. Where it is known which bytes a reader gives and a writer holds, the programs' contracts say that
+// this text of all that was given is what was written.
 //
 // The contracts cite `specs/`: `Texts` has the text of every input.
 #![tactic(auto)]
 
-ghost use Rattle.std.specs.Prelude.{◌≡◌, ◌++◌, ◌+◌, ◌*◌, ◌≤◌, pos, length, get_or};
+ghost use Rattle.std.specs.Prelude.{◌≡◌, ◌++◌, ◌+◌, ◌*◌, ◌≤◌, pos, length, get_or, IsTrue, IfSome};
+ghost use Rattle.std.specs.Io.KnownBytes.{Appends};
 ghost use Rattle.walk.specs.Stages.{records_of};
 ghost use Rattle.report.specs.Texts.{decimal, signed, text_line, refused_text, ok_text, shown_in, area_text, record_text, area_count, areas_text, check_text, measure_text};
 ghost use Rattle.report.specs.Putting.{Put};
@@ -242,8 +244,11 @@ pub fn measure_text(input: &[u8], out: &mut [u8; 120000]) -> usize
 // ---- the programs
 
 // The program `check` over what `source` gives: up to one byte more than is taken. What it prints goes to
-// `output`. Where a read fails nothing is judged; `errors` is told of it, and of a write that fails.
-pub fn check<R: Read, W: Write, E: Write>(source: &mut R, output: &mut W, errors: &mut E) {
+// `output`. Where a read fails nothing is judged; `errors` is told of it, and of a write that fails. True where
+// neither failed.
+pub fn check<R: Read, W: Write, E: Write>(source: &mut R, output: &mut W, errors: &mut E) -> bool
+    ensures { IsTrue result → IfSome (R.remaining source.old) (λ input. Appends (W.contents output.old) (W.contents output.new) (check_text input)) }
+{
     let mut input = [0u8; 65491];
     let read = streams::read_input(
         source,
@@ -252,7 +257,7 @@ pub fn check<R: Read, W: Write, E: Write>(source: &mut R, output: &mut W, errors
         b"check: standard input: not everything could be read",
     );
     let Input::Bytes(n) = read else {
-        return;
+        return false;
     };
     let mut out = [0u8; 120000];
     let r = check_text(&input[..n], &mut out);
@@ -261,11 +266,13 @@ pub fn check<R: Read, W: Write, E: Write>(source: &mut R, output: &mut W, errors
         errors,
         &out[..r],
         b"check: standard output: not everything could be written",
-    );
+    )
 }
 
 // The program `measure`, likewise.
-pub fn measure<R: Read, W: Write, E: Write>(source: &mut R, output: &mut W, errors: &mut E) {
+pub fn measure<R: Read, W: Write, E: Write>(source: &mut R, output: &mut W, errors: &mut E) -> bool
+    ensures { IsTrue result → IfSome (R.remaining source.old) (λ input. Appends (W.contents output.old) (W.contents output.new) (measure_text input)) }
+{
     let mut input = [0u8; 65491];
     let read = streams::read_input(
         source,
@@ -274,7 +281,7 @@ pub fn measure<R: Read, W: Write, E: Write>(source: &mut R, output: &mut W, erro
         b"measure: standard input: not everything could be read",
     );
     let Input::Bytes(n) = read else {
-        return;
+        return false;
     };
     let mut out = [0u8; 120000];
     let r = measure_text(&input[..n], &mut out);
@@ -283,5 +290,5 @@ pub fn measure<R: Read, W: Write, E: Write>(source: &mut R, output: &mut W, erro
         errors,
         &out[..r],
         b"measure: standard output: not everything could be written",
-    );
+    )
 }

@@ -1,18 +1,12 @@
 -- `report::measure` is safe and ends: what was read and the text lie within their buffers. Assumes nothing.
-use mathlib.Core.Path.{sym}
+use mathlib.Core.Path.{sym, ◌∙◌}
 use Prim.Native.Nat.{ℕ}
 use lib.ListN.{length-replicate}
 use lib.Seq.{length-take-le}
-use Rattle.streams.proofs.Reading.{bytes_within}
 use Rattle.report.proofs.Putting.{put_within}
+use Rattle.report.proofs.Programs.{first_bytes, measure_settled, all_given}
 use borrow.Author.Rules.{rules}
 use Rattle.report.proofs.measure.Goals as goal
-
-pub slice_bounds-input-end : goal.slice_bounds-input-end
-slice_bounds-input-end g c = (bytes_within _ c.read_input-read.ensures c.in-Bytes.is).0
-
-pub slice_bounds-measure_text-end : goal.slice_bounds-measure_text-end
-slice_bounds-measure_text-end g c = (bytes_within _ c.read_input-read.ensures c.in-Bytes.is).1
 
 pub slice_bounds-out-end : goal.slice_bounds-out-end
 slice_bounds-out-end g c = put_within c.measure_text-r.ensures.0 (length-replicate {A = ℕ} 120000 0) c.measure_text-r.ensures.1
@@ -20,3 +14,10 @@ slice_bounds-out-end g c = put_within c.measure_text-r.ensures.0 (length-replica
 pub slice_bounds-write_text-end : goal.slice_bounds-write_text-end
 slice_bounds-write_text-end g c =
     sym (length-take-le _ _ (put_within c.measure_text-r.ensures.0 (length-replicate {A = ℕ} 120000 0) c.measure_text-r.ensures.1))
+
+pub returns : goal.returns
+returns g c = λ ok.
+    let r = c.in-Bytes.ensures in
+    let t = c.measure_text-r.ensures in
+    all_given measure_settled _ _ _ _ _ _ _ (c.read_input-read.auto.input ∙ length-replicate {A = ℕ} 65491 0) r.within.0 r.bytes
+    (first_bytes t.0 (length-replicate {A = ℕ} 120000 0) t.1) (c.write_text.ensures ok)
