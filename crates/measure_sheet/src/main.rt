@@ -1,6 +1,6 @@
 // The program `measure` over standard input (RULES 12.2).
 #![tactic(auto)]
 
-fn main() {
-    report::measure(0);
+fn main(rt: HostRuntime) {
+    report::measure(&mut rt.stdin(), &mut rt.stdout(), &mut rt.stderr());
 }

@@ -12,6 +12,7 @@ ghost use Rattle.report.specs.Putting.{Put};
 
 use judge::Outcome;
 use rules::Due;
+use std::io::{Read, Write};
 use streams::Input;
 use walk::State;
 
@@ -240,12 +241,13 @@ pub fn measure_text(input: &[u8], out: &mut [u8; 120000]) -> usize
 
 // ---- the programs
 
-// The program `check` over what `fd` reads: up to one byte more than is taken. Where a read fails nothing is
-// judged.
-pub fn check(fd: i32) {
+// The program `check` over what `source` gives: up to one byte more than is taken. What it prints goes to
+// `output`. Where a read fails nothing is judged; `errors` is told of it, and of a write that fails.
+pub fn check<R: Read, W: Write, E: Write>(source: &mut R, output: &mut W, errors: &mut E) {
     let mut input = [0u8; 65491];
     let read = streams::read_input(
-        fd,
+        source,
+        errors,
         &mut input,
         b"check: standard input: not everything could be read",
     );
@@ -255,16 +257,19 @@ pub fn check(fd: i32) {
     let mut out = [0u8; 120000];
     let r = check_text(&input[..n], &mut out);
     streams::write_text(
+        output,
+        errors,
         &out[..r],
         b"check: standard output: not everything could be written",
     );
 }
 
 // The program `measure`, likewise.
-pub fn measure(fd: i32) {
+pub fn measure<R: Read, W: Write, E: Write>(source: &mut R, output: &mut W, errors: &mut E) {
     let mut input = [0u8; 65491];
     let read = streams::read_input(
-        fd,
+        source,
+        errors,
         &mut input,
         b"measure: standard input: not everything could be read",
     );
@@ -274,6 +279,8 @@ pub fn measure(fd: i32) {
     let mut out = [0u8; 120000];
     let r = measure_text(&input[..n], &mut out);
     streams::write_text(
+        output,
+        errors,
         &out[..r],
         b"measure: standard output: not everything could be written",
     );

@@ -1,41 +1,61 @@
 // Each argument names a file of data/: its name, and what the programs `check` and `measure` print of it.
 #![tactic(auto)]
 
-use libc::STDOUT_FILENO;
+use std::env::FillError;
+use std::fs::File;
+use std::io::{Error, ErrorKind, Write};
+use std::rt::{Env, Files};
 
-// Opens a file for one program; -1 where that fails, which is told.
-fn opened(name: &[u8]) -> i32 {
-    let fd = os::open_read(name);
-    if fd < 0 {
-        os::fail(name);
+// Opens a file for one program; none where that fails, which is told.
+fn opened<R: Files, E: Write>(rt: &R, errors: &mut E, name: &[u8]) -> Option<R::File> {
+    let opened = match str::from_utf8(name) {
+        Ok(path) => File::open(rt, path),
+        Err(_) => Err(Error::from(ErrorKind::InvalidFilename)),
+    };
+    match opened {
+        Ok(file) => Some(file),
+        Err(why) => {
+            streams::tell(errors, name, &why);
+            None
+        }
     }
-    fd
 }
 
 // Both programs over one file.
-fn both(name: &[u8]) {
-    io::write_all(STDOUT_FILENO, name);
-    io::write_all(STDOUT_FILENO, b":\n");
-    let first = opened(name);
-    report::check(first);
-    libc::close(first);
-    let second = opened(name);
-    report::measure(second);
-    libc::close(second);
+fn both<R: Files, W: Write, E: Write>(rt: &R, output: &mut W, errors: &mut E, name: &[u8]) {
+    let _ = output.write_all(name);
+    let _ = output.write_all(b":\n");
+    if let Some(mut first) = opened(rt, errors, name) {
+        report::check(&mut first, output, errors);
+    }
+    if let Some(mut second) = opened(rt, errors, name) {
+        report::measure(&mut second, output, errors);
+    }
 }
 
-// The file that argument `k` names.
-fn one(k: usize) {
+// The file that argument `k` names; false where there is no such argument.
+fn one<R: Env + Files, W: Write, E: Write>(
+    rt: &R,
+    output: &mut W,
+    errors: &mut E,
+    k: usize,
+) -> bool {
     let mut name = [0u8; 64];
-    let n = os::arg(k, &mut name);
-    both(&name[..n]);
+    let n = match rt.arg(k, &mut name) {
+        Ok(n) => n,
+        Err(FillError::TooLong) => 0,
+        Err(FillError::NotPresent) => return false,
+    };
+    both(rt, output, errors, &name[..n]);
+    true
 }
 
-fn main() {
-    let end = os::arg_count();
-    let mut k = 1;
-    while k < end {
-        one(k);
-        k += 1;
+fn main(rt: HostRuntime) {
+    let mut output = rt.stdout();
+    let mut errors = rt.stderr();
+    for k in 1..usize::MAX {
+        if !one(&rt, &mut output, &mut errors, k) {
+            break;
+        }
     }
 }

@@ -1,5 +1,6 @@
 -- What reading gives. Assumes nothing.
-use Rattle.std.specs.Prelude.{List, ℕ}
+use Rattle.std.specs.Prelude.{List, ℕ, ◌<◌, length, take, Option}
+use Rattle.std.specs.Io.KnownBytes.{Consumes, IsAtEnd}
 use Rattle.io.specs.Counts.{IsPrefixLen}
 use Rattle.streams.specs.declared.Input.{Input}
 use Rattle.streams.specs.declared.Input.TheVariants.{Bytes, Failed}
@@ -8,3 +9,8 @@ use Rattle.streams.specs.declared.Input.TheVariants.{Bytes, Failed}
 abbrev pub Within : Input → List ℕ → Type 0
 Within (Bytes n) buffer = IsPrefixLen n buffer
 Within Failed buffer = Unit {0}
+
+-- where it is known what a reader has left: the bytes are the first of it, and all of it where they do not fill the buffer
+abbrev pub Taken : Option (List ℕ) → Option (List ℕ) → Input → List ℕ → Type 0
+Taken old new (Bytes n) buffer = Consumes old new (take n buffer) × (n < length buffer → IsAtEnd new)
+Taken old new Failed buffer = Unit {0}

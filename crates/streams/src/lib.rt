@@ -1,12 +1,15 @@
-// What the programs read and write. Which bytes those are no contract can say; that a read or a write
-// fails is told on standard error.
+// What the programs read and write. Where it is known which bytes a reader gives or a writer holds, as of those
+// over memory, the contracts say which were read and written; of the system's no contract can say. That a read
+// or a write fails is told to `errors`, which is the programs' standard error.
 //
 // The contract of `read_input` cites `specs/Reading`.
 #![tactic(auto)]
 
-ghost use Rattle.streams.specs.Reading.{Within};
+ghost use Rattle.std.specs.Prelude.{◌≤◌, length, IsTrue};
+ghost use Rattle.std.specs.Io.KnownBytes.{Appends};
+ghost use Rattle.streams.specs.Reading.{Within, Taken};
 
-use libc::STDOUT_FILENO;
+use std::io::{Error, Read, Write};
 
 // What reading gave: so many bytes, or a read that failed.
 #[derive(Clone, Copy)]
@@ -15,31 +18,74 @@ pub enum Input {
     Failed,
 }
 
-// Reads until `input` is full or what `fd` reads ends. Where a read fails, standard error is told `what` and
+// Reads until `input` is full or what `source` gives ends. Where a read fails, `errors` is told `what` and
 // why.
-pub fn read_input(fd: i32, input: &mut [u8], what: &[u8]) -> Input
-    ensures { Within result input.new }
+pub fn read_input<R: Read, E: Write>(
+    source: &mut R,
+    errors: &mut E,
+    input: &mut [u8],
+    what: &[u8],
+) -> Input
+    ensures within { Within result input.new }
+    ensures bytes { Taken (R.remaining source.old) (R.remaining source.new) result input.new }
 {
     let mut n: usize = 0;
     while n < input.len() {
-        let got = libc::read(fd, &mut input[n..]);
-        if got < 0 {
-            os::fail(what);
-            return Input::Failed;
+        match source.read(&mut input[n..]) {
+            Ok(0) => return Input::Bytes(n),
+            Ok(more) => n += more,
+            Err(why) => {
+                tell(errors, what, &why);
+                return Input::Failed;
+            }
         }
-        let more = io::count(got, &input[n..]);
-        if more == 0 {
-            return Input::Bytes(n);
-        }
-        n += more;
     }
     Input::Bytes(n)
 }
 
-// Writes `text` to standard output. Where not all of it could be written, standard error is told `what` and
-// why.
-pub fn write_text(text: &[u8], what: &[u8]) {
-    if !io::write_all(STDOUT_FILENO, text) {
-        os::fail(what);
+// Writes `text` to `output`; true where all of it could be written. Where not, `errors` is told `what` and why.
+pub fn write_text<W: Write, E: Write>(
+    output: &mut W,
+    errors: &mut E,
+    text: &[u8],
+    what: &[u8],
+) -> bool
+    ensures { IsTrue result → Appends (W.contents output.old) (W.contents output.new) text.now }
+{
+    match output.write_all(text) {
+        Ok(()) => true,
+        Err(why) => {
+            tell(errors, what, &why);
+            false
+        }
+    }
+}
+
+// Tells `errors` in a line `what`, a colon and why. If that fails too, there is nobody left to tell.
+pub fn tell<E: Write>(errors: &mut E, what: &[u8], why: &Error) {
+    let mut text = [0u8; 320];
+    let n = put_shown(&mut text, why);
+    let _ = errors.write_all(what);
+    let _ = errors.write_all(b": ");
+    let _ = errors.write_all(in_words(&text[..n]).as_bytes());
+    let _ = errors.write_all(b"\n");
+}
+
+// What is shown of `why` stands in the first bytes of `text`, as many as are answered.
+fn put_shown(text: &mut [u8], why: &Error) -> usize
+    ensures { result ≤ length text.new }
+{
+    let size = text.len();
+    let mut rest: &mut [u8] = text;
+    let _ = write!(rest, "{why}");
+    size.saturating_sub(rest.len())
+}
+
+// The system's words alone: its number stands behind them in brackets.
+fn in_words(shown: &[u8]) -> &str {
+    let shown = str::from_utf8(shown).unwrap_or("");
+    match shown.split_once(" (os error ") {
+        Some((words, _)) => words,
+        None => shown,
     }
 }

@@ -1,7 +1,7 @@
 -- `judge::layer_sums` meets its contract: a refusal stands, of the stages or for a layer that is not there, and else its sums are told.
 -- Assumes nothing.
 use mathlib.Core.Path.{◌≡◌, refl, sym}
-use Prim.Native.Nat.{ℕ, ◌≤◌}
+use Prim.Native.Nat.{◌≤◌}
 use lib.Seq.{length-take-le}
 use borrow.Author.Rules.{rules}
 use borrow.Author.Tests.{leb-true}

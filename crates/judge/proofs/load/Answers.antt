@@ -2,7 +2,6 @@
 -- Assumes nothing.
 use mathlib.Core.Path.{◌≡◌, refl, sym}
 use lib.Seq.{length-take-le}
-use borrow.Author.Rules.{rules}
 use borrow.Author.Tests.{leb-true}
 use Rattle.verdict.specs.declared.Verdict.TheVariants.{Fine}
 use Rattle.judge.specs.Rulebook.{measure_rule}
@@ -12,7 +11,6 @@ use Rattle.judge.proofs.Calling.{judged_countable, judged_counts, judged_fit, ju
 use Rattle.judge.proofs.Calling.{outcome_told, table_told, lent_refused, stages_fine, last_kept, lent_kept}
 use Rattle.judge.proofs.load.Goals as goal
 use Rattle.judge.proofs.load.Goals.{In_default}
-
 
 -- accepted: they are kept
 kept : (c : In_default) → c.judge_file-t.result.verdict ≡ Fine

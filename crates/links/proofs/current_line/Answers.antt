@@ -1,10 +1,8 @@
 -- `links::current_line` meets its contract: line - 1, and 0 where no line came, is the definition's difference. Assumes nothing.
-use mathlib.Core.Logic.{⊎_elim}
 use mathlib.Core.Path.{◌≡◌}
 use Prim.Native.Nat.{◌-◌}
 use native.Mathlib.Omega.{arith}
 use Rattle.links.proofs.StageLaws.{line_is}
-use borrow.Author.Rules.{rules}
 use Rattle.links.proofs.current_line.Goals as goal
 use Rattle.links.proofs.current_line.Goals.{Joined-line-gt0, then-line-gt0, else-line-gt0}
 

@@ -3,7 +3,6 @@ use mathlib.Core.Path.{sym, ◌∙◌}
 use borrow.Author.Tests.{not-true, not-false}
 use Rattle.records.specs.Columns.{node_entries}
 use Rattle.links.proofs.LineLaws.{slot_told}
-use borrow.Author.Rules.{rules}
 use Rattle.layers.specs.Naming.{names_line}
 use Rattle.links.specs.Links.{meets}
 use Rattle.permitted.specs.Permitted.{is_zero}

@@ -1,6 +1,5 @@
 -- `loops::judge_winding` meets its contract: it has the loop's measure by what was kept. Assumes nothing.
 use Rattle.loops.proofs.SlotLaws.{wind_none, wind_broken, wind_fine}
-use borrow.Author.Rules.{rules}
 use Rattle.loops.proofs.judge_winding.Goals as goal
 
 pub returns-then-left-gt0 : goal.returns-then-left-gt0

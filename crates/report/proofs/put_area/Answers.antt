@@ -10,21 +10,20 @@ use Rattle.report.proofs.put_area.Goals as goal
 
 pub returns : goal.returns
 unfolding area_text
-returns c =
-    (
-      then c.put_named-a.ensures.0
-          (then c.put_named-b.ensures.0
-          (then c.put_named-c.ensures.0
-          (then c.put_named-d.ensures.0
-          (then c.put-e.ensures (then (named (ap signed (to_z-of_z w64 c.args.m c.ranges.m)) c.put_signed-f.ensures.0) c.put.ensures))))),
-      omega (
-        arith,
-        c.put_named-a.ensures.1,
-        c.put_named-b.ensures.1,
-        c.put_named-c.ensures.1,
-        c.put_named-d.ensures.1,
-        c.put-e.ensures.behind,
-        c.put_signed-f.ensures.1,
-        c.put.ensures.behind,
-      ),
-    )
+returns c = (
+  then c.put_named-a.ensures.0
+      (then c.put_named-b.ensures.0
+      (then c.put_named-c.ensures.0
+      (then c.put_named-d.ensures.0
+      (then c.put-e.ensures (then (named (ap signed (to_z-of_z w64 c.args.m c.ranges.m)) c.put_signed-f.ensures.0) c.put.ensures))))),
+  omega (
+    arith,
+    c.put_named-a.ensures.1,
+    c.put_named-b.ensures.1,
+    c.put_named-c.ensures.1,
+    c.put_named-d.ensures.1,
+    c.put-e.ensures.behind,
+    c.put_signed-f.ensures.1,
+    c.put.ensures.behind,
+  ),
+)

@@ -9,11 +9,11 @@ use Rattle.report.proofs.put_number.Goals as goal
 pub put-requires : goal.put-requires
 put-requires c =
     let d = c.decimal-k.ensures in
-    let k = few_digits 19 _ _ d.1.0 (omega (arith, c.ranges.v)) in
-    omega (arith, d.0.1, k)
+    let k = few_digits 19 _ _ d.len (omega (arith, c.ranges.v)) in
+    omega (arith, d.in_bounds.1, k)
 
 pub returns : goal.returns
 returns c =
     let d = c.decimal-k.ensures in
-    let k = few_digits 19 _ _ d.1.0 (omega (arith, c.ranges.v)) in
-    (named (d.1.1 ∙ is_decimal _ _ k d.1.0) c.put.ensures, omega (arith, c.put.ensures.behind, d.0.1, k))
+    let k = few_digits 19 _ _ d.len (omega (arith, c.ranges.v)) in
+    (named (d.digits ∙ is_decimal _ _ k d.len) c.put.ensures, omega (arith, c.put.ensures.behind, d.in_bounds.1, k))

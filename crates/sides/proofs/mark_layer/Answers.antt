@@ -1,8 +1,5 @@
-use mathlib.Core.Path.{◌≡◌, refl, ◌∙◌}
+use mathlib.Core.Path.{refl, ◌∙◌}
 use Prim.Native.Nat.{◌-◌}
-use lib.ListN.{length}
-use Rattle.sides.specs.Marking.{Marks}
-use borrow.Author.Rules.{rules}
 use Rattle.sides.proofs.mark_layer.Goals as goal
 
 pub loop-i-init : goal.loop-i-init

@@ -1,18 +1,33 @@
-use mathlib.Core.List.{List}
-use mathlib.Core.Path.{◌≡◌, sym}
-use Prim.Native.Nat.{ℕ, ◌-◌, ◌≤◌}
-use lib.ListN.{length}
-use lib.Seq.{length-take-le}
-use Rattle.io.specs.Counts.{IsPrefixLen}
-use borrow.Author.Rules.{rules}
+use Rattle.std.proofs.Common.{◌≡◌, ℕ, ◌+◌, ◌-◌, ◌≤◌, List, ◌++◌, rules, arith, length, take, slice_range, sym, ap, ◌∙◌, subst, le_refl, drop_at, length-take-le}
+use Rattle.std.proofs.lemmas.Slice.{take-put_mid_below}
+use Rattle.std.specs.Io.KnownBytes.{Consumes}
+use Rattle.std.proofs.KnownBytes.{Consumes-trans}
+use borrow.Rule.Slice.PartMut.{put_mid, post_of}
+use lib.Seq.{take-add, take-append-le}
 use Rattle.streams.proofs.read_input.Goals as goal
 
--- so many bytes at the start of a buffer
-counted : (n : ℕ) (buffer : List ℕ) → n ≤ length buffer → IsPrefixLen n buffer
-counted n buffer h = (h, sym (length-take-le n buffer h))
+-- bytes that stand in place, and those that are stored behind them
+take_split : (a b : ℕ) (old new : List ℕ) → a ≤ b → take a new ≡ take a old → take a old ++ slice_range new a b ≡ take b new
+take_split a b old new h front =
+    let same : a + (b - a) ≡ b = omega arith in
+    ap (λ l. l ++ slice_range new a b) (sym front) ∙ sym (take-add a (b - a) new) ∙ ap (λ n. take n new) same
 
-pub returns-then-more-eq0 : goal.returns-then-more-eq0
-returns-then-more-eq0 c = counted _ _ (search rules)
+slice_range-put_mid : (a k n : ℕ) (xs ys : List ℕ) → a ≤ length xs → n ≤ length ys → slice_range (put_mid a k xs ys) a (a + n) ≡ take n ys
+slice_range-put_mid a k n xs ys within fits =
+    let same : (a + n) - a ≡ n = omega arith in
+    let after = post_of a k xs in
+    ap (take ((a + n) - a)) (drop_at (take a xs) (ys ++ after) a (length-take-le a xs within)) ∙ ap (λ m. take m (ys ++ after)) same ∙ take-append-le n ys after fits
 
-pub returns : goal.returns
-returns c = counted _ _ (search rules)
+pub loop-n-preserved : goal.loop-n-preserved
+loop-n-preserved g c =
+    let at = c.loop-n.n in
+    let all = c.loop-n.input in
+    let room = length all - at in
+    let was = c.loop-n.invariant in
+    let part = slice_range-put_mid at room c.in-Ok.more all c.read.new.buf was.within c.in-Ok.ensures.bound.0 in
+    let joined = take_split at (at + c.in-Ok.more) all (put_mid at room all c.read.new.buf) (omega arith) (take-put_mid_below _ _ _ _ _ (le_refl _) was.within) in
+    record {
+      within = search rules;
+      same = search rules;
+      taken = subst (Consumes _ _) (ap (λ l. take at all ++ l) (sym part) ∙ joined) (Consumes-trans _ _ _ _ _ was.taken c.in-Ok.ensures.bytes.0);
+    }
