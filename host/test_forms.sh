@@ -268,11 +268,11 @@ by_own_programs() {
     done
 }
 
-# ---- the two small programs, where `rt` has built them: they print what the tool prints, and tell what they cannot read or write
+# ---- the two small programs, where `rt ci` or `rt run` has built them: they print what the tool prints, and tell what they cannot read or write
 
 # small PROGRAM: runs it.
 small() {
-    host/x86-64/run "target/bin/$1"
+    host/x86-64/run "crates/$1/out/$1"
 }
 
 # Standard error is that line.
@@ -287,8 +287,8 @@ told() {
 by_small_programs() {
     local name sheet
     for name in check measure; do
-        if [ ! -x target/bin/${name}_sheet ]; then
-            skip "the program $name" "rt check ${name}_sheet builds it"
+        if [ ! -x crates/${name}_sheet/out/${name}_sheet ]; then
+            skip "the program $name" "rt run in crates/${name}_sheet builds it"
             continue
         fi
         small ${name}_sheet <$smallest >"$work/out" 2>"$work/err"

@@ -1,7 +1,7 @@
 #!/usr/bin/env python3
 """Brings the repository's own definitions and lemmas to today's spelling: words in snake case, types and modules in camel case.
 
-usage: python3 tools/respell.py [--check]      once, at the top, after /opt/rattle/port/port.py
+usage: python3 tools/respell.py [--check]      once, at the top, after the kit's port/port.py
 
 It reads the names that specs/*.antt and proofs/*.antt of each crate declare, says which of them change, looks for names that would fall
 together (with another name of ours, with an imported one, or with any word of a file that has the old one; such a name ends in _lem), and
@@ -11,11 +11,13 @@ import collections
 import glob
 import os
 import re
+import shutil
 import subprocess
 import sys
 import tempfile
 
-SNAKE = "/opt/rattle/port/notes/2026-11-18-names-are-in-snake-case/snake.py"
+KIT = os.path.dirname(os.path.dirname(os.path.realpath(shutil.which("rt") or "rt")))
+SNAKE = os.path.join(KIT, "port/notes/2026-11-18-names-are-in-snake-case/snake.py")
 NAME = r"[^\s(){}\[\];,.λ@\"]+"
 DECLARED = re.compile(r"^\s*(?:abbrev\s+|unfoldable\s+|pub\s+)*(%s) :(?:\s|$)" % NAME)
 WORD = re.compile(r'[^\s(){}.;,@"«»]+')

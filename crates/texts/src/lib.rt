@@ -1,5 +1,5 @@
 // Name and blank fields (RULES 3.3, 3.4), read in place. Every function takes every buffer, column and
-// width. The writers ask here too, so it is a crate below theirs.
+// width. The number reader and the writers ask here too, so it is a crate below theirs.
 //
 // The contracts cite `Text` of `fields`.
 #![tactic(auto)]

@@ -3,7 +3,6 @@
 use mathlib.Core.Path.{◌≡◌}
 use mir.Syntax.{w32}
 use mir.Val.{to_z, of_z}
-use borrow.Author.Rules.{rules}
 use Rattle.records.proofs.Layouts.{above}
 use Rattle.asks.specs.Asks.{at, area_asks}
 use Rattle.permitted.proofs.Signs.{passed_on}

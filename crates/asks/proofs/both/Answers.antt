@@ -1,5 +1,4 @@
 -- `asks::both` meets its contract: 6, or the answer of what is asked next. Assumes nothing.
-use borrow.Author.Rules.{rules}
 use borrow.Author.Tests.{not-true, not-false}
 use Rattle.asks.specs.Asks.{first_asked}
 use Rattle.asks.proofs.both.Goals as goal

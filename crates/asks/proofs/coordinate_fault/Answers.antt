@@ -2,7 +2,6 @@
 -- Assumes nothing.
 use mathlib.Core.List.{[]}
 use mathlib.Core.Path.{sym, ap}
-use borrow.Author.Rules.{rules}
 use Rattle.asks.specs.Asks.{from, coordinate_asks, first_asked}
 use Rattle.permitted.proofs.Signs.{passed_on}
 use Rattle.asks.proofs.Slots.{row_at, none_asked}

@@ -2,7 +2,6 @@
 use Prim.Native.Nat.{suc}
 use lib.Dec.{eqb}
 use mir.Facts.{to_z-of_z}
-use borrow.Author.Rules.{rules}
 use borrow.Author.Tests.{lt-ltb, le-ltb}
 use Rattle.permitted.specs.Permitted.{natural, size, same, is_loop_serial}
 use Rattle.permitted.proofs.Matches.{eqb_before, eqb_zero, either_side}

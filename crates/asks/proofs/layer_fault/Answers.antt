@@ -1,6 +1,5 @@
 -- `asks::layer_fault` meets its contract: its tests are the definition's. Assumes nothing.
 use mir.Facts.{to_z-of_z}
-use borrow.Author.Rules.{rules}
 use Rattle.asks.proofs.layer_fault.Goals as goal
 
 pub returns : goal.returns

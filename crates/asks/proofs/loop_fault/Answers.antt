@@ -4,7 +4,6 @@ use mathlib.Core.Path.{◌≡◌, ap, ◌∙◌}
 use native.Mathlib.Omega.{arith}
 use mir.Syntax.{w32}
 use mir.Val.{to_z, of_z}
-use borrow.Author.Rules.{rules}
 use Rattle.records.proofs.Layouts.{above}
 use Rattle.asks.specs.Asks.{at, from, entries_due, loop_asks}
 use Rattle.permitted.specs.Permitted.{size}

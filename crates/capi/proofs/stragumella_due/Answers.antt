@@ -1,6 +1,5 @@
 -- `capi::stragumella_due` meets its contract: what the call below tells, by its number. Assumes nothing.
 use mathlib.Core.Path.{◌∙◌, sym, ap}
-use borrow.Author.Rules.{rules}
 use Rattle.capi.specs.Values.{owed_number}
 use Rattle.capi.proofs.stragumella_due.Goals as goal
 

@@ -1,7 +1,6 @@
 -- `capi::stragumella_position` meets its contract: it is that of the call below. Assumes nothing.
 use mathlib.Core.Path.{◌∙◌}
 use mir.Facts.{to_z-of_z}
-use borrow.Author.Rules.{rules}
 use Rattle.capi.proofs.stragumella_position.Goals as goal
 
 pub returns : goal.returns

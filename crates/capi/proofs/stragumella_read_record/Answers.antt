@@ -1,7 +1,6 @@
 -- `capi::stragumella_read_record` meets its contract: the reading below, with its kind as a number. Assumes nothing.
 use mathlib.Core.Path.{◌∙◌}
 use native.Mathlib.Omega.{arith}
-use borrow.Author.Rules.{rules}
 use Rattle.capi.proofs.ByNumber.{column_small, found_none, found_a}
 use Rattle.capi.proofs.stragumella_read_record.Goals as goal
 

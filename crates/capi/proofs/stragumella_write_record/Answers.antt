@@ -1,5 +1,4 @@
 -- `capi::stragumella_write_record` meets its contract: the writing below, or nothing is written. Assumes nothing.
-use borrow.Author.Rules.{rules}
 use Rattle.capi.proofs.ByNumber.{written_short, written_none, written_a}
 use Rattle.capi.proofs.stragumella_write_record.Goals as goal
 

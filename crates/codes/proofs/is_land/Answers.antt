@@ -1,5 +1,4 @@
 -- `codes::is_land` meets its contract: a field of another length is not land, and of five columns each is looked at. Assumes nothing.
-use borrow.Author.Rules.{rules}
 use Rattle.codes.proofs.Steps.{land_long, land_five}
 use Rattle.codes.proofs.is_land.Goals as goal
 

@@ -3,7 +3,6 @@ use Prim.Native.Nat.{◌+◌, ◌-◌, ◌≤◌}
 use native.Mathlib.Omega.{arith}
 use lib.ListN.{length}
 use borrow.Author.Tests.{not-true, not-false}
-use borrow.Author.Rules.{rules}
 use Rattle.fields.proofs.Places.{passed}
 use Rattle.codes.proofs.Steps.{land_outside, land_inside}
 use Rattle.codes.proofs.land_at.Goals as goal

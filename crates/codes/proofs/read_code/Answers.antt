@@ -1,7 +1,6 @@
 -- `codes::read_code` meets its contract: a number has no mark, and what is no number is land or refused. Assumes nothing.
 use mir.Facts.{to_z-of_z}
 use mir.Syntax.{w32}
-use borrow.Author.Rules.{rules}
 use Rattle.codes.proofs.Steps.{number_coded, land_coded, none_coded}
 use Rattle.codes.proofs.read_code.Goals as goal
 

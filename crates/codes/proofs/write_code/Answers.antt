@@ -6,7 +6,6 @@ use native.Mathlib.Omega.{arith}
 use lib.ListN.{length, length-set}
 use mir.Facts.{to_z-of_z}
 use borrow.Author.Tests.{not-true, not-false}
-use borrow.Author.Rules.{rules}
 use Rattle.fields.proofs.Places.{passed}
 use Rattle.codes.proofs.Steps.{number_written, mark_unfit, width_unfit, value_unfit, place_unfit, land_written, zero_value, five_stored}
 use Rattle.codes.proofs.write_code.Goals as goal

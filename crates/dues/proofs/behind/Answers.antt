@@ -1,9 +1,8 @@
-use mathlib.Core.Path.{◌≡◌, ◌∙◌}
-use Prim.Native.Nat.{◌-◌, ◌≤◌}
+use mathlib.Core.Path.{◌∙◌}
+use Prim.Native.Nat.{◌-◌}
 use native.Mathlib.Nat.{le_refl}
 use native.Mathlib.Omega.{arith}
 use borrow.Author.Rules.{rules}
-use Rattle.walk.specs.States.{state_at}
 use Rattle.walk.proofs.Walking.{at_none, next_state}
 use Rattle.walk.proofs.Passing.{pass_most, pass_are_quiet, passed_state}
 use Rattle.dues.proofs.Told.{all_behind}

@@ -1,14 +1,8 @@
 -- `dues::behind` meets its contract: the loop carries the state behind the records so far, of which the quiet ones are passed in one step.
 -- Assumes nothing.
-use mathlib.Core.Path.{◌≡◌, ◌∙◌}
+use mathlib.Core.Path.{◌≡◌}
 use Prim.Native.Nat.{◌-◌, ◌≤◌}
-use native.Mathlib.Nat.{le_refl}
-use native.Mathlib.Omega.{arith}
-use borrow.Author.Rules.{rules}
 use Rattle.walk.specs.States.{state_at}
-use Rattle.walk.proofs.Walking.{at_none, next_state}
-use Rattle.walk.proofs.Passing.{pass_most, pass_are_quiet, passed_state}
-use Rattle.dues.proofs.Told.{all_behind}
 use Rattle.dues.proofs.behind.Given as goal
 
 abbrev pub invariant-loop-k : goal.invariant-loop-k

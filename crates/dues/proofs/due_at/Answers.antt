@@ -1,6 +1,5 @@
 -- `dues::due_at` meets its contract: the kind is that of what the walk says is due behind the records before the one asked for. Assumes nothing.
 use native.Mathlib.Omega.{arith}
-use borrow.Author.Rules.{rules}
 use Rattle.dues.proofs.Told.{told_first, told_past, told_kind}
 use Rattle.dues.proofs.due_at.Goals as goal
 

@@ -1,11 +1,7 @@
 -- `entries::area_slots` meets its contract: the loop adds up the records of one loop after another, each at most 834. Assumes nothing.
-use mathlib.Core.Path.{◌≡◌, refl, sym, ap}
-use Prim.Native.Nat.{◌+◌, ◌*◌, ◌-◌, ◌≤◌}
-use native.Mathlib.Omega.{arith}
-use native.Mathlib.Numerals.{add-one}
-use borrow.Author.Rules.{rules}
-use Rattle.entries.specs.Entries.{records_to, loops_at, slots_of}
-use Rattle.entries.proofs.Slots.{slots_none}
+use mathlib.Core.Path.{◌≡◌}
+use Prim.Native.Nat.{◌*◌, ◌-◌, ◌≤◌}
+use Rattle.entries.specs.Entries.{records_to}
 use Rattle.entries.proofs.area_slots.Given as goal
 
 abbrev pub invariant-loop-i : goal.invariant-loop-i

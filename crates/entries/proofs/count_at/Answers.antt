@@ -1,5 +1,4 @@
 -- `entries::count_at` meets its contract: a number of width 4 is at most 9999. Assumes nothing.
-use borrow.Author.Rules.{rules}
 use Rattle.entries.specs.Entries.{count_at}
 use Rattle.entries.proofs.Slots.{four_told}
 use Rattle.entries.proofs.count_at.Goals as goal

@@ -1,5 +1,4 @@
 -- `entries::entry_measure` meets its contract: the measure is small, so its sign can be turned. Assumes nothing.
-use borrow.Author.Rules.{rules}
 use Rattle.permitted.specs.Permitted.{natural}
 use Rattle.permitted.proofs.Signs.{own_asked}
 use Rattle.entries.proofs.Keeping.{kept_small}

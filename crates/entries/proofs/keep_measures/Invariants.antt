@@ -1,16 +1,9 @@
 -- `entries::keep_measures` meets its contract: each turn stores what the next line measures. Assumes nothing.
-use mathlib.Core.Path.{◌≡◌, refl, ◌∙◌, ap}
-use Prim.Native.Nat.{◌-◌, ◌≤◌, ◌<◌}
-use native.Mathlib.Omega.{arith}
+use mathlib.Core.Path.{◌≡◌}
+use Prim.Native.Nat.{◌-◌, ◌≤◌}
 use lib.ListN.{length}
-use lib.Seq.{sets, length-sets}
-use mir.Facts.{to_z-of_z}
-use mir.Syntax.{w64}
-use borrow.Author.Rules.{rules}
-use Rattle.measures.specs.Points.{first_of, measure_by}
-use Rattle.measures.specs.Sound.{added_up}
+use lib.Seq.{sets}
 use Rattle.entries.specs.Keeping.{walked_to}
-use Rattle.entries.proofs.Keeping.{room, no_room, walked_stored}
 use Rattle.entries.proofs.keep_measures.Given as goal
 
 abbrev pub invariant-loop-i : goal.invariant-loop-i

@@ -2,7 +2,6 @@
 use mathlib.Core.Path.{ap}
 use Prim.Native.Nat.{◌-◌}
 use borrow.Author.Tests.{not-true, not-false}
-use borrow.Author.Rules.{rules}
 use Rattle.permitted.specs.Permitted.{size}
 use Rattle.permitted.proofs.Signs.{own_told, own_asked}
 use Rattle.layers.specs.Naming.{names_line}

@@ -1,17 +1,14 @@
 use mathlib.Core.Path.{◌≡◌, refl, sym, ◌∙◌, ap₂}
-use Prim.Native.Nat.{◌*◌, ◌-◌, ◌≤◌, ◌<◌}
+use Prim.Native.Nat.{◌*◌, ◌-◌, ◌<◌}
 use native.Mathlib.Omega.{arith}
 use lib.IntN.{◌+ℤ◌}
-use mir.Syntax.{w64}
-use mir.Val.{to_z}
-use borrow.Author.Rules.{rules}
 use Rattle.links.proofs.Numbers.{told}
 use Rattle.measures.specs.Sum.{sum}
 use Rattle.measures.specs.Walks.{Small}
 use Rattle.measures.specs.Measures.{loop_measure}
 use Rattle.entries.specs.Entries.{loop_at, entries_to, records_for, count_at}
 use Rattle.entries.specs.Loops.{slot_measure}
-use Rattle.entries.specs.Keeping.{kept_measure, kept_loop}
+use Rattle.entries.specs.Keeping.{kept_loop}
 use Rattle.entries.proofs.Keeping.{most, kept_none, kept_small}
 use Rattle.entries.proofs.Summing.{sum_fits, sum_small, sum_is, slot_small, loop_more}
 use Rattle.entries.proofs.loop_measure.Goals as goal

@@ -1,5 +1,4 @@
 -- `entries::loop_records` meets its contract: at most 9999 lines take at most 834 records. Assumes nothing.
-use borrow.Author.Rules.{rules}
 use Rattle.entries.proofs.Slots.{records_told}
 use Rattle.entries.proofs.loop_records.Goals as goal
 

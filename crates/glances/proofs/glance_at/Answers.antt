@@ -1,11 +1,9 @@
 -- `glances::glance_at` meets its contract: where the digits begin, the law of `AtGlance` says of what there is to be sure, and the code's
 -- test is that law's. Assumes nothing.
 use mathlib.Core.Bool.{Bool, true, false, not}
-use mathlib.Core.List.{List}
 use mathlib.Core.Path.{◌≡◌, sym, ◌∙◌, refl}
 use Prim.Native.Nat.{◌+◌, ◌-◌, ◌*◌, ℕ}
 use lib.Dec.{eqb, lit<}
-use borrow.Author.Rules.{rules}
 use borrow.Author.Tests.{eq-eqb, ne_eqb, not-true}
 use Rattle.fields.specs.Number.{is_digit}
 use Rattle.fields.specs.Ending.{DigitsFrom, EndsIn}

@@ -1,7 +1,6 @@
 -- `glances::glance_in` meets its contract: spaces in front change nothing, and what has more than five
 -- bytes in use says no number from 0 to 99999. Assumes nothing.
 use lib.Dec.{lit≤}
-use borrow.Author.Rules.{rules}
 use Rattle.glances.proofs.AtGlance.{entries, short_is, long_is, glimpse_six, glimpse_other}
 use Rattle.fields.proofs.Range.{no_width}
 use Rattle.glances.proofs.glance_in.Goals as goal

@@ -1,5 +1,4 @@
 -- `glances::lone_zero` meets its contract: it computes the definition's own tests. Assumes nothing.
-use borrow.Author.Rules.{rules}
 use borrow.Author.Tests.{le-leb, lt-leb}
 use Rattle.glances.specs.Glimpse.{is_lone_zero}
 use Rattle.glances.proofs.lone_zero.Goals as goal

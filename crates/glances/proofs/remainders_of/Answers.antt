@@ -1,6 +1,5 @@
 -- `glances::remainders_of` meets its contract: it adds up what the definition does, byte by byte. Assumes nothing.
 use native.Mathlib.Omega.{arith}
-use borrow.Author.Rules.{rules}
 use Rattle.glances.proofs.Remainders.{five_sum}
 use Rattle.glances.proofs.remainders_of.Goals as goal
 

@@ -1,9 +1,8 @@
--- `judge::all_sums` meets its contract: a refusal stands, of the or.before.before.before.before.before for too few places, and else the sums are filled in.
+-- `judge::all_sums` meets its contract: a refusal stands, of the stages or for too few places, and else the sums are filled in.
 -- Assumes nothing.
 use mathlib.Core.Path.{◌≡◌, refl, sym}
 use native.Mathlib.Omega.{arith}
 use lib.Seq.{length-take-le}
-use borrow.Author.Rules.{rules}
 use borrow.Author.Tests.{leb-true}
 use Rattle.verdict.specs.declared.Verdict.TheVariants.{Fine}
 use Rattle.judge.specs.Rulebook.{pair_rule}
@@ -13,8 +12,6 @@ use Rattle.judge.proofs.Calling.{judged_countable, judged_counts, judged_fit, ju
 use Rattle.judge.proofs.Calling.{outcome_told, table_told, lent_refused, stages_fine, last_kept, lent_kept}
 use Rattle.judge.proofs.all_sums.Goals as goal
 use Rattle.judge.proofs.all_sums.Goals.{In_default}
-
--- what the said.before.before.before.before.before, before more was asked
 
 -- accepted: they are kept
 kept : (c : In_default) → c.judge_file-t.result.verdict ≡ Fine

@@ -1,10 +1,9 @@
 use mathlib.Core.Path.{◌≡◌, refl}
-use Prim.Native.Nat.{◌+◌, ◌*◌, ◌-◌, ◌≤◌}
+use Prim.Native.Nat.{◌+◌, ◌-◌}
 use native.Mathlib.Numerals.{add-one}
 use native.Mathlib.Omega.{arith}
 use mir.Syntax.{w64}
 use mir.Val.{to_z}
-use borrow.Author.Rules.{rules}
 use Rattle.measures.specs.Sum.{sum}
 use Rattle.measures.specs.Measures.{area_measure}
 use Rattle.entries.specs.Entries.{loops_at, loops_to, records_to}
@@ -24,14 +23,14 @@ unfolding kept_loop
 next c =
     let l = c.loop-i in
     loop_added _ _ _ l.i c.requires.1 (omega (arith, c.loop-i-test.true, c.loops_at-n.ensures.0))
-    l.invariant.1 l.invariant.3 c.loop_measure-sum.ok c.loop_measure-sum.ensures
+    l.invariant.1 l.invariant.3 c.loop_measure-sum.type_inv c.loop_measure-sum.ensures
 
 pub loop-i-init : goal.loop-i-init
 unfolding records_to area_measure loops_to sum
 loop-i-init c = (omega arith, omega arith, omega arith, refl)
 
 pub overflow_add-sum : goal.overflow_add-sum
-overflow_add-sum c = (next (goal.at.overflow_add-sum c).After-loop_measure-sum).ranges
+overflow_add-sum c = (next (goal.at.overflow_add-sum c).After-loop_measure-sum).fits
 
 pub overflow_add-f-in-loop-i : goal.overflow_add-f-in-loop-i
 overflow_add-f-in-loop-i c = omega (arith, c.loop-i-test.true, c.loops_at-n.ensures.1, c.loop_records-f.ensures.1)

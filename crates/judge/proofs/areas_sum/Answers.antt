@@ -1,9 +1,8 @@
 use mathlib.Core.Path.{◌≡◌, sym, ◌∙◌, ap}
-use Prim.Native.Nat.{◌+◌, ◌-◌, ◌≤◌}
+use Prim.Native.Nat.{◌+◌, ◌-◌}
 use native.Mathlib.Omega.{arith}
 use mir.Syntax.{w64}
 use mir.Val.{to_z}
-use borrow.Author.Rules.{rules}
 use Rattle.measures.specs.Sum.{sum_to}
 use Rattle.measures.proofs.SumLaws.{sum_to_none}
 use Rattle.ground.specs.Layers.{area_of_layer, areas_sum}
@@ -31,7 +30,7 @@ area_measure-sum-requires c =
     (c.area_word.ensures.1, area_measurable _ _ _ c.loop-a-test.true c.area_word.ensures.0 c.requires.0 c.requires.1)
 
 pub overflow_add-sum : goal.overflow_add-sum
-overflow_add-sum c = (next (goal.at.overflow_add-sum c).After-area_measure-sum).ranges
+overflow_add-sum c = (next (goal.at.overflow_add-sum c).After-area_measure-sum).fits
 
 pub loop-a-preserved : goal.loop-a-preserved
 loop-a-preserved c = (omega (arith, c.loop-a-test.true), (next (goal.at.loop-a-preserved c).After-area_measure-sum).is)

@@ -1,7 +1,6 @@
 -- `judge::asked` meets its contract: a refusal stands; behind none of them one check speaks. Assumes nothing.
 use mathlib.Core.Path.{sym, ◌∙◌}
 use mathlib.Core.List.{[]}
-use borrow.Author.Rules.{rules}
 use Rattle.verdict.proofs.Parts.{check_none, check_kept, check_broken}
 use Rattle.judge.specs.Rulebook.{eighth}
 use Rattle.judge.proofs.asked.Goals as goal

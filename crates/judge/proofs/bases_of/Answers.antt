@@ -1,7 +1,6 @@
 -- `judge::bases_of` meets its contract: the rows stand first, then the lines. Assumes nothing.
 use mathlib.Core.Path.{refl}
 use Rattle.layers.specs.Passing.{bases_of}
-use borrow.Author.Rules.{rules}
 use Rattle.judge.proofs.bases_of.Goals as goal
 
 pub returns : goal.returns

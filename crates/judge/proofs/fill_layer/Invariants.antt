@@ -1,12 +1,9 @@
 -- `judge::fill_layer` meets its contract: each turn stores the next area's measure. Assumes nothing.
-use mathlib.Core.Path.{◌≡◌, refl, ◌∙◌, ap}
+use mathlib.Core.Path.{◌≡◌}
 use Prim.Native.Nat.{suc, ◌-◌, ◌≤◌}
-use native.Mathlib.Omega.{arith}
-use lib.Seq.{sets, length-sets}
-use borrow.Author.Rules.{rules}
+use lib.Seq.{sets}
 use Rattle.measures.specs.Points.{first_of}
 use Rattle.ground.specs.Layers.{area_of_layer}
-use Rattle.judge.proofs.Adding.{area_measurable, area_stored}
 use Rattle.judge.proofs.fill_layer.Given as goal
 
 abbrev pub invariant-loop-a : goal.invariant-loop-a

@@ -1,16 +1,10 @@
 -- `judge::fill_measures` meets its contract: each turn fills in the next layer's measures behind the others. Assumes nothing.
-use mathlib.Core.Path.{◌≡◌, refl, sym, ◌∙◌, ap}
+use mathlib.Core.Path.{◌≡◌}
 use Prim.Native.Nat.{◌-◌, ◌≤◌}
-use native.Mathlib.Omega.{arith}
-use lib.IntN.{pos}
-use lib.ListN.{length, length-replicate}
-use lib.Seq.{length-take-le}
-use borrow.Author.Rules.{rules}
+use lib.ListN.{length}
 use Rattle.walk.specs.Table.{filled}
 use Rattle.layers.specs.Naming.{words_before}
-use Rattle.entries.proofs.Keeping.{kept_length, kept_room, kept_lines}
 use Rattle.ground.specs.Layers.{measures_to}
-use Rattle.judge.proofs.Adding.{none_filled, next_summable, same_many, room, at_more, layer_put}
 use Rattle.judge.proofs.fill_measures.Given as goal
 
 abbrev pub invariant-loop-i : goal.invariant-loop-i

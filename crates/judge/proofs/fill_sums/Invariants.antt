@@ -1,13 +1,9 @@
 -- `judge::fill_sums` meets its contract: each turn stores the next layer's two sums behind the others. Assumes nothing.
-use mathlib.Core.Path.{◌≡◌, refl, ◌∙◌, ap}
-use Prim.Native.Nat.{◌+◌, ◌*◌, ◌-◌, ◌≤◌, ◌<◌}
-use native.Mathlib.Omega.{arith}
-use lib.IntN.{pos}
-use lib.ListN.{length, length-replicate, length-set}
-use borrow.Author.Rules.{rules}
+use mathlib.Core.Path.{◌≡◌}
+use Prim.Native.Nat.{◌-◌, ◌≤◌}
+use lib.ListN.{length}
 use Rattle.walk.specs.Table.{filled}
 use Rattle.judge.specs.Outcomes.{pairs_to}
-use Rattle.judge.proofs.Adding.{next_summable, same_room, pair_put}
 use Rattle.judge.proofs.fill_sums.Given as goal
 
 abbrev pub invariant-loop-i : goal.invariant-loop-i

@@ -1,7 +1,6 @@
 -- `judge::judge_late` meets its contract: the first of stages 3 to 6 that is broken stands, and behind three that are kept stage 6 speaks.
 -- Assumes nothing.
 use Rattle.judge.proofs.Loading.{counts_few, third_broken, fourth_broken, fifth_broken, sixth_speaks}
-use borrow.Author.Rules.{rules}
 use Rattle.judge.proofs.judge_late.Goals as goal
 
 pub bases_of-b-requires : goal.bases_of-b-requires

@@ -1,7 +1,7 @@
--- `judge::layer_sums` meets its contract: a refusal stands, of the or.before.before.before.before.before for a layer that is not there, and else its sums are told.
+-- `judge::layer_sums` meets its contract: a refusal stands, of the stages or for a layer that is not there, and else its sums are told.
 -- Assumes nothing.
 use mathlib.Core.Path.{◌≡◌, refl, sym}
-use Prim.Native.Nat.{ℕ, ◌≤◌}
+use Prim.Native.Nat.{◌≤◌}
 use lib.Seq.{length-take-le}
 use borrow.Author.Rules.{rules}
 use borrow.Author.Tests.{leb-true}
@@ -13,30 +13,24 @@ use Rattle.judge.proofs.Loading.{counts_few}
 use Rattle.judge.proofs.Calling.{judged_counts, judged_fit, judged_words, layer_summable, layer_sums_are}
 use Rattle.judge.proofs.Calling.{table_told, sums_refused, stages_fine, last_kept, sums_kept}
 use Rattle.judge.proofs.layer_sums.Goals as goal
-use Rattle.judge.proofs.layer_sums.Goals.{After-asked-v, After-struct_known-1, In_default}
-
--- what the said.before.before.before.before.before, before more was asked, and the layer's number
-
--- LEFT
-abbrev number : tie.After-asked → ℕ
-number c = c.before.before.before.before.before.before.before.before.before.args.layer
+use Rattle.judge.proofs.layer_sums.Goals.{In_default}
 
 -- accepted: they are kept, and the layer is there
 kept : (c : In_default) → c.judge_file-t.result.verdict ≡ Fine
 kept c =
-    stages_fine _ _ c.judge_file-t.ensures.0 (layer_rule (number (HELPER c).After-asked-v)) c.asked-v.ensures c.in_default.is
+    stages_fine _ _ c.judge_file-t.ensures.0 (layer_rule c.args.layer) c.asked-v.ensures c.in_default.is
 
 there : (c : In_default)
-    → (1 ≤ number (HELPER c).After-asked-v) × (number (HELPER c).After-asked-v ≤ c.judge_file-t.result.counts.layers)
+    → (1 ≤ c.args.layer) × (c.args.layer ≤ c.judge_file-t.result.counts.layers)
 there c =
-    let s = and_both _ _ (last_kept _ _ c.judge_file-t.ensures.0 (layer_rule (number (HELPER c).After-asked-v)) c.asked-v.ensures c.in_default.is) in
+    let s = and_both _ _ (last_kept _ _ c.judge_file-t.ensures.0 (layer_rule c.args.layer) c.asked-v.ensures c.in_default.is) in
     (leb-true _ _ s.0, leb-true _ _ s.1)
 
 pub returns-in-Broken : goal.returns-in-Broken
 unfolding sums_of
 returns-in-Broken c =
     let j = c.judge_file-t.ensures in
-    let r = layer_rule (number (goal.at.returns-in-Broken c).After-asked-v) in (
+    let r = layer_rule c.args.layer in (
       sums_refused _ _ j.0 r c.asked-v.ensures c.in-Broken.is _ c.no_sums.ensures,
       table_told _ _ j.0 r c.asked-v.ensures refl _ refl j.1,
     )
@@ -67,7 +61,7 @@ pub returns : goal.returns
 unfolding sums_of
 returns c =
     let j = c.judge_file-t.ensures in
-    let r = layer_rule (number (goal.at.returns c).After-struct_known-1) in
+    let r = layer_rule c.args.layer in
     let w = judged_words _ _ j.0 (kept (goal.at.returns c).In_default) _ refl j.1 in
     let s = layer_sums_are _ _ j.0 (kept (goal.at.returns c).In_default) w c.bases_of.ensures _ c.layer_in-l.ensures in (
       sums_kept _ _ j.0 r c.asked-v.ensures c.in_default.is _ (rw s at c.sums_in.ensures),

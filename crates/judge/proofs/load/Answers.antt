@@ -1,8 +1,7 @@
--- `judge::load` meets its contract: a refusal stands, of the or.before.before.before.before.before for too few places, and else the measures are filled in.
+-- `judge::load` meets its contract: a refusal stands, of the stages or for too few places, and else the measures are filled in.
 -- Assumes nothing.
 use mathlib.Core.Path.{◌≡◌, refl, sym}
 use lib.Seq.{length-take-le}
-use borrow.Author.Rules.{rules}
 use borrow.Author.Tests.{leb-true}
 use Rattle.verdict.specs.declared.Verdict.TheVariants.{Fine}
 use Rattle.judge.specs.Rulebook.{measure_rule}
@@ -12,8 +11,6 @@ use Rattle.judge.proofs.Calling.{judged_countable, judged_counts, judged_fit, ju
 use Rattle.judge.proofs.Calling.{outcome_told, table_told, lent_refused, stages_fine, last_kept, lent_kept}
 use Rattle.judge.proofs.load.Goals as goal
 use Rattle.judge.proofs.load.Goals.{In_default}
-
--- what the said.before.before.before.before.before, before more was asked
 
 -- accepted: they are kept
 kept : (c : In_default) → c.judge_file-t.result.verdict ≡ Fine

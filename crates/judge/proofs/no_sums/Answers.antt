@@ -1,5 +1,4 @@
 -- `judge::no_sums` meets its contract: the verdict by its numbers, beside two sums of 0. Assumes nothing.
-use borrow.Author.Rules.{rules}
 use Rattle.judge.proofs.no_sums.Goals as goal
 
 pub returns : goal.returns

@@ -1,6 +1,5 @@
 -- `judge::outside_at` meets its contract: by the line's left and right area, its measure is added, or taken away, or does not count.
 -- Assumes nothing.
-use borrow.Author.Rules.{rules}
 use Rattle.judge.proofs.Adding.{Sided, sided, outside_none, outside_left, outside_right, measure_passed, measure_fits, measure_turned}
 use Rattle.judge.proofs.outside_at.Goals as goal
 use Rattle.judge.proofs.outside_at.Goals.{After-same}

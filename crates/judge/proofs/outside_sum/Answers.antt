@@ -1,10 +1,9 @@
 use mathlib.Core.Path.{◌≡◌, sym, ◌∙◌, ap}
-use Prim.Native.Nat.{◌+◌, ◌-◌, ◌≤◌}
+use Prim.Native.Nat.{◌+◌, ◌-◌}
 use native.Mathlib.Numerals.{add-one}
 use native.Mathlib.Omega.{arith}
 use mir.Syntax.{w64}
 use mir.Val.{to_z}
-use borrow.Author.Rules.{rules}
 use Rattle.measures.specs.Sum.{sum_to}
 use Rattle.measures.proofs.SumLaws.{sum_to_none}
 use Rattle.ground.specs.Layers.{outside_sum}
@@ -36,7 +35,7 @@ outside_at-sum-requires c =
     (omega (arith, c.loop-i-test.true, p.1.sound.few), p.0)
 
 pub overflow_add-sum : goal.overflow_add-sum
-overflow_add-sum c = (next (goal.at.overflow_add-sum c).After-outside_at-sum).ranges
+overflow_add-sum c = (next (goal.at.overflow_add-sum c).After-outside_at-sum).fits
 
 pub overflow_add-i-in-loop-i : goal.overflow_add-i-in-loop-i
 overflow_add-i-in-loop-i c = omega (arith, c.loop-i-test.true, c.requires.1.sound.few)

@@ -3,7 +3,6 @@ use mathlib.Core.Path.{sym, ◌∙◌, ap₂}
 use lib.Seq.{length-take-le}
 use mir.Facts.{to_z-of_z}
 use mir.Syntax.{w64}
-use borrow.Author.Rules.{rules}
 use Rattle.verdict.specs.declared.Verdict.TheVariants.{Fine}
 use Rattle.entries.proofs.Keeping.{kept_room, kept_lines}
 use Rattle.judge.specs.Outcomes.{sums_with}

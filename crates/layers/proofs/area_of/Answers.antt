@@ -1,6 +1,5 @@
 -- `layers::area_of` meets its contract: a serial that names an area is 1 or more, and says which word of the table is meant. Assumes nothing.
 use native.Mathlib.Omega.{arith}
-use borrow.Author.Rules.{rules}
 use Rattle.layers.specs.Naming.{names, area_of}
 use Rattle.permitted.specs.Permitted.{size}
 use Rattle.permitted.proofs.Signs.{own_told, own_asked}

@@ -1,6 +1,5 @@
 -- `layers::at_first` meets its contract, whatever the file. Assumes nothing.
 use Rattle.layers.proofs.Walks.{first_is}
-use borrow.Author.Rules.{rules}
 use Rattle.layers.proofs.at_first.Goals as goal
 
 pub returns : goal.returns

@@ -1,7 +1,6 @@
 -- `layers::behind` meets its contract: no walk of a file stops it, and only an H changes the layer. Assumes nothing.
 use native.Mathlib.Omega.{arith}
 use Rattle.layers.proofs.Walks.{rows_less, behind_same, behind_other}
-use borrow.Author.Rules.{rules}
 use Rattle.layers.proofs.behind.Goals as goal
 
 pub returns-then-n-k : goal.returns-then-n-k

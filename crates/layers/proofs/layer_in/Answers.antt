@@ -1,5 +1,4 @@
 -- `layers::layer_in` meets its contract: the words of its row, and the sums of the rows before it. Assumes nothing.
-use borrow.Author.Rules.{rules}
 use borrow.Author.Tests.{le-leb, lt-leb}
 use Rattle.layers.specs.Naming.{layer_in}
 use Rattle.layers.proofs.layer_in.Goals as goal

@@ -1,6 +1,5 @@
 -- `layers::names` meets its contract: its test is the definition's. Assumes nothing.
 use mir.Facts.{to_z-of_z}
-use borrow.Author.Rules.{rules}
 use Rattle.layers.specs.Naming.{names}
 use Rattle.layers.proofs.names.Goals as goal
 

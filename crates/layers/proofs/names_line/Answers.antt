@@ -1,6 +1,5 @@
 -- `layers::names_line` meets its contract: its tests are the definition's. Assumes nothing.
 use mir.Facts.{to_z-of_z}
-use borrow.Author.Rules.{rules}
 use Rattle.layers.specs.Naming.{names_line}
 use Rattle.layers.proofs.names_line.Goals as goal
 

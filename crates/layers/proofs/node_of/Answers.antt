@@ -1,6 +1,5 @@
 -- `layers::node_of` meets its contract: a serial that names a node is no more than the layer's nodes, and so the sum fits. Assumes nothing.
 use native.Mathlib.Omega.{arith}
-use borrow.Author.Rules.{rules}
 use Rattle.layers.specs.Naming.{names, node_of}
 use Rattle.permitted.specs.Permitted.{size}
 use Rattle.permitted.proofs.Signs.{own_told, own_asked}

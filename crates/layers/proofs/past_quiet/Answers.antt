@@ -1,6 +1,5 @@
 -- `layers::past_quiet` meets its contract. Assumes nothing.
 use Rattle.layers.proofs.Walks.{quiet_none, quiet_some}
-use borrow.Author.Rules.{rules}
 use Rattle.layers.proofs.past_quiet.Goals as goal
 
 pub returns-then-n-k : goal.returns-then-n-k

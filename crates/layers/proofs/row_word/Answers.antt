@@ -1,7 +1,6 @@
 -- `layers::row_word` meets its contract: past the end there is no word. Assumes nothing.
 use mathlib.Core.Path.{sym}
 use lib.ListN.{get_or-eq_default}
-use borrow.Author.Rules.{rules}
 use Rattle.layers.proofs.row_word.Goals as goal
 
 pub returns : goal.returns

@@ -2,7 +2,6 @@
 use mathlib.Core.Path.{sym}
 use native.Mathlib.Omega.{arith}
 use lib.ListN.{get_or-eq_default}
-use borrow.Author.Rules.{rules}
 use Rattle.layers.proofs.word_in.Goals as goal
 
 pub returns-then-table-at : goal.returns-then-table-at

@@ -1,9 +1,6 @@
 -- `layers::words_before` meets its contract: the loop adds the rows up one by one, and a word is below 2^32. Assumes nothing.
-use mathlib.Core.Path.{◌≡◌, ap₂}
-use Prim.Native.Nat.{◌+◌, ◌*◌, ◌-◌, ◌≤◌}
-use native.Mathlib.Numerals.{add-one}
-use native.Mathlib.Omega.{arith}
-use borrow.Author.Rules.{rules}
+use mathlib.Core.Path.{◌≡◌}
+use Prim.Native.Nat.{◌*◌, ◌-◌, ◌≤◌}
 use Rattle.layers.specs.Naming.{words_before}
 use Rattle.layers.proofs.words_before.Given as goal
 

@@ -1,6 +1,5 @@
 -- `links::at_node` meets its contract: both numbers of the pair are compared with the node's. Assumes nothing.
 use Rattle.links.proofs.LineLaws.{at_unnamed, at_named}
-use borrow.Author.Rules.{rules}
 use Rattle.links.proofs.at_node.Goals as goal
 
 pub returns-then-not-names : goal.returns-then-not-names

@@ -1,5 +1,4 @@
 -- `links::between` meets its contract: no record is none, and the others have more than seven points left and not all. Assumes nothing.
-use borrow.Author.Rules.{rules}
 use Rattle.links.proofs.StageLaws.{between_none, between_some}
 use Rattle.links.proofs.between.Goals as goal
 

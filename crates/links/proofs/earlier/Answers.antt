@@ -1,5 +1,4 @@
 -- `links::earlier` meets its contract: 0 where the number is 0, else i. Assumes nothing.
-use borrow.Author.Rules.{rules}
 use Rattle.permitted.specs.Permitted.{is_zero}
 use Rattle.permitted.proofs.Signs.{own_asked}
 use Rattle.links.proofs.earlier.Goals as goal

@@ -1,6 +1,5 @@
 -- `links::entry_is` meets its contract: its two tests are the definition's. Assumes nothing.
 use mir.Facts.{to_z-of_z}
-use borrow.Author.Rules.{rules}
 use Rattle.links.specs.Links.{entry_is}
 use Rattle.links.proofs.entry_is.Goals as goal
 

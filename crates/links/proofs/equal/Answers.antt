@@ -1,6 +1,5 @@
 -- `links::equal` meets its contract: its two tests are the definition's. Assumes nothing.
 use mir.Facts.{to_z-of_z}
-use borrow.Author.Rules.{rules}
 use Rattle.links.specs.Links.{equal}
 use Rattle.links.proofs.equal.Goals as goal
 

@@ -1,14 +1,14 @@
 use mathlib.Core.Bool.{true, false, cond}
-use mathlib.Core.Path.{◌≡◌, refl, ◌∙◌}
-use Prim.Native.Nat.{ℕ, ◌+◌, ◌-◌, ◌≤◌, ◌<◌}
+use mathlib.Core.Path.{refl, ◌∙◌}
+use Prim.Native.Nat.{◌+◌, ◌-◌}
 use native.Mathlib.Omega.{arith}
 use mir.Syntax.{w32}
 use mir.Val.{to_z, of_z}
 use borrow.Author.Count.{below_none, below_more}
 use borrow.Author.Rules.{rules}
 use Rattle.permitted.specs.Permitted.{is_zero}
-use Rattle.links.specs.Links.{equal, some}
-use Rattle.links.specs.Scanning.{slot_by, clean}
+use Rattle.links.specs.Links.{equal}
+use Rattle.links.specs.Scanning.{slot_by}
 use Rattle.links.proofs.Numbers.{told, compared}
 use Rattle.links.proofs.Scans.{some_none, some_more, earlier_less, clean_passed, clean_not}
 use Rattle.links.proofs.first_repeat.Goals as goal

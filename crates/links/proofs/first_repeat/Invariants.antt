@@ -1,22 +1,14 @@
 -- `links::first_repeat` meets its contract: the inner loop finds no earlier slot like this one, or leaves both loops at it. Assumes nothing.
-use mathlib.Core.Bool.{true, false, cond}
-use mathlib.Core.Path.{◌≡◌, refl, ◌∙◌}
+use mathlib.Core.Bool.{true, false}
+use mathlib.Core.Path.{◌≡◌}
 use Prim.Native.Nat.{ℕ, ◌+◌, ◌-◌, ◌≤◌, ◌<◌}
-use native.Mathlib.Omega.{arith}
-use mir.Syntax.{w32}
-use mir.Val.{to_z, of_z}
-use borrow.Author.Count.{below_none, below_more}
-use borrow.Author.Rules.{rules}
-use Rattle.permitted.specs.Permitted.{is_zero}
 use Rattle.links.specs.Links.{equal, some}
 use Rattle.links.specs.Scanning.{slot_by, clean}
-use Rattle.links.proofs.Numbers.{told, compared}
-use Rattle.links.proofs.Scans.{some_none, some_more, earlier_less, clean_passed, clean_not}
 use Rattle.links.proofs.first_repeat.Given as goal
 
 abbrev pub invariant-loop-j : goal.invariant-loop-j
 invariant-loop-j l =
-    (l.j ≤ l.stop) × (l.at ≡ l.initial.at) × (some l.j (λ l.j. equal (slot_by l.o l.file l.f (l.from + l.i)) (slot_by l.o l.file l.f l.j)) ≡ false)
+    (l.j ≤ l.stop) × (l.at ≡ l.initial.at) × (some l.j (λ j. equal (slot_by l.o l.file l.f (l.from + l.i)) (slot_by l.o l.file l.f j)) ≡ false)
 
 abbrev pub decreases-loop-j : goal.decreases-loop-j
 decreases-loop-j l = l.stop - l.j

@@ -1,6 +1,5 @@
 -- `links::judge_end` meets its contract: each way out is one of the laws for an end. Assumes nothing.
 use Rattle.links.proofs.LineLaws.{end_unnamed, end_unlisted, end_unfit, end_fine}
-use borrow.Author.Rules.{rules}
 use Rattle.links.proofs.judge_end.Goals as goal
 
 pub returns-then-not-names : goal.returns-then-not-names

@@ -3,7 +3,6 @@ use Rattle.links.proofs.LineLaws.{first_few, first_later, first_broken_lem, firs
 use lib.Dec.{lit≤}
 use Rattle.records.specs.Columns.{points_x}
 use Rattle.links.proofs.LineLaws.{slot_told}
-use borrow.Author.Rules.{rules}
 use Rattle.links.proofs.judge_first.Goals as goal
 
 pub returns-then-left-le1 : goal.returns-then-left-le1

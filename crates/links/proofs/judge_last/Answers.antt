@@ -3,7 +3,6 @@ use native.Mathlib.Omega.{arith}
 use Rattle.links.proofs.LineLaws.{last_none, last_later, last_broken, last_kept}
 use Rattle.records.specs.Columns.{points_x}
 use Rattle.links.proofs.LineLaws.{slot_told}
-use borrow.Author.Rules.{rules}
 use Rattle.links.proofs.judge_last.Goals as goal
 
 pub returns-then-left-eq0 : goal.returns-then-left-eq0

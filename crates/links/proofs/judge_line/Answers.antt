@@ -1,7 +1,6 @@
 -- `links::judge_line` meets its contract: its parts in a row, the first broken one returned. Assumes nothing.
 use Rattle.links.specs.Links.{line_checks}
 use Rattle.links.proofs.LineLaws.{part_stops, part_passes}
-use borrow.Author.Rules.{rules}
 use Rattle.links.proofs.judge_line.Goals as goal
 
 pub returns-in-Broken : goal.returns-in-Broken

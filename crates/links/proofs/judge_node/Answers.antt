@@ -1,15 +1,13 @@
-use mathlib.Core.Path.{◌≡◌, sym, ◌∙◌}
+use mathlib.Core.Path.{sym, ◌∙◌}
 use Prim.Native.Nat.{◌-◌, ◌≤◌}
 use native.Mathlib.Nat.{zero-add}
 use native.Mathlib.Omega.{arith}
 use lib.Dec.{lit≤}
 use borrow.Author.Rules.{rules}
-use Rattle.verdict.specs.declared.Verdict.TheVariants.{Fine}
-use Rattle.verdict.specs.Rules.{first_broken, rows}
 use Rattle.verdict.proofs.Parts.{rows_none, rows_pass}
 use Rattle.links.specs.Links.{node_entry, node_slot, node_checks, fifth}
 use Rattle.links.proofs.NodeLaws.{slot_clean}
-use Rattle.links.proofs.Scans.{repeats_at, goes_past, slot_rules, slots_stop, slots_done}
+use Rattle.links.proofs.Scans.{repeats_at, goes_past, slots_stop, slots_done}
 use Rattle.links.proofs.judge_node.Goals as goal
 
 pub loop-i-init : goal.loop-i-init

@@ -1,16 +1,10 @@
 -- `links::judge_node` meets its contract: a slot that is fine is clean, so the loop never passes the slot that the scan found. Assumes nothing.
-use mathlib.Core.Path.{◌≡◌, sym, ◌∙◌}
+use mathlib.Core.Path.{◌≡◌}
 use Prim.Native.Nat.{◌-◌, ◌≤◌}
-use native.Mathlib.Nat.{zero-add}
-use native.Mathlib.Omega.{arith}
-use lib.Dec.{lit≤}
-use borrow.Author.Rules.{rules}
 use Rattle.verdict.specs.declared.Verdict.TheVariants.{Fine}
 use Rattle.verdict.specs.Rules.{first_broken, rows}
-use Rattle.verdict.proofs.Parts.{rows_none, rows_pass}
-use Rattle.links.specs.Links.{node_entry, node_slot, node_checks, fifth}
-use Rattle.links.proofs.NodeLaws.{slot_clean}
-use Rattle.links.proofs.Scans.{repeats_at, goes_past, slot_rules, slots_stop, slots_done}
+use Rattle.links.specs.Links.{node_slot, fifth}
+use Rattle.links.proofs.Scans.{slot_rules}
 use Rattle.links.proofs.judge_node.Given as goal
 
 abbrev pub invariant-loop-i : goal.invariant-loop-i

@@ -1,7 +1,6 @@
 -- `links::judge_points` meets its contract: the first point, then the last one. Assumes nothing.
 use Rattle.links.specs.Links.{point_checks}
 use Rattle.links.proofs.LineLaws.{part_stops, part_passes}
-use borrow.Author.Rules.{rules}
 use Rattle.links.proofs.judge_points.Goals as goal
 
 pub returns-in-Broken : goal.returns-in-Broken

@@ -2,7 +2,6 @@
 use Rattle.verdict.proofs.Parts.{check_none}
 use Rattle.links.specs.Links.{fifth}
 use Rattle.links.proofs.StageLaws.{points_arm}
-use borrow.Author.Rules.{rules}
 use Rattle.links.proofs.judge_record.Goals as goal
 
 pub returns-in-Mesh : goal.returns-in-Mesh

@@ -1,6 +1,5 @@
 -- `links::judge_side` meets its contract: each way out is one of the laws for a side. Assumes nothing.
 use Rattle.links.proofs.LineLaws.{side_none, side_unnamed, side_unlike, side_fine}
-use borrow.Author.Rules.{rules}
 use Rattle.links.proofs.judge_side.Goals as goal
 
 pub returns-then-is_zero : goal.returns-then-is_zero

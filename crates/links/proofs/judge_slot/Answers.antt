@@ -3,7 +3,6 @@ use mathlib.Core.Path.{sym, ◌∙◌}
 use borrow.Author.Tests.{not-true, not-false}
 use Rattle.records.specs.Columns.{node_entries}
 use Rattle.links.proofs.LineLaws.{slot_told}
-use borrow.Author.Rules.{rules}
 use Rattle.layers.specs.Naming.{names_line}
 use Rattle.links.specs.Links.{meets}
 use Rattle.permitted.specs.Permitted.{is_zero}
@@ -14,36 +13,36 @@ use Rattle.links.proofs.judge_slot.Goals as goal
 pub returns-then-is_zero : goal.returns-then-is_zero
 returns-then-is_zero c =
     let e = c.node_entry-v in
-    slot_none _ _ _ _ _ _ (asked is_zero e.type-inv e.ensures c.is_zero.ensures c.if-is_zero.true)
+    slot_none _ _ _ _ _ _ (asked is_zero e.type_inv e.ensures c.is_zero.ensures c.if-is_zero.true)
 
 pub returns-then-not-names_line : goal.returns-then-not-names_line
 returns-then-not-names_line c =
     let e = c.node_entry-v in
-    slot_eleven _ _ _ _ _ _ (asked is_zero e.type-inv e.ensures c.is_zero.ensures c.if-is_zero.false)
+    slot_eleven _ _ _ _ _ _ (asked is_zero e.type_inv e.ensures c.is_zero.ensures c.if-is_zero.false)
     (slot_told node_entries c.requires.0 c.slot_broken.ensures)
-    (asked (names_line _) e.type-inv e.ensures c.names_line.ensures (not-true _ c.if-not-names_line.true-raw))
+    (asked (names_line _) e.type_inv e.ensures c.names_line.ensures (not-true _ c.if-not-names_line.true-raw))
 
 pub returns-then-not-meets : goal.returns-then-not-meets
 returns-then-not-meets c =
     let e = c.node_entry-v in
-    slot_twelve _ _ _ _ _ _ (asked is_zero e.type-inv e.ensures c.is_zero.ensures c.if-is_zero.false)
-    (asked (names_line _) e.type-inv e.ensures c.names_line.ensures (not-false _ c.if-not-names_line.false-raw))
+    slot_twelve _ _ _ _ _ _ (asked is_zero e.type_inv e.ensures c.is_zero.ensures c.if-is_zero.false)
+    (asked (names_line _) e.type_inv e.ensures c.names_line.ensures (not-false _ c.if-not-names_line.false-raw))
     (slot_told node_entries c.requires.0 c.slot_broken-then-not-meets.ensures)
-    (asked (meets _ _ _ _) e.type-inv e.ensures c.meets.ensures (not-true _ c.if-not-meets.true-raw))
+    (asked (meets _ _ _ _) e.type_inv e.ensures c.meets.ensures (not-true _ c.if-not-meets.true-raw))
 
 pub returns-then-again : goal.returns-then-again
 returns-then-again c =
     let e = c.node_entry-v in
-    slot_thirteen _ _ _ _ _ _ (asked is_zero e.type-inv e.ensures c.is_zero.ensures c.if-is_zero.false)
-    (asked (names_line _) e.type-inv e.ensures c.names_line.ensures (not-false _ c.if-not-names_line.false-raw))
-    (asked (meets _ _ _ _) e.type-inv e.ensures c.meets.ensures (not-false _ c.if-not-meets.false-raw))
+    slot_thirteen _ _ _ _ _ _ (asked is_zero e.type_inv e.ensures c.is_zero.ensures c.if-is_zero.false)
+    (asked (names_line _) e.type_inv e.ensures c.names_line.ensures (not-false _ c.if-not-names_line.false-raw))
+    (asked (meets _ _ _ _) e.type_inv e.ensures c.meets.ensures (not-false _ c.if-not-meets.false-raw))
     (slot_told node_entries c.requires.0 c.slot_broken-then-again.ensures)
     (not-true _ (sym c.requires.1 ∙ c.if-again.true))
 
 pub returns : goal.returns
 returns c =
     let e = c.node_entry-v in
-    slot_fine _ _ _ _ _ _ (asked is_zero e.type-inv e.ensures c.is_zero.ensures c.if-is_zero.false)
-    (asked (names_line _) e.type-inv e.ensures c.names_line.ensures (not-false _ c.if-not-names_line.false-raw))
-    (asked (meets _ _ _ _) e.type-inv e.ensures c.meets.ensures (not-false _ c.if-not-meets.false-raw))
+    slot_fine _ _ _ _ _ _ (asked is_zero e.type_inv e.ensures c.is_zero.ensures c.if-is_zero.false)
+    (asked (names_line _) e.type_inv e.ensures c.names_line.ensures (not-false _ c.if-not-names_line.false-raw))
+    (asked (meets _ _ _ _) e.type_inv e.ensures c.meets.ensures (not-false _ c.if-not-meets.false-raw))
     (not-false _ (sym c.requires.1 ∙ c.if-again.false))

@@ -1,7 +1,6 @@
 -- `links::link_fits` meets its contract: both are 0 or neither. Assumes nothing.
 use mir.Facts.{to_z-of_z}
 use Rattle.links.specs.Links.{link_fits}
-use borrow.Author.Rules.{rules}
 use Rattle.links.proofs.link_fits.Goals as goal
 
 pub returns : goal.returns

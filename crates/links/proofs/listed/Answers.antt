@@ -1,8 +1,6 @@
 use mathlib.Core.Bool.{false}
-use mathlib.Core.Path.{◌≡◌}
-use Prim.Native.Nat.{◌-◌, ◌≤◌}
-use Rattle.links.specs.Links.{some}
-use Rattle.links.proofs.LineLaws.{slot_is, listed_start, listed_hit, listed_pass, listed_done}
+use Prim.Native.Nat.{◌-◌}
+use Rattle.links.proofs.LineLaws.{listed_start, listed_hit, listed_pass, listed_done}
 use borrow.Author.Rules.{rules}
 use Rattle.links.proofs.listed.Goals as goal
 

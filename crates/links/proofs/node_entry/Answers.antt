@@ -1,5 +1,4 @@
 -- `links::node_entry` meets its contract: it reads the slot's own columns. Assumes nothing.
-use borrow.Author.Rules.{rules}
 use Rattle.permitted.proofs.Signs.{passed_on}
 use Rattle.links.specs.Links.{node_entry}
 use Rattle.links.proofs.node_entry.Goals as goal

@@ -1,5 +1,4 @@
 -- `links::on_hand` meets its contract: the sign says which of the two fields it reads. Assumes nothing.
-use borrow.Author.Rules.{rules}
 use Rattle.permitted.specs.Permitted.{natural}
 use Rattle.permitted.proofs.Signs.{own_told, own_asked, passed_on}
 use Rattle.layers.specs.Naming.{line_of}

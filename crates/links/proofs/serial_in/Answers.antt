@@ -1,5 +1,4 @@
 -- `links::serial_in` meets its contract: the number it reads fits, and so its size is that of the file's number. Assumes nothing.
-use borrow.Author.Rules.{rules}
 use Rattle.permitted.specs.Permitted.{size}
 use Rattle.links.proofs.Numbers.{told}
 use Rattle.links.proofs.serial_in.Goals as goal

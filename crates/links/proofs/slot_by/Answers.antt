@@ -1,6 +1,5 @@
 -- `links::slot_by` meets its contract: each arm reads the slots of its owner. Assumes nothing.
 use Rattle.permitted.proofs.Signs.{passed_on}
-use borrow.Author.Rules.{rules}
 use Rattle.links.proofs.slot_by.Goals as goal
 
 pub returns-in-Node : goal.returns-in-Node

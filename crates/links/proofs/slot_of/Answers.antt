@@ -1,7 +1,6 @@
 -- `links::slot_of` meets its contract: the slot's record and columns are the definition's, and a record that the file has not has
 -- no number. Assumes nothing.
 use mathlib.Core.Path.{sym}
-use borrow.Author.Rules.{rules}
 use Rattle.permitted.proofs.Signs.{passed_on}
 use Rattle.links.specs.Links.{loop_entry, slot_of}
 use Rattle.links.proofs.Scans.{slot_past}

@@ -1,8 +1,7 @@
 use native.Mathlib.Omega.{arith}
-use borrow.Author.Rules.{rules}
 use Prim.Native.Nat.{◌-◌}
-use Rattle.layers.proofs.Walks.{Stands, stands, records_are, quiet_most, are_quiet, stands_behind, stands_past, records_past}
-use Rattle.layers.proofs.Stages.{Passed, passed_first, passed_more, passed_past, stage_stops, stage_done}
+use Rattle.layers.proofs.Walks.{stands, records_are, quiet_most, are_quiet, stands_behind, stands_past, records_past}
+use Rattle.layers.proofs.Stages.{passed_first, passed_more, passed_past, stage_stops, stage_done}
 use Rattle.links.specs.Links.{links_at, fifth, stage_four}
 use Rattle.links.proofs.StageLaws.{between_fine}
 use Rattle.links.proofs.stage_four.Goals as goal

@@ -1,6 +1,5 @@
 -- `loops::area_record` meets its contract: the layer's areas are counted from 1, their words from 0. Assumes nothing.
 use Rattle.loops.specs.Loops.{area_record}
-use borrow.Author.Rules.{rules}
 use Rattle.loops.proofs.area_record.Goals as goal
 
 pub returns : goal.returns

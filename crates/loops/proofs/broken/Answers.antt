@@ -1,7 +1,6 @@
 -- `loops::broken` meets its contract: the refusal stands where the slot starts. Assumes nothing.
 use Rattle.records.specs.Columns.{loop_entries}
 use Rattle.links.proofs.LineLaws.{slot_told}
-use borrow.Author.Rules.{rules}
 use Rattle.loops.proofs.broken.Goals as goal
 
 pub returns : goal.returns

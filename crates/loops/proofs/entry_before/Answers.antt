@@ -2,7 +2,6 @@
 use borrow.Author.Tests.{eq-eqb, ne_eqb}
 use Rattle.permitted.proofs.Signs.{passed_on}
 use Rattle.loops.specs.Loops.{entry_before}
-use borrow.Author.Rules.{rules}
 use Rattle.loops.proofs.entry_before.Goals as goal
 
 pub returns-then-e-eq0 : goal.returns-then-e-eq0

@@ -1,7 +1,6 @@
 -- `loops::first_record` meets its contract: both take twelve entries a record. Assumes nothing.
 use borrow.Author.Tests.{lt-ltb, le-ltb}
 use Rattle.loops.specs.Loops.{first_record}
-use borrow.Author.Rules.{rules}
 use Rattle.loops.proofs.first_record.Goals as goal
 
 pub returns-then-left-gt0 : goal.returns-then-left-gt0

@@ -4,7 +4,6 @@ use Rattle.permitted.proofs.Signs.{own_told}
 use Rattle.links.specs.Links.{equal, first_node}
 use Rattle.links.proofs.Numbers.{told, told_both}
 use Rattle.loops.specs.Loops.{last_node, joins}
-use borrow.Author.Rules.{rules}
 use Rattle.loops.proofs.joins.Goals as goal
 
 pub returns : goal.returns

@@ -1,6 +1,5 @@
 -- `loops::judge_loop` meets its contract: the way round comes first, then the slots. Assumes nothing.
 use Rattle.loops.proofs.SlotLaws.{wind_kept, loop_stops, loop_passes}
-use borrow.Author.Rules.{rules}
 use Rattle.loops.proofs.judge_loop.Goals as goal
 
 pub returns-in-Broken : goal.returns-in-Broken

@@ -1,7 +1,6 @@
 -- `loops::judge_record` meets its contract: only a loop record is judged. Assumes nothing.
 use Rattle.verdict.proofs.Parts.{check_none}
 use Rattle.loops.specs.Loops.{sixth}
-use borrow.Author.Rules.{rules}
 use Rattle.loops.proofs.judge_record.Goals as goal
 
 pub returns-in-Mesh : goal.returns-in-Mesh

@@ -4,7 +4,6 @@ use borrow.Author.Tests.{not-true, not-false}
 use Rattle.links.proofs.Scans.{slot_first}
 use Rattle.loops.specs.Loops.{area_on_hand}
 use Rattle.loops.proofs.SlotLaws.{slot_thirteen, slot_none, slot_fifteen, slot_seventeen, slot_fine}
-use borrow.Author.Rules.{rules}
 use Rattle.loops.proofs.judge_slot.Goals as goal
 
 pub returns-then-again : goal.returns-then-again

@@ -1,11 +1,9 @@
-use mathlib.Core.Path.{◌≡◌, sym, ◌∙◌}
-use Prim.Native.Nat.{◌-◌, ◌≤◌}
+use mathlib.Core.Path.{sym, ◌∙◌}
+use Prim.Native.Nat.{◌-◌}
 use borrow.Author.Rules.{rules}
-use Rattle.verdict.specs.declared.Verdict.TheVariants.{Fine}
-use Rattle.verdict.specs.Rules.{first_broken, rows}
 use Rattle.verdict.proofs.Parts.{rows_none, rows_pass}
 use Rattle.links.specs.Links.{slot_of}
-use Rattle.links.proofs.Scans.{repeats_at, goes_past, slot_rules, slots_stop, slots_done}
+use Rattle.links.proofs.Scans.{repeats_at, goes_past, slots_stop, slots_done}
 use Rattle.loops.specs.Loops.{loop_slot, sixth}
 use Rattle.loops.proofs.SlotLaws.{slot_clean}
 use Rattle.loops.proofs.judge_slots.Goals as goal

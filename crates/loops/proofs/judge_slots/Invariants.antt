@@ -1,15 +1,11 @@
 -- `loops::judge_slots` meets its contract: a slot that is fine is clean, so the loop never passes the slot that the scan found. Assumes
 -- nothing.
-use mathlib.Core.Path.{◌≡◌, sym, ◌∙◌}
+use mathlib.Core.Path.{◌≡◌}
 use Prim.Native.Nat.{◌-◌, ◌≤◌}
-use borrow.Author.Rules.{rules}
 use Rattle.verdict.specs.declared.Verdict.TheVariants.{Fine}
 use Rattle.verdict.specs.Rules.{first_broken, rows}
-use Rattle.verdict.proofs.Parts.{rows_none, rows_pass}
-use Rattle.links.specs.Links.{slot_of}
-use Rattle.links.proofs.Scans.{repeats_at, goes_past, slot_rules, slots_stop, slots_done}
+use Rattle.links.proofs.Scans.{slot_rules}
 use Rattle.loops.specs.Loops.{loop_slot, sixth}
-use Rattle.loops.proofs.SlotLaws.{slot_clean}
 use Rattle.loops.proofs.judge_slots.Given as goal
 
 abbrev pub invariant-loop-i : goal.invariant-loop-i

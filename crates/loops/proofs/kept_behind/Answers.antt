@@ -1,6 +1,5 @@
 -- `loops::kept_behind` meets its contract: only an H brings another layer's lines. Assumes nothing.
 use Rattle.loops.proofs.StageLaws.{kept_stays, kept_anew}
-use borrow.Author.Rules.{rules}
 use Rattle.loops.proofs.kept_behind.Goals as goal
 
 pub returns-in-Mesh : goal.returns-in-Mesh

@@ -1,6 +1,5 @@
 -- `loops::known_behind` meets its contract: the slots of an area are looked at behind its A, and its loop records leave them. Assumes nothing.
 use Rattle.loops.proofs.StageLaws.{next_area}
-use borrow.Author.Rules.{rules}
 use Rattle.loops.proofs.known_behind.Goals as goal
 
 pub returns-in-Mesh : goal.returns-in-Mesh

@@ -1,6 +1,5 @@
 -- `loops::mark` meets its contract: the one place that it changes is the entry's. Assumes nothing.
 use native.Mathlib.Omega.{arith}
-use borrow.Author.Rules.{rules}
 use Rattle.permitted.specs.Permitted.{is_zero}
 use Rattle.permitted.proofs.Signs.{own_told, own_asked}
 use Rattle.loops.specs.Scanning.{mark_of}

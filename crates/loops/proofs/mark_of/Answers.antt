@@ -6,7 +6,6 @@ use lib.IntN.{ℤ}
 use mir.Facts.{Fits-nat_abs}
 use mir.Syntax.{w32}
 use mir.Val.{SFits, to_z, of_z}
-use borrow.Author.Rules.{rules}
 use Rattle.permitted.specs.Permitted.{natural, size}
 use Rattle.permitted.proofs.Signs.{own_told, own_asked}
 use Rattle.loops.proofs.mark_of.Goals as goal

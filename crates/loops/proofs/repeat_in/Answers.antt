@@ -1,7 +1,6 @@
 -- `loops::repeat_in` meets its contract: a record whose slots are all known to repeat none needs no scan. Assumes nothing.
 use native.Mathlib.Omega.{arith}
 use Rattle.loops.proofs.Repeats.{repeats_none}
-use borrow.Author.Rules.{rules}
 use Rattle.loops.proofs.repeat_in.Goals as goal
 
 pub returns-then-from-known : goal.returns-then-from-known

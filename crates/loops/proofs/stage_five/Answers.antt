@@ -1,15 +1,12 @@
-use mathlib.Core.Path.{◌≡◌, sym}
-use Prim.Native.Nat.{◌-◌, ◌≤◌, ◌<◌}
+use mathlib.Core.Path.{sym}
+use Prim.Native.Nat.{◌-◌}
 use native.Mathlib.Omega.{arith}
-use lib.ListN.{length, take}
 use lib.Seq.{length-take-le}
 use borrow.Author.Rules.{rules}
 use Rattle.walk.specs.States.{counts_at}
-use Rattle.layers.proofs.Walks.{Stands, stands, records_are, rows_are, stands_behind, stands_past, records_past}
-use Rattle.layers.proofs.Stages.{Passed, passed_first, passed_more, passed_quiet, stage_stops, stage_done}
-use Rattle.entries.specs.Keeping.{Kept}
-use Rattle.loops.specs.Loops.{area_record, areas_at, sixth, stage_five}
-use Rattle.loops.specs.Scanning.{Unrepeated, SoundTable}
+use Rattle.layers.proofs.Walks.{stands, records_are, rows_are, stands_behind, stands_past, records_past}
+use Rattle.layers.proofs.Stages.{passed_first, passed_more, passed_quiet, stage_stops, stage_done}
+use Rattle.loops.specs.Loops.{areas_at, sixth, stage_five}
 use Rattle.loops.proofs.Repeats.{unrepeated_none}
 use Rattle.loops.proofs.StageLaws.{kept_for, kept_next, known_next, quiet_none}
 use Rattle.loops.proofs.stage_five.Goals as goal

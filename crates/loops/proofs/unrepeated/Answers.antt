@@ -1,12 +1,10 @@
 use mathlib.Core.Path.{◌≡◌, refl, ◌∙◌}
-use Prim.Native.Nat.{◌-◌, ◌≤◌}
+use Prim.Native.Nat.{◌-◌}
 use native.Mathlib.Omega.{arith}
 use lib.ListN.{length}
-use borrow.Author.Rules.{rules}
 use borrow.Author.Tests.{not-false}
 use Rattle.permitted.proofs.Signs.{passed_on}
-use Rattle.loops.specs.Scanning.{Unrepeated}
-use Rattle.loops.proofs.Repeats.{Marked, marked_none, unrepeated_none, marked_more, unrepeated_more}
+use Rattle.loops.proofs.Repeats.{marked_none, unrepeated_none, marked_more, unrepeated_more}
 use Rattle.loops.proofs.unrepeated.Goals as goal
 
 pub loop-e-init : goal.loop-e-init

@@ -1,14 +1,10 @@
 -- `loops::unrepeated` meets its contract: each turn leaves the mark of one slot more, and the function answers 0 at an entry whose
 -- place bears the mark already. Assumes nothing.
-use mathlib.Core.Path.{◌≡◌, refl, ◌∙◌}
+use mathlib.Core.Path.{◌≡◌}
 use Prim.Native.Nat.{◌-◌, ◌≤◌}
-use native.Mathlib.Omega.{arith}
 use lib.ListN.{length}
-use borrow.Author.Rules.{rules}
-use borrow.Author.Tests.{not-false}
-use Rattle.permitted.proofs.Signs.{passed_on}
 use Rattle.loops.specs.Scanning.{Unrepeated}
-use Rattle.loops.proofs.Repeats.{Marked, marked_none, unrepeated_none, marked_more, unrepeated_more}
+use Rattle.loops.proofs.Repeats.{Marked}
 use Rattle.loops.proofs.unrepeated.Given as goal
 
 abbrev pub invariant-loop-e : goal.invariant-loop-e

@@ -3,7 +3,6 @@ use mir.Facts.{to_z-of_z}
 use Rattle.permitted.specs.Permitted.{natural}
 use Rattle.permitted.proofs.Signs.{own_asked}
 use Rattle.loops.specs.Loops.{winds}
-use borrow.Author.Rules.{rules}
 use Rattle.loops.proofs.winds.Goals as goal
 
 pub returns-then-natural : goal.returns-then-natural

@@ -1,10 +1,8 @@
 use mathlib.Core.Path.{◌≡◌, sym, ◌∙◌}
-use Prim.Native.Nat.{◌-◌, ◌*◌, ◌≤◌, ◌<◌}
+use Prim.Native.Nat.{◌-◌}
 use native.Mathlib.Omega.{arith}
-use borrow.Author.Rules.{rules}
-use Rattle.measures.specs.Points.{point_by}
 use Rattle.measures.specs.Sound.{added_up}
-use Rattle.measures.specs.Walks.{walk_along, begin}
+use Rattle.measures.specs.Walks.{walk_along}
 use Rattle.records.proofs.Numbers.{record_past}
 use Rattle.measures.proofs.Walking.{one_or_more, turn, sum_back, near_le, line_near, measure_none, measure_is, full}
 use Rattle.measures.proofs.line_measure.Goals as goal

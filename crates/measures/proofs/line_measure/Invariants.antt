@@ -1,14 +1,10 @@
 -- `measures::line_measure` meets its contract. The loop's invariant: the walk has gone along the points that are not left, seven a record.
 -- Assumes nothing.
-use mathlib.Core.Path.{◌≡◌, sym, ◌∙◌}
+use mathlib.Core.Path.{◌≡◌}
 use Prim.Native.Nat.{◌-◌, ◌*◌, ◌≤◌, ◌<◌}
-use native.Mathlib.Omega.{arith}
-use borrow.Author.Rules.{rules}
 use Rattle.measures.specs.Points.{point_by}
 use Rattle.measures.specs.Sound.{added_up}
 use Rattle.measures.specs.Walks.{walk_along, begin}
-use Rattle.records.proofs.Numbers.{record_past}
-use Rattle.measures.proofs.Walking.{one_or_more, turn, sum_back, near_le, line_near, measure_none, measure_is, full}
 use Rattle.measures.proofs.line_measure.Given as goal
 
 abbrev pub invariant-loop-left : goal.invariant-loop-left

@@ -3,7 +3,6 @@ use lib.Dec.{lit≤}
 use mir.Facts.{Fits-32_64}
 use mir.Syntax.{w32}
 use mir.Val.{SFits}
-use borrow.Author.Rules.{rules}
 use Rattle.fields.proofs.Signs.{natural_fits}
 use Rattle.measures.proofs.Walking.{count_below, count_is, count_small}
 use Rattle.measures.proofs.point_count.Goals as goal

@@ -1,5 +1,5 @@
 use mathlib.Core.Path.{◌≡◌, refl, ◌∙◌, ap}
-use Prim.Native.Nat.{◌≤◌, ◌-◌}
+use Prim.Native.Nat.{◌-◌}
 use native.Mathlib.Omega.{arith}
 use mir.Facts.{to_z-of_z}
 use mir.Syntax.{w64}
@@ -45,12 +45,11 @@ step-next-requires c =
 
 pub loop-i-preserved : goal.loop-i-preserved
 unfolding pair_by
-loop-i-preserved c =
-    (
-      omega arith,
-      c.step-next.ensures
-          ∙ rw (x-is (goal.at.loop-i-preserved c).After-coordinate-x, y-is (goal.at.loop-i-preserved c).After-coordinate-y, c.loop-i.invariant.1) (along_next c.args.w (pair_by added_up c.args.s.now) c.loop-i.i),
-    )
+loop-i-preserved c = (
+  omega arith,
+  c.step-next.ensures
+      ∙ rw (x-is (goal.at.loop-i-preserved c).After-coordinate-x, y-is (goal.at.loop-i-preserved c).After-coordinate-y, c.loop-i.invariant.1) (along_next c.args.w (pair_by added_up c.args.s.now) c.loop-i.i),
+)
 
 pub returns : goal.returns
 returns c =

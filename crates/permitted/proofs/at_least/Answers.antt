@@ -1,6 +1,5 @@
 -- `permitted::at_least` meets its contract: its tests are the definition's. Assumes nothing.
 use mir.Facts.{to_z-of_z}
-use borrow.Author.Rules.{rules}
 use Rattle.permitted.proofs.at_least.Goals as goal
 
 pub returns : goal.returns

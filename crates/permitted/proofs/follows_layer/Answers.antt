@@ -1,6 +1,5 @@
 -- `permitted::follows_layer` meets its contract: its tests are the definition's. Assumes nothing.
 use mir.Facts.{to_z-of_z}
-use borrow.Author.Rules.{rules}
 use Rattle.permitted.specs.Permitted.{follows_layer}
 use Rattle.permitted.proofs.follows_layer.Goals as goal
 

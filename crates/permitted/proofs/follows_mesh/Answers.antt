@@ -1,6 +1,5 @@
 -- `permitted::follows_mesh` meets its contract: its tests are the definition's. Assumes nothing.
 use mir.Facts.{to_z-of_z}
-use borrow.Author.Rules.{rules}
 use Rattle.permitted.specs.Permitted.{follows_mesh}
 use Rattle.permitted.proofs.follows_mesh.Goals as goal
 

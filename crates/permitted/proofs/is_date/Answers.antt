@@ -1,6 +1,5 @@
 -- `permitted::is_date` meets its contract: its tests are the definition's. Assumes nothing.
 use mir.Facts.{to_z-of_z}
-use borrow.Author.Rules.{rules}
 use Rattle.permitted.specs.Permitted.{is_date}
 use Rattle.permitted.proofs.is_date.Goals as goal
 

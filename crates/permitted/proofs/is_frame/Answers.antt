@@ -1,7 +1,6 @@
 -- `permitted::is_frame` meets its contract: 1 where the point lies on the frame, else 0. Assumes nothing.
 use mathlib.Core.Path.{◌≡◌, sym, ◌∙◌}
 use mir.Facts.{to_z-of_z}
-use borrow.Author.Rules.{rules}
 use Rattle.permitted.specs.Permitted.{size, on_frame, is_frame}
 use Rattle.permitted.proofs.is_frame.Goals as goal
 use Rattle.permitted.proofs.is_frame.Goals.{After-on_frame}

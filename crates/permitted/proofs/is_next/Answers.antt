@@ -1,7 +1,6 @@
 -- `permitted::is_next` meets its contract: 0 comes behind no serial, and any other number n behind n - 1. Assumes nothing.
 use mathlib.Core.Path.{sym}
 use mir.Facts.{to_z-of_z}
-use borrow.Author.Rules.{rules}
 use Rattle.permitted.specs.Permitted.{natural, is_next}
 use Rattle.permitted.proofs.Matches.{and-false, eqb_before, eqb_zero}
 use Rattle.permitted.proofs.Signs.{sized}

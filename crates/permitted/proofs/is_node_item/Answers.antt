@@ -1,6 +1,5 @@
 -- `permitted::is_node_item` meets its contract: layer 1, layer 5, or neither, which permits none. Assumes nothing.
 use mir.Facts.{to_z-of_z}
-use borrow.Author.Rules.{rules}
 use borrow.Author.Tests.{ne_eqb}
 use Rattle.permitted.specs.Permitted.{is_node_item}
 use Rattle.permitted.proofs.is_node_item.Goals as goal

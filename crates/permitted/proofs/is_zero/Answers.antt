@@ -1,6 +1,5 @@
 -- `permitted::is_zero` meets its contract: the size that it asks for is the definition's. Assumes nothing.
 use mir.Facts.{to_z-of_z}
-use borrow.Author.Rules.{rules}
 use Rattle.permitted.proofs.is_zero.Goals as goal
 
 pub returns : goal.returns

@@ -1,5 +1,4 @@
 -- `permitted::layer_kind` meets its contract: layer 1, layer 5, or neither, which permits none. Assumes nothing.
-use borrow.Author.Rules.{rules}
 use borrow.Author.Tests.{ne_eqb}
 use Rattle.permitted.proofs.layer_kind.Goals as goal
 

@@ -1,6 +1,5 @@
 -- `permitted::of_areas` meets its contract: its test is the definition's. Assumes nothing.
 use mir.Facts.{to_z-of_z}
-use borrow.Author.Rules.{rules}
 use borrow.Author.Tests.{eq-eqb, ne_eqb}
 use Rattle.permitted.specs.Permitted.{of_areas}
 use Rattle.permitted.proofs.of_areas.Goals as goal

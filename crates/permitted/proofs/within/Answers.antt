@@ -1,6 +1,5 @@
 -- `permitted::within` meets its contract: its tests are the definition's. Assumes nothing.
 use mir.Facts.{to_z-of_z}
-use borrow.Author.Rules.{rules}
 use Rattle.permitted.specs.Permitted.{within}
 use Rattle.permitted.proofs.within.Goals as goal
 

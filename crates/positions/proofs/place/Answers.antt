@@ -1,5 +1,4 @@
 -- `positions::place` meets its contract: it computes the definition's own sums, and none of them wraps. Assumes nothing.
-use borrow.Author.Rules.{rules}
 use mathlib.Core.Path.{refl}
 use lib.Ieee.{of_bits, of_int}
 use Rattle.positions.specs.Degrees.{hundredths, two_hundredths, degrees}

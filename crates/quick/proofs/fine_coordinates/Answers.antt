@@ -2,7 +2,6 @@ use mathlib.Core.Path.{◌≡◌, sym, ◌∙◌}
 use Prim.Native.Nat.{◌-◌, ◌≤◌}
 use native.Mathlib.Omega.{arith}
 use lib.Dec.{lit≤}
-use borrow.Author.Rules.{rules}
 use Rattle.glances.proofs.AtGlance.{sure_says, unsure_says}
 use Rattle.quick.proofs.Glancing.{Glancing, glancing, number_glanced, number_above, number_none, all_glanced, blank_broken}
 use Rattle.quick.proofs.fine_coordinates.Goals as goal

@@ -1,8 +1,8 @@
 use mathlib.Core.Path.{◌≡◌, refl, ap, ◌∙◌}
-use Prim.Native.Nat.{◌≤◌, ◌-◌, ◌+◌}
+use Prim.Native.Nat.{◌+◌}
 use native.Mathlib.Omega.{arith}
-use lib.ListN.{length, get_or, take, set, length-set}
-use lib.Seq.{sets, take-length}
+use lib.ListN.{length, get_or, set, length-set}
+use lib.Seq.{take-length}
 use borrow.Author.Rules.{rules}
 use Rattle.record_reader.proofs.Along.{sets_next}
 use Rattle.record_reader.proofs.put_name.Goals as goal

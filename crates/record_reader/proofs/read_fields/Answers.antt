@@ -9,7 +9,7 @@ use Rattle.records.specs.Layout.{layout_of}
 use Rattle.records.specs.declared.Field.TheVariants.{End, Letters, Number, Code, Name, Blank}
 use Rattle.fields.proofs.Places.{inside_bounds}
 use Rattle.records.proofs.Layouts.{Room}
-use Rattle.record_reader.proofs.Along.{Going, start, room, accept, letters_refused, letters_next, number_refused, number_next}
+use Rattle.record_reader.proofs.Along.{start, room, accept, letters_refused, letters_next, number_refused, number_next}
 use Rattle.record_reader.proofs.Along.{name_refused, name_inside, name_next, part_length, blank_refused, blank_next, code_refused, code_next}
 use Rattle.record_reader.proofs.read_fields.Goals as goal
 use Rattle.record_reader.proofs.read_fields.Goals.{In-Blank, In-Code, In-Letters, In-Name, In-Number, In-WellFormed}
@@ -75,7 +75,7 @@ name-bounds : (c : In-WellFormed)
     × (c.in-Name.c - 1 + c.in-Name.w
     ≤ length c.args.s.now)
 name-bounds c =
-    inside_bounds _ _ _ (name_inside _ c.loop-numbers.invariant _ _ (name-is (HELPER c).In-Name) c.read_name-answer.ensures c.in-WellFormed.is)
+    inside_bounds _ _ _ (name_inside _ c.loop-numbers.invariant _ _ (sym c.in-Name.is ∙ c.field_of-f.ensures) c.read_name-answer.ensures c.in-WellFormed.is)
 
 pub loop-numbers-init : goal.loop-numbers-init
 loop-numbers-init c = start _ _
@@ -130,7 +130,7 @@ loop-numbers-smaller-in-Number c = omega (arith, number-room (goal.at.loop-numbe
 
 pub loop-numbers-preserved-in-Number : goal.loop-numbers-preserved-in-Number
 loop-numbers-preserved-in-Number c =
-    rw (to_z-of_z {w = w32} (record { sfits = c.in-Value.known_told-in-Value-1-own.given.0.1 }))
+    rw (to_z-of_z {w = w32} {z = c.in-Value.v} (search rules))
     (number_next _ c.loop-numbers.invariant _ _ (number_is (goal.at.loop-numbers-preserved-in-Number c).In-Number) c.read_number-answer.ensures _ c.in-Value.is)
 
 pub returns-in_default-answer : goal.returns-in_default-answer
@@ -149,11 +149,9 @@ slice_bounds-put_name-end c = let b = name-bounds ((goal.at.slice_bounds-put_nam
 
 pub put_name-longer-requires : goal.put_name-longer-requires
 put_name-longer-requires c =
-    let f = c.f-in-Name-1.given.0 in
-    let a = c.args.s in
     let b = name-bounds (goal.at.put_name-longer-requires c).In-WellFormed in
     let r = name-room (goal.at.put_name-longer-requires c).In-Name in
-    rw (part_length a.now f.0 f.1.0 b.1) (omega arith)
+    rw (part_length c.args.s.now c.in-Name.c c.in-Name.w b.1) (omega arith)
 
 pub overflow_add-m : goal.overflow_add-m
 overflow_add-m c = omega (arith, name-room (goal.at.overflow_add-m c).In-Name)
@@ -215,5 +213,5 @@ loop-numbers-smaller c = omega (arith, code-room (goal.at.loop-numbers-smaller c
 
 pub loop-numbers-preserved : goal.loop-numbers-preserved
 loop-numbers-preserved c =
-    rw (to_z-of_z {w = w32} (record { sfits = c.in-Value-answer.known_told-in-Value-answer-4-1-own.given.0.1 }))
+    rw (to_z-of_z {w = w32} {z = c.in-Value-answer.v} (search rules))
     (code_next _ c.loop-numbers.invariant _ _ (code_is (goal.at.loop-numbers-preserved c).In-Code) c.read_code-answer.ensures _ _ c.in-Value-answer.is)

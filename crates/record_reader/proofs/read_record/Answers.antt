@@ -1,5 +1,4 @@
 -- `record_reader::read_record` meets its contract: its tests are the definition's, in the definition's order. Assumes nothing.
-use borrow.Author.Rules.{rules}
 use borrow.Author.Tests.{eq-eqb, ne_eqb}
 use Rattle.records.specs.Reading.{reading_of}
 use Rattle.record_reader.proofs.read_record.Goals as goal

@@ -1,6 +1,5 @@
 -- `record_writer::may_letter` meets its contract: its tests are the definition's. Assumes nothing.
 use mathlib.Core.Path.{sym}
-use borrow.Author.Rules.{rules}
 use Rattle.record_writer.proofs.may_letter.Goals as goal
 
 pub returns-then-is_head : goal.returns-then-is_head

@@ -1,10 +1,6 @@
-use mathlib.Core.Path.{◌≡◌, refl, sym, ◌∙◌}
-use Prim.Native.Nat.{◌-◌}
+use mathlib.Core.Path.{refl, sym, ◌∙◌}
 use lib.Dec.{eqb}
-use lib.ListN.{length, drop}
-use borrow.Author.Rules.{rules}
 use borrow.Author.Tests.{eq-eqb, ne_eqb}
-use Rattle.records.specs.Writing.{no_bytes}
 use Rattle.record_writer.proofs.Unused.{every_end, every_more, every_stop}
 use Rattle.record_writer.proofs.no_bytes.Goals as goal
 

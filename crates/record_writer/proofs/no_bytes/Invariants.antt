@@ -1,12 +1,8 @@
 -- `record_writer::no_bytes` meets its contract. The loop's invariant: what is left is 0 exactly if the whole is. Assumes nothing.
-use mathlib.Core.Path.{◌≡◌, refl, sym, ◌∙◌}
+use mathlib.Core.Path.{◌≡◌}
 use Prim.Native.Nat.{◌-◌}
-use lib.Dec.{eqb}
 use lib.ListN.{length, drop}
-use borrow.Author.Rules.{rules}
-use borrow.Author.Tests.{eq-eqb, ne_eqb}
 use Rattle.records.specs.Writing.{no_bytes}
-use Rattle.record_writer.proofs.Unused.{every_end, every_more, every_stop}
 use Rattle.record_writer.proofs.no_bytes.Given as goal
 
 abbrev pub invariant-loop-i : goal.invariant-loop-i

@@ -1,9 +1,7 @@
-use mathlib.Core.Path.{◌≡◌, refl, sym, ◌∙◌}
-use Prim.Native.Nat.{◌-◌}
+use mathlib.Core.Path.{refl, sym, ◌∙◌}
 use lib.IntN.{pos}
-use lib.ListN.{length, drop, get_or}
+use lib.ListN.{get_or}
 use borrow.Author.Rules.{rules}
-use Rattle.records.specs.Writing.{no_numbers}
 use Rattle.permitted.specs.Permitted.{is_zero}
 use Rattle.record_writer.proofs.Unused.{every_end, every_more, every_stop, zero_bits, some_bits}
 use Rattle.record_writer.proofs.no_numbers.Goals as goal
@@ -21,7 +19,7 @@ pub loop-i-preserved : goal.loop-i-preserved
 loop-i-preserved c =
     c.loop-i.invariant
     ∙ every_more is_zero c.args.numbers.now c.loop-i.i (pos 0) c.loop-i-test.true
-    (zero_bits (get_or c.args.numbers.now c.loop-i.i (pos 0)) (record { sfits = c.t7-1.given }) c.if-numbers-i-ne0.false)
+    (zero_bits (get_or c.args.numbers.now c.loop-i.i (pos 0)) (search rules) c.if-numbers-i-ne0.false)
 
 pub returns : goal.returns
 returns c = sym (c.loop-i.invariant ∙ every_end is_zero c.args.numbers.now c.loop-i.i (pos 0) c.loop-i-test.false)

@@ -1,12 +1,8 @@
 -- `record_writer::no_numbers` meets its contract. The loop's invariant: what is left is 0 exactly if the whole is. Assumes nothing.
-use mathlib.Core.Path.{◌≡◌, refl, sym, ◌∙◌}
+use mathlib.Core.Path.{◌≡◌}
 use Prim.Native.Nat.{◌-◌}
-use lib.IntN.{pos}
-use lib.ListN.{length, drop, get_or}
-use borrow.Author.Rules.{rules}
+use lib.ListN.{length, drop}
 use Rattle.records.specs.Writing.{no_numbers}
-use Rattle.permitted.specs.Permitted.{is_zero}
-use Rattle.record_writer.proofs.Unused.{every_end, every_more, every_stop, zero_bits, some_bits}
 use Rattle.record_writer.proofs.no_numbers.Given as goal
 
 abbrev pub invariant-loop-i : goal.invariant-loop-i

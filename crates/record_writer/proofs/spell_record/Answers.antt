@@ -1,19 +1,18 @@
 use mathlib.Core.Path.{◌≡◌, refl, sym, ◌∙◌}
-use Prim.Native.Nat.{◌-◌}
 use native.Mathlib.Omega.{arith}
-use lib.ListN.{length, get_or}
+use lib.IntN.{pos}
+use lib.ListN.{get_or}
 use mir.Facts.{to_z-of_z}
 use mir.Syntax.{w32}
 use borrow.Author.Rules.{rules}
-use borrow.Author.Tests.{not-true, not-false}
 use Rattle.records.specs.Layout.{layout_of}
 use Rattle.records.specs.Writing.{mark_fits, of_layer_five, fields_fit, record_bytes}
 use Rattle.records.specs.declared.Field.TheVariants.{End, Letters, Number, Code, Name, Blank}
 use Rattle.records.proofs.Layouts.{Room}
-use Rattle.record_writer.proofs.Lines.{refused_line, Lines, start, room, ends, letters_next}
+use Rattle.record_writer.proofs.Lines.{refused_line, start, room, ends, letters_next}
 use Rattle.record_writer.proofs.Lines.{number_next, number_unfit, name_next, name_unfit, blank_next, mark_unfit, code_next, code_unfit}
 use Rattle.record_writer.proofs.spell_record.Goals as goal
-use Rattle.record_writer.proofs.spell_record.Goals.{After-may_mark, In-Blank, In-Code-unread, In-Letters, In-Name-unread, In-Number}
+use Rattle.record_writer.proofs.spell_record.Goals.{After-may_mark, In-Blank, In-Code, In-Letters, In-Name, In-Number}
 
 -- the field is type letters
 letters-is : (c : In-Letters)
@@ -39,12 +38,12 @@ number-room : (c : In-Number)
 number-room c = room c.loop-line.invariant _ (number_is c) refl
 
 -- the field is a name
-name-is : (c : In-Name-unread)
+name-is : (c : In-Name)
     → Name c.in-Name.c c.in-Name.w
     ≡ get_or (layout_of c.args.r.kind) c.loop-line.j End
 name-is c = sym c.in-Name.is ∙ c.field_of-f.ensures
 
-name-room : (c : In-Name-unread)
+name-room : (c : In-Name)
     → Room (layout_of c.args.r.kind) (Name c.in-Name.c c.in-Name.w)
     c.loop-line.n c.loop-line.m c.loop-line.q c.loop-line.j
 name-room c = room c.loop-line.invariant _ (name-is c) refl
@@ -61,12 +60,12 @@ blank-room : (c : In-Blank)
 blank-room c = room c.loop-line.invariant _ (blank-is c) refl
 
 -- the field is a code
-code_is : (c : In-Code-unread)
+code_is : (c : In-Code)
     → Code c.in-Code.c c.in-Code.w
     ≡ get_or (layout_of c.args.r.kind) c.loop-line.j End
 code_is c = sym c.in-Code.is ∙ c.field_of-f.ensures
 
-code-room : (c : In-Code-unread)
+code-room : (c : In-Code)
     → Room (layout_of c.args.r.kind) (Code c.in-Code.c c.in-Code.w)
     c.loop-line.n c.loop-line.m c.loop-line.q c.loop-line.j
 code-room c = room c.loop-line.invariant _ (code_is c) refl
@@ -75,7 +74,7 @@ code-room c = room c.loop-line.invariant _ (code_is c) refl
 mark-may : (c : After-may_mark)
     → let r = c.args.r in
     c.may_mark.result ≡ mark_fits (of_layer_five r.numbers) (get_or r.marks c.loop-line.q 0)
-mark-may c = rw (c.is.ensures, to_z-of_z {w = w32} (record { sfits = c.is-arg-1.given })) at c.may_mark.ensures
+mark-may c = rw (c.is.ensures, to_z-of_z {w = w32} {z = get_or c.args.r.numbers 0 (pos 0)} (search rules)) at c.may_mark.ensures
 
 pub loop-line-init : goal.loop-line-init
 loop-line-init c = start _ _ _ _ _ _ (search rules) (search rules) (search rules) (search rules)
@@ -126,7 +125,7 @@ pub returns-in_default : goal.returns-in_default
 unfolding fields_fit
 returns-in_default c =
     refused_line _ _
-    (number_unfit c.loop-line.invariant _ _ (number_is (goal.at.returns-in_default c).In-Number) (to_z-of_z {w = w32} (record { sfits = c.write_number-arg-1.given }))
+    (number_unfit c.loop-line.invariant _ _ (number_is (goal.at.returns-in_default c).In-Number) (to_z-of_z {w = w32} {z = get_or c.args.r.numbers c.loop-line.n (pos 0)} (search rules))
     c.write_number-answer.ensures c.in_default.is)
 
 pub overflow_add-n : goal.overflow_add-n
@@ -140,33 +139,34 @@ loop-line-smaller-in-Number c = omega (arith, number-room (goal.at.loop-line-sma
 
 pub loop-line-preserved-in-Number : goal.loop-line-preserved-in-Number
 loop-line-preserved-in-Number c =
-    number_next c.loop-line.invariant _ _ (number_is (goal.at.loop-line-preserved-in-Number c).In-Number) (to_z-of_z {w = w32} (record { sfits = c.write_number-arg-1.given }))
+    number_next c.loop-line.invariant _ _ (number_is (goal.at.loop-line-preserved-in-Number c).In-Number) (to_z-of_z {w = w32} {z = get_or c.args.r.numbers c.loop-line.n (pos 0)} (search rules))
     c.write_number-answer.ensures c.in-Done.is
 
 pub overflow_add-e : goal.overflow_add-e
-overflow_add-e c = omega (arith, name-room (goal.at.overflow_add-e c).In-Name-unread)
+overflow_add-e c =
+    omega (arith, room c.loop-line.invariant (Name c.in-Name.c c.in-Name.w) (sym c.in-Name.is ∙ c.field_of-f.ensures) refl)
 
 pub slice_bounds-write_name-end : goal.slice_bounds-write_name-end
 slice_bounds-write_name-end c = sym c.loop-line.invariant.long
 
 pub slice_bounds-write_name-end-in-Name : goal.slice_bounds-write_name-end-in-Name
-slice_bounds-write_name-end-in-Name c = omega (arith, name-room (goal.at.slice_bounds-write_name-end-in-Name c).In-Name-unread, c.loop-line.invariant.wide)
+slice_bounds-write_name-end-in-Name c = omega (arith, name-room (goal.at.slice_bounds-write_name-end-in-Name c).In-Name, c.loop-line.invariant.wide)
 
 pub returns-in_default-answer : goal.returns-in_default-answer
 unfolding fields_fit
 returns-in_default-answer c =
     refused_line _ _
-    (name_unfit c.loop-line.invariant _ _ (name-is (goal.at.returns-in_default-answer c).In-Name-unread) c.write_name-answer.ensures c.in_default-answer.is)
+    (name_unfit c.loop-line.invariant _ _ (name-is (goal.at.returns-in_default-answer c).In-Name) c.write_name-answer.ensures c.in_default-answer.is)
 
 pub overflow_add-j-in-Name : goal.overflow_add-j-in-Name
-overflow_add-j-in-Name c = omega (arith, name-room (goal.at.overflow_add-j-in-Name c).In-Name-unread)
+overflow_add-j-in-Name c = omega (arith, name-room (goal.at.overflow_add-j-in-Name c).In-Name)
 
 pub loop-line-smaller-in-Name : goal.loop-line-smaller-in-Name
-loop-line-smaller-in-Name c = omega (arith, name-room (goal.at.loop-line-smaller-in-Name c).In-Name-unread)
+loop-line-smaller-in-Name c = omega (arith, name-room (goal.at.loop-line-smaller-in-Name c).In-Name)
 
 pub loop-line-preserved-in-Name : goal.loop-line-preserved-in-Name
 loop-line-preserved-in-Name c =
-    name_next c.loop-line.invariant _ _ (name-is (goal.at.loop-line-preserved-in-Name c).In-Name-unread) c.write_name-answer.ensures c.in-Done-answer.is
+    name_next c.loop-line.invariant _ _ (name-is (goal.at.loop-line-preserved-in-Name c).In-Name) c.write_name-answer.ensures c.in-Done-answer.is
 
 pub slice_bounds-write_blank-end : goal.slice_bounds-write_blank-end
 slice_bounds-write_blank-end c = sym c.loop-line.invariant.long
@@ -182,10 +182,12 @@ loop-line-preserved-in-Blank c =
     blank_next c.loop-line.invariant _ _ (blank-is (goal.at.loop-line-preserved-in-Blank c).In-Blank) c.write_blank.ensures
 
 pub offset_bounds-marks-q : goal.offset_bounds-marks-q
-offset_bounds-marks-q c = omega (arith, code-room (goal.at.offset_bounds-marks-q c).In-Code-unread)
+offset_bounds-marks-q c =
+    omega (arith, room c.loop-line.invariant (Code c.in-Code.c c.in-Code.w) (sym c.in-Code.is ∙ c.field_of-f.ensures) refl)
 
 pub bounds-marks-q : goal.bounds-marks-q
-bounds-marks-q c = omega (arith, code-room (goal.at.bounds-marks-q c).In-Code-unread, c.loop-line.invariant.marked)
+bounds-marks-q c =
+    omega (arith, room c.loop-line.invariant (Code c.in-Code.c c.in-Code.w) (sym c.in-Code.is ∙ c.field_of-f.ensures) refl, c.loop-line.invariant.marked)
 
 pub bounds-numbers-0 : goal.bounds-numbers-0
 bounds-numbers-0 c = omega (arith, c.loop-line.invariant.many)
@@ -193,38 +195,38 @@ bounds-numbers-0 c = omega (arith, c.loop-line.invariant.many)
 pub returns-then-not-may_mark : goal.returns-then-not-may_mark
 unfolding fields_fit
 returns-then-not-may_mark c =
-    refused_line _ _ (mark_unfit c.loop-line.invariant _ _ (code_is (goal.at.returns-then-not-may_mark c).In-Code-unread) refl (mark-may (goal.at.returns-then-not-may_mark c).After-may_mark) (not-true _ c.if-not-may_mark.true-raw))
+    refused_line _ _ (mark_unfit c.loop-line.invariant _ _ (code_is (goal.at.returns-then-not-may_mark c).In-Code) refl (mark-may (goal.at.returns-then-not-may_mark c).After-may_mark) c.if-not-may_mark.true)
 
 pub slice_bounds-write_code-end : goal.slice_bounds-write_code-end
 slice_bounds-write_code-end c = sym c.loop-line.invariant.long
 
 pub offset_bounds-numbers-n-in-Code : goal.offset_bounds-numbers-n-in-Code
-offset_bounds-numbers-n-in-Code c = omega (arith, code-room (goal.at.offset_bounds-numbers-n-in-Code c).In-Code-unread)
+offset_bounds-numbers-n-in-Code c = omega (arith, code-room (goal.at.offset_bounds-numbers-n-in-Code c).In-Code)
 
 pub bounds-numbers-n-in-Code : goal.bounds-numbers-n-in-Code
 bounds-numbers-n-in-Code c =
-    omega (arith, code-room (goal.at.bounds-numbers-n-in-Code c).In-Code-unread, c.loop-line.invariant.many)
+    omega (arith, code-room (goal.at.bounds-numbers-n-in-Code c).In-Code, c.loop-line.invariant.many)
 
 pub returns-in_default-answer-2 : goal.returns-in_default-answer-2
 unfolding fields_fit
 returns-in_default-answer-2 c =
     refused_line _ _
-    (code_unfit c.loop-line.invariant _ _ (code_is (goal.at.returns-in_default-answer-2 c).In-Code-unread) refl (mark-may (goal.at.returns-in_default-answer-2 c).After-may_mark) (not-false _ c.if-not-may_mark.false-raw)
-    (to_z-of_z {w = w32} (record { sfits = c.write_code-arg-1.given })) c.write_code-answer.ensures c.in_default-answer-2.is)
+    (code_unfit c.loop-line.invariant _ _ (code_is (goal.at.returns-in_default-answer-2 c).In-Code) refl (mark-may (goal.at.returns-in_default-answer-2 c).After-may_mark) c.if-not-may_mark.false
+    (to_z-of_z {w = w32} {z = get_or c.args.r.numbers c.loop-line.n (pos 0)} (search rules)) c.write_code-answer.ensures c.in_default-answer-2.is)
 
 pub overflow_add-n-in-Code : goal.overflow_add-n-in-Code
-overflow_add-n-in-Code c = omega (arith, code-room (goal.at.overflow_add-n-in-Code c).In-Code-unread)
+overflow_add-n-in-Code c = omega (arith, code-room (goal.at.overflow_add-n-in-Code c).In-Code)
 
 pub overflow_add-q : goal.overflow_add-q
-overflow_add-q c = omega (arith, code-room (goal.at.overflow_add-q c).In-Code-unread)
+overflow_add-q c = omega (arith, code-room (goal.at.overflow_add-q c).In-Code)
 
 pub overflow_add-j-in-Code : goal.overflow_add-j-in-Code
-overflow_add-j-in-Code c = omega (arith, code-room (goal.at.overflow_add-j-in-Code c).In-Code-unread)
+overflow_add-j-in-Code c = omega (arith, code-room (goal.at.overflow_add-j-in-Code c).In-Code)
 
 pub loop-line-smaller : goal.loop-line-smaller
-loop-line-smaller c = omega (arith, code-room (goal.at.loop-line-smaller c).In-Code-unread)
+loop-line-smaller c = omega (arith, code-room (goal.at.loop-line-smaller c).In-Code)
 
 pub loop-line-preserved : goal.loop-line-preserved
 loop-line-preserved c =
-    code_next c.loop-line.invariant _ _ (code_is (goal.at.loop-line-preserved c).In-Code-unread) refl (mark-may (goal.at.loop-line-preserved c).After-may_mark) (not-false _ c.if-not-may_mark.false-raw)
-    (to_z-of_z {w = w32} (record { sfits = c.write_code-arg-1.given })) c.write_code-answer.ensures c.in-Done-answer-2.is
+    code_next c.loop-line.invariant _ _ (code_is (goal.at.loop-line-preserved c).In-Code) refl (mark-may (goal.at.loop-line-preserved c).After-may_mark) c.if-not-may_mark.false
+    (to_z-of_z {w = w32} {z = get_or c.args.r.numbers c.loop-line.n (pos 0)} (search rules)) c.write_code-answer.ensures c.in-Done-answer-2.is

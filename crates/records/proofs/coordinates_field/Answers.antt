@@ -1,6 +1,5 @@
 -- `records::coordinates_field` meets its contract: each arm is the layout's field, and past the last there is none. Assumes nothing.
 use native.Mathlib.Omega.{arith}
-use borrow.Author.Rules.{rules}
 use Rattle.records.specs.Layout.{coordinates_layout}
 use Rattle.records.proofs.Layouts.{past_end, coordinate_laid}
 use Rattle.records.proofs.coordinates_field.Goals as goal

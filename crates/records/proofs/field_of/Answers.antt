@@ -1,5 +1,4 @@
 -- `records::field_of` meets its contract, kind by kind. Assumes nothing.
-use borrow.Author.Rules.{rules}
 use Rattle.records.specs.Layout.{layout_of}
 use Rattle.records.proofs.field_of.Goals as goal
 

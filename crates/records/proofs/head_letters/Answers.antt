@@ -1,7 +1,6 @@
 -- `records::head_letters` meets its contract: its test is the definition's, and past the end there is no byte. Assumes nothing.
 use lib.ListN.{get_or-eq_default}
 use native.Mathlib.Omega.{arith}
-use borrow.Author.Rules.{rules}
 use borrow.Author.Tests.{eq-eqb, ne_eqb}
 use Rattle.records.specs.Reading.{head_letters}
 use Rattle.records.proofs.head_letters.Goals as goal

@@ -1,7 +1,6 @@
 -- `records::in_layer_five` meets its contract: an ill-formed layer code is not 5. Assumes nothing.
 use mir.Facts.{to_z-of_z}
 use mir.Syntax.{w32}
-use borrow.Author.Rules.{rules}
 use Rattle.records.proofs.Codes.{layer_none, layer_said}
 use Rattle.records.proofs.in_layer_five.Goals as goal
 

@@ -1,6 +1,5 @@
 -- `records::letters_in` meets its contract: its test is the definition's. Assumes nothing.
 use mathlib.Core.Path.{sym}
-use borrow.Author.Rules.{rules}
 use Rattle.records.proofs.letters_in.Goals as goal
 
 pub returns-then-is_head : goal.returns-then-is_head

@@ -1,7 +1,6 @@
 -- `records::loop_field` meets its contract: each arm is the layout's field, and past the last there is none. Assumes nothing.
 use mathlib.Core.Path.{refl}
 use native.Mathlib.Omega.{arith}
-use borrow.Author.Rules.{rules}
 use Rattle.records.specs.Layout.{loop_layout}
 use Rattle.records.proofs.Layouts.{past_end, in_row}
 use Rattle.records.proofs.loop_field.Goals as goal

@@ -1,7 +1,6 @@
 -- `records::node_field` meets its contract: each arm is the layout's field, and past the last there is none. Assumes nothing.
 use mathlib.Core.Path.{refl}
 use native.Mathlib.Omega.{arith}
-use borrow.Author.Rules.{rules}
 use Rattle.records.specs.Layout.{node_layout}
 use Rattle.records.proofs.Layouts.{above, beyond, past_end, in_row}
 use Rattle.records.proofs.node_field.Goals as goal

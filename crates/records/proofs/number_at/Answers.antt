@@ -4,7 +4,6 @@ use mir.Syntax.{w32}
 use mathlib.Core.Path.{sym, ◌∙◌}
 use native.Mathlib.Omega.{arith}
 use mir.Facts.{to_z-of_z}
-use borrow.Author.Rules.{rules}
 use Rattle.records.proofs.Numbers.{record_none, record_past, number_none, number_before, number_past, number_there}
 use Rattle.records.proofs.number_at.Goals as goal
 

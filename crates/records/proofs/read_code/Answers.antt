@@ -2,7 +2,6 @@
 use mir.Facts.{to_z-of_z}
 use mir.Syntax.{w32}
 use borrow.Author.Tests.{not-true, not-false}
-use borrow.Author.Rules.{rules}
 use Rattle.records.proofs.Codes.{code_none, code_plain, code_elsewhere, code_land}
 use Rattle.records.proofs.read_code.Goals as goal
 

@@ -1,7 +1,6 @@
 -- `records::record_view` meets its contract: the two tests are the definition's, and the part is 74 bytes. Assumes nothing.
 use mathlib.Core.Path.{sym}
 use native.Mathlib.Omega.{arith}
-use borrow.Author.Rules.{rules}
 use Rattle.records.proofs.Numbers.{record_none, record_past, record_there}
 use Rattle.records.proofs.record_view.Goals as goal
 

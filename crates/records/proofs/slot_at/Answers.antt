@@ -2,7 +2,6 @@
 use mir.Syntax.{w32}
 use mathlib.Core.Path.{◌∙◌}
 use mir.Facts.{to_z-of_z}
-use borrow.Author.Rules.{rules}
 use Rattle.records.proofs.slot_at.Goals as goal
 
 pub returns : goal.returns

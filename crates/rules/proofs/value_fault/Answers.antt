@@ -1,5 +1,4 @@
 -- `rules::value_fault` meets its contract: each kind's function answers for its list. Assumes nothing.
-use borrow.Author.Rules.{rules}
 use Rattle.rules.specs.Checks.{asks_of}
 use Rattle.rules.proofs.value_fault.Goals as goal
 

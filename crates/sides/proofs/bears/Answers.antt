@@ -1,7 +1,6 @@
 -- `sides::bears` meets its contract: its tests are the definition's, in the same order. Assumes nothing.
 use borrow.Author.Tests.{lt-ltb, le-ltb, lt-leb, le-leb}
 use Rattle.sides.specs.Marking.{bears}
-use borrow.Author.Rules.{rules}
 use Rattle.sides.proofs.bears.Goals as goal
 
 pub returns-then-n-gt999999 : goal.returns-then-n-gt999999

@@ -1,7 +1,6 @@
 -- `sides::has_entry` meets its contract: a mark is true, and without one the search answers. Assumes nothing.
 use mathlib.Core.Path.{sym, ◌∙◌}
 use Rattle.sides.proofs.Marked.{bears_listed}
-use borrow.Author.Rules.{rules}
 use Rattle.sides.proofs.has_entry.Goals as goal
 
 pub returns-then-bears : goal.returns-then-bears

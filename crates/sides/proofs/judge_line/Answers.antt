@@ -1,7 +1,6 @@
 -- `sides::judge_line` meets its contract: each way out is one of the laws for a line. Assumes nothing.
 use mathlib.Core.Path.{◌∙◌}
 use Rattle.sides.proofs.StageLaws.{line_left, line_right, line_fine}
-use borrow.Author.Rules.{rules}
 use Rattle.sides.proofs.judge_line.Goals as goal
 
 pub returns-then-not-side_listed : goal.returns-then-not-side_listed

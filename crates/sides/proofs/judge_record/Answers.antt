@@ -3,7 +3,6 @@ use native.Mathlib.Omega.{arith}
 use Rattle.verdict.proofs.Parts.{check_none}
 use Rattle.sides.specs.Sides.{seventh}
 use Rattle.sides.proofs.StageLaws.{line_countable}
-use borrow.Author.Rules.{rules}
 use Rattle.sides.proofs.judge_record.Goals as goal
 
 pub overflow_add-last : goal.overflow_add-last

@@ -3,10 +3,8 @@
 use mathlib.Core.Bool.{false}
 use mathlib.Core.Path.{◌≡◌}
 use Prim.Native.Nat.{◌-◌, ◌≤◌}
-use native.Mathlib.Omega.{arith}
 use Rattle.links.specs.Links.{some}
-use Rattle.sides.proofs.Marked.{slot_is, area_there, lists_start, lists_hit, lists_pass, lists_done}
-use borrow.Author.Rules.{rules}
+use Rattle.sides.proofs.Marked.{slot_is}
 use Rattle.sides.proofs.lists.Given as goal
 
 abbrev pub invariant-loop-e : goal.invariant-loop-e

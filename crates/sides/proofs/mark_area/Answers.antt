@@ -1,10 +1,7 @@
-use mathlib.Core.Path.{◌≡◌, refl, ◌∙◌}
+use mathlib.Core.Path.{refl, ◌∙◌}
 use Prim.Native.Nat.{◌-◌}
 use native.Mathlib.Omega.{arith}
-use lib.ListN.{length}
-use Rattle.sides.specs.Marking.{Marks}
 use Rattle.sides.proofs.Marked.{area_there, marked_small, marked_more}
-use borrow.Author.Rules.{rules}
 use Rattle.sides.proofs.mark_area.Goals as goal
 
 pub loop-e-init : goal.loop-e-init
@@ -17,12 +14,11 @@ pub mark_at-requires : goal.mark_at-requires
 mark_at-requires c = marked_small _ _ _ c.slot_of-v.type_inv c.slot_of-v.ensures c.size.ensures
 
 pub loop-e-preserved : goal.loop-e-preserved
-loop-e-preserved c =
-    (
-      c.put_mark.auto.0 ∙ c.loop-e.invariant.0,
-      marked_more _ _ _ c.slot_of-v.type_inv c.slot_of-v.ensures c.size.ensures c.natural.ensures
-          c.mark_at.ensures c.area_slots-n.ensures.0 c.loop-e-test.true c.loop-e.invariant.1 c.put_mark.ensures,
-    )
+loop-e-preserved c = (
+  c.put_mark.auto.marks ∙ c.loop-e.invariant.0,
+  marked_more _ _ _ c.slot_of-v.type_inv c.slot_of-v.ensures c.size.ensures c.natural.ensures
+      c.mark_at.ensures c.area_slots-n.ensures.0 c.loop-e-test.true c.loop-e.invariant.1 c.put_mark.ensures,
+)
 
 pub shape_of-marks : goal.shape_of-marks
 shape_of-marks c = c.loop-e.invariant.0

@@ -1,11 +1,8 @@
 -- `sides::mark_area` meets its contract: each turn marks the entry of a slot, which the area lists. Assumes nothing.
-use mathlib.Core.Path.{◌≡◌, refl, ◌∙◌}
+use mathlib.Core.Path.{◌≡◌}
 use Prim.Native.Nat.{◌-◌}
-use native.Mathlib.Omega.{arith}
 use lib.ListN.{length}
 use Rattle.sides.specs.Marking.{Marks}
-use Rattle.sides.proofs.Marked.{area_there, marked_small, marked_more}
-use borrow.Author.Rules.{rules}
 use Rattle.sides.proofs.mark_area.Given as goal
 
 abbrev pub invariant-loop-e : goal.invariant-loop-e

@@ -1,6 +1,5 @@
 -- `sides::mark_at` meets its contract: an entry that is walked backwards stands one place further. Assumes nothing.
 use native.Mathlib.Omega.{arith}
-use borrow.Author.Rules.{rules}
 use Rattle.sides.proofs.mark_at.Goals as goal
 
 pub returns-then-back : goal.returns-then-back

@@ -1,8 +1,5 @@
-use mathlib.Core.Path.{◌≡◌, refl, ◌∙◌}
+use mathlib.Core.Path.{refl, ◌∙◌}
 use Prim.Native.Nat.{◌-◌}
-use lib.ListN.{length}
-use Rattle.sides.specs.Marking.{Marks}
-use borrow.Author.Rules.{rules}
 use Rattle.sides.proofs.mark_layer.Goals as goal
 
 pub loop-i-init : goal.loop-i-init
@@ -13,7 +10,7 @@ mark_area-requires c = c.loop-i.invariant.1
 
 pub loop-i-preserved : goal.loop-i-preserved
 loop-i-preserved c =
-    (c.mark_area.auto.1.1.0 ∙ c.loop-i.invariant.0, c.mark_area.ensures)
+    (c.mark_area.auto.marks ∙ c.loop-i.invariant.0, c.mark_area.ensures)
 
 pub shape_of-marks : goal.shape_of-marks
 shape_of-marks c = c.loop-i.invariant.0

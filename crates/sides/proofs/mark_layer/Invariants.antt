@@ -1,9 +1,8 @@
 -- `sides::mark_layer` meets its contract: each turn marks an area, which keeps the marks true. Assumes nothing.
-use mathlib.Core.Path.{◌≡◌, refl, ◌∙◌}
+use mathlib.Core.Path.{◌≡◌}
 use Prim.Native.Nat.{◌-◌}
 use lib.ListN.{length}
 use Rattle.sides.specs.Marking.{Marks}
-use borrow.Author.Rules.{rules}
 use Rattle.sides.proofs.mark_layer.Given as goal
 
 abbrev pub invariant-loop-i : goal.invariant-loop-i

@@ -1,7 +1,6 @@
 -- `sides::put_mark` meets its contract: it asks whether there is the place, as the definition does. Assumes nothing.
 use borrow.Author.Tests.{lt-ltb, le-ltb}
 use Rattle.sides.specs.Marking.{put_mark}
-use borrow.Author.Rules.{rules}
 use Rattle.sides.proofs.put_mark.Goals as goal
 
 pub returns-then-i-marks : goal.returns-then-i-marks

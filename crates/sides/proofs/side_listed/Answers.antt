@@ -1,6 +1,5 @@
 -- `sides::side_listed` meets its contract: its two ways out are the definition's. Assumes nothing.
 use Rattle.sides.proofs.StageLaws.{side_none, side_area}
-use borrow.Author.Rules.{rules}
 use Rattle.sides.proofs.side_listed.Goals as goal
 
 pub returns-then-is_zero : goal.returns-then-is_zero

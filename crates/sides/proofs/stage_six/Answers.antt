@@ -1,12 +1,10 @@
-use mathlib.Core.Path.{◌≡◌, sym, ◌∙◌}
+use mathlib.Core.Path.{sym, ◌∙◌}
 use Prim.Native.Nat.{ℕ, ◌-◌}
 use native.Mathlib.Omega.{arith}
-use lib.ListN.{length, length-replicate}
-use borrow.Author.Rules.{rules}
-use Rattle.layers.proofs.Walks.{Stands, stands, records_are, state_is, stands_behind, stands_past, records_past}
-use Rattle.layers.proofs.Stages.{Passed, passed_first, passed_more, passed_quiet, stage_stops, stage_done}
+use lib.ListN.{length-replicate}
+use Rattle.layers.proofs.Walks.{stands, records_are, state_is, stands_behind, stands_past, records_past}
+use Rattle.layers.proofs.Stages.{passed_first, passed_more, passed_quiet, stage_stops, stage_done}
 use Rattle.sides.specs.Sides.{sides_at, seventh, stage_six}
-use Rattle.sides.specs.Marking.{Marks}
 use Rattle.sides.proofs.Marked.{no_marks}
 use Rattle.sides.proofs.StageLaws.{due_countable, quiet_none}
 use Rattle.sides.proofs.stage_six.Goals as goal
@@ -56,7 +54,7 @@ loop-x-preserved c =
       stands_past _ _ _ p _ c.past_quiet-x.ensures,
       passed_quiet seventh (sides_at _ _) _ _ _ p.here _ c.past_quiet-x.ensures (quiet_none _ _) f,
       c.mark_behind.ensures,
-      c.mark_behind.auto.1.1.1.1.0 ∙ c.loop-x.invariant.3,
+      c.mark_behind.auto.marks ∙ c.loop-x.invariant.3,
     )
 
 pub returns : goal.returns

@@ -1,8 +1,5 @@
-use mathlib.Core.Path.{◌≡◌, refl, sym, ◌∙◌}
-use Prim.Native.Nat.{◌≤◌, ◌-◌}
-use lib.ListN.{length, drop}
+use mathlib.Core.Path.{refl, sym, ◌∙◌}
 use borrow.Author.Rules.{rules}
-use Rattle.fields.specs.Text.{is_blanks}
 use Rattle.texts.proofs.TextSteps.{blank_end, blank_more, blank_stop}
 use Rattle.texts.proofs.blanks.Goals as goal
 

@@ -1,10 +1,8 @@
 -- `texts::blanks` meets its contract. The loop's invariant: what is left is spaces exactly if the whole is. Assumes nothing.
-use mathlib.Core.Path.{◌≡◌, refl, sym, ◌∙◌}
+use mathlib.Core.Path.{◌≡◌}
 use Prim.Native.Nat.{◌≤◌, ◌-◌}
 use lib.ListN.{length, drop}
-use borrow.Author.Rules.{rules}
 use Rattle.fields.specs.Text.{is_blanks}
-use Rattle.texts.proofs.TextSteps.{blank_end, blank_more, blank_stop}
 use Rattle.texts.proofs.blanks.Given as goal
 
 abbrev pub invariant-loop-i : goal.invariant-loop-i

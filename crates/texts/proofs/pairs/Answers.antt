@@ -1,9 +1,6 @@
-use mathlib.Core.Path.{◌≡◌, refl, sym, ◌∙◌}
-use Prim.Native.Nat.{◌≤◌, ◌-◌}
-use lib.ListN.{length, drop}
+use mathlib.Core.Path.{refl, sym, ◌∙◌}
 use borrow.Author.Rules.{rules}
 use borrow.Author.Tests.{not-true, not-false}
-use Rattle.fields.specs.Text.{is_name}
 use Rattle.texts.proofs.TextSteps.{name_end, name_odd, name_pair}
 use Rattle.texts.proofs.pairs.Goals as goal
 

@@ -1,11 +1,8 @@
 -- `texts::pairs` meets its contract. The loop's invariant: what is left is a name exactly if the whole is. Assumes nothing.
-use mathlib.Core.Path.{◌≡◌, refl, sym, ◌∙◌}
+use mathlib.Core.Path.{◌≡◌}
 use Prim.Native.Nat.{◌≤◌, ◌-◌}
 use lib.ListN.{length, drop}
-use borrow.Author.Rules.{rules}
-use borrow.Author.Tests.{not-true, not-false}
 use Rattle.fields.specs.Text.{is_name}
-use Rattle.texts.proofs.TextSteps.{name_end, name_odd, name_pair}
 use Rattle.texts.proofs.pairs.Given as goal
 
 abbrev pub invariant-loop-i : goal.invariant-loop-i

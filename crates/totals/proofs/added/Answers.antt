@@ -1,7 +1,6 @@
 -- `totals::added` meets its contract: each arm adds what its kind adds. Assumes nothing.
 use mathlib.Core.Path.{◌∙◌}
 use Rattle.totals.proofs.Summing.{later_loop}
-use borrow.Author.Rules.{rules}
 use Rattle.totals.proofs.added.Goals as goal
 
 pub returns-then-left-eq0 : goal.returns-then-left-eq0

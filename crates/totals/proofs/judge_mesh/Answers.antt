@@ -1,7 +1,6 @@
 -- `totals::judge_mesh` meets its contract: four totals in a row, the first broken one returned. Assumes nothing.
 use Rattle.verdict.proofs.Parts.{part_stops, part_passes}
 use Rattle.totals.specs.Totals.{mesh_totals, fourth}
-use borrow.Author.Rules.{rules}
 use Rattle.totals.proofs.judge_mesh.Goals as goal
 
 pub returns-in-Broken : goal.returns-in-Broken

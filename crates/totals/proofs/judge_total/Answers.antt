@@ -1,6 +1,5 @@
 -- `totals::judge_total` meets its contract: one check, broken or kept. Assumes nothing.
 use Rattle.totals.proofs.Summing.{total_kept, total_broken}
-use borrow.Author.Rules.{rules}
 use Rattle.totals.proofs.judge_total.Goals as goal
 
 pub returns-then-size_at-counted : goal.returns-then-size_at-counted

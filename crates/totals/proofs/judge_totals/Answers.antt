@@ -2,7 +2,6 @@
 use Rattle.verdict.proofs.Parts.{check_none}
 use Rattle.totals.specs.Totals.{fourth}
 use Rattle.totals.proofs.Summing.{mesh_arm, layer_arm, area_arm}
-use borrow.Author.Rules.{rules}
 use Rattle.totals.proofs.judge_totals.Goals as goal
 
 pub returns-in-Mesh : goal.returns-in-Mesh

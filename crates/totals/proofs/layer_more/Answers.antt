@@ -1,5 +1,4 @@
 -- `totals::layer_more` meets its contract: each sum takes its own total. Assumes nothing.
-use borrow.Author.Rules.{rules}
 use Rattle.totals.proofs.layer_more.Goals as goal
 
 pub returns : goal.returns

@@ -1,5 +1,4 @@
 -- `totals::loop_more` meets its contract: the line count is added. Assumes nothing.
-use borrow.Author.Rules.{rules}
 use Rattle.totals.proofs.loop_more.Goals as goal
 
 pub returns : goal.returns

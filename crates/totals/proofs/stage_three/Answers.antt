@@ -1,15 +1,12 @@
-use mathlib.Core.Path.{◌≡◌, ◌∙◌}
-use Prim.Native.Nat.{◌-◌, ◌≤◌}
+use mathlib.Core.Path.{◌∙◌}
+use Prim.Native.Nat.{◌-◌}
 use native.Mathlib.Nat.{le_refl}
 use native.Mathlib.Omega.{arith}
 use borrow.Author.Rules.{rules}
-use Rattle.verdict.specs.declared.Verdict.TheVariants.{Fine}
-use Rattle.verdict.specs.Rules.{first_broken, rows}
 use Rattle.verdict.proofs.Parts.{rows_none, rows_pass}
-use Rattle.walk.specs.States.{state_at}
 use Rattle.walk.proofs.Walking.{at_none, next_state}
 use Rattle.walk.proofs.Passing.{pass_most, pass_are_quiet, passed_state}
-use Rattle.totals.proofs.Summing.{totals_of, rule_is, three_quiet, three_stops, three_done}
+use Rattle.totals.proofs.Summing.{rule_is, three_quiet, three_stops, three_done}
 use Rattle.totals.proofs.stage_three.Goals as goal
 
 pub loop-k-init : goal.loop-k-init

@@ -1,16 +1,10 @@
 -- `totals::stage_three` meets its contract: the loop leaves at the first broken total, and quiet records have none. Assumes nothing.
-use mathlib.Core.Path.{◌≡◌, ◌∙◌}
+use mathlib.Core.Path.{◌≡◌}
 use Prim.Native.Nat.{◌-◌, ◌≤◌}
-use native.Mathlib.Nat.{le_refl}
-use native.Mathlib.Omega.{arith}
-use borrow.Author.Rules.{rules}
 use Rattle.verdict.specs.declared.Verdict.TheVariants.{Fine}
 use Rattle.verdict.specs.Rules.{first_broken, rows}
-use Rattle.verdict.proofs.Parts.{rows_none, rows_pass}
 use Rattle.walk.specs.States.{state_at}
-use Rattle.walk.proofs.Walking.{at_none, next_state}
-use Rattle.walk.proofs.Passing.{pass_most, pass_are_quiet, passed_state}
-use Rattle.totals.proofs.Summing.{totals_of, rule_is, three_quiet, three_stops, three_done}
+use Rattle.totals.proofs.Summing.{totals_of}
 use Rattle.totals.proofs.stage_three.Given as goal
 
 abbrev pub invariant-loop-k : goal.invariant-loop-k

@@ -1,14 +1,9 @@
-use Prim.Native.Nat.{◌-◌, ◌≤◌}
-use mathlib.Core.Path.{◌≡◌, ◌∙◌}
+use Prim.Native.Nat.{◌-◌}
+use mathlib.Core.Path.{◌∙◌}
 use native.Mathlib.Nat.{le_refl}
 use native.Mathlib.Omega.{arith}
-use borrow.Author.Rules.{rules}
-use Rattle.walk.specs.States.{state_at}
-use Rattle.walk.specs.Stages.{records_of}
 use Rattle.walk.proofs.Walking.{next_state}
 use Rattle.walk.proofs.Passing.{pass_most, pass_are_quiet, passed_state}
-use Rattle.totals.specs.Totals.{sums_from, sums_behind}
-use Rattle.totals.specs.Adding.{Addable}
 use Rattle.totals.proofs.Summing.{none_addable, most_addable, more_addable, quiet_addable, sums_start, sums_stop, sums_more, sums_quiet, sums_end}
 use Rattle.totals.proofs.sums_behind.Goals as goal
 

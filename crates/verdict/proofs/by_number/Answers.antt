@@ -1,5 +1,4 @@
 -- `verdict::by_number` meets its contract: each case has its numbers. Assumes nothing.
-use borrow.Author.Rules.{rules}
 use Rattle.verdict.proofs.by_number.Goals as goal
 
 pub returns-in-Fine : goal.returns-in-Fine

@@ -1,5 +1,4 @@
 -- `walk::behind_layer` meets its contract: each part of it is the definition's. Assumes nothing.
-use borrow.Author.Rules.{rules}
 use Rattle.walk.proofs.behind_layer.Goals as goal
 
 pub returns : goal.returns

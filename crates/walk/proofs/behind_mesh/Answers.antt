@@ -1,5 +1,4 @@
 -- `walk::behind_mesh` meets its contract: each field of it is the definition's. Assumes nothing.
-use borrow.Author.Rules.{rules}
 use Rattle.walk.proofs.behind_mesh.Goals as goal
 
 pub returns : goal.returns

@@ -1,5 +1,4 @@
 -- `walk::counted` meets its contract: one way for each kind that can be due. Assumes nothing.
-use borrow.Author.Rules.{rules}
 use Rattle.walk.specs.States.{layer_words}
 use Rattle.walk.proofs.counted.Goals as goal
 

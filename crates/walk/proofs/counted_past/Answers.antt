@@ -1,5 +1,4 @@
 -- `walk::counted_past` meets its contract: nodes are counted, coordinates are not. Assumes nothing.
-use borrow.Author.Rules.{rules}
 use borrow.Author.Tests.{le-ltb}
 use Rattle.walk.proofs.Passing.{past_same}
 use Rattle.walk.proofs.counted_past.Goals as goal

@@ -1,11 +1,9 @@
 use mathlib.Core.Path.{◌≡◌}
-use Prim.Native.Nat.{◌+◌, ◌-◌, ◌≤◌, ◌<◌}
+use Prim.Native.Nat.{◌-◌, ◌<◌}
 use native.Mathlib.Omega.{arith}
 use lib.Dec.{ltb}
-use borrow.Author.Rules.{rules}
 use borrow.Author.Tests.{ltb-true, not-true, not-false}
 use Rattle.verdict.proofs.Orders.{and_both}
-use Rattle.walk.specs.Quiet.{fine_ahead}
 use Rattle.walk.proofs.Passing.{ahead_next, ahead_stops, ahead_ends}
 use Rattle.walk.proofs.fine_ahead.Goals as goal
 use Rattle.walk.proofs.fine_ahead.Goals.{In-loop-i}

@@ -1,14 +1,8 @@
 -- `walk::fine_ahead` meets its contract: the records found so far, and what is ahead of the one behind them, are what was ahead of the
 -- first. Assumes nothing.
 use mathlib.Core.Path.{◌≡◌}
-use Prim.Native.Nat.{◌+◌, ◌-◌, ◌≤◌, ◌<◌}
-use native.Mathlib.Omega.{arith}
-use lib.Dec.{ltb}
-use borrow.Author.Rules.{rules}
-use borrow.Author.Tests.{ltb-true, not-true, not-false}
-use Rattle.verdict.proofs.Orders.{and_both}
+use Prim.Native.Nat.{◌+◌, ◌-◌, ◌≤◌}
 use Rattle.walk.specs.Quiet.{fine_ahead}
-use Rattle.walk.proofs.Passing.{ahead_next, ahead_stops, ahead_ends}
 use Rattle.walk.proofs.fine_ahead.Given as goal
 
 abbrev pub invariant-loop-i : goal.invariant-loop-i

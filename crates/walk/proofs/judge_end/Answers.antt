@@ -1,5 +1,4 @@
 -- `walk::judge_end` meets its contract: its tests are the checks, in their order. Assumes nothing.
-use borrow.Author.Rules.{rules}
 use Rattle.walk.proofs.Judging.{end_first, end_second, end_fine}
 use Rattle.walk.proofs.judge_end.Goals as goal
 

@@ -1,6 +1,5 @@
 -- `walk::judge_last` meets its contract: only behind a mesh the check is kept. Assumes nothing.
 use mathlib.Core.Path.{refl}
-use borrow.Author.Rules.{rules}
 use Rattle.walk.proofs.Judging.{last_fine, last_broken}
 use Rattle.walk.proofs.judge_last.Goals as goal
 

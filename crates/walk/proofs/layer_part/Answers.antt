@@ -1,5 +1,4 @@
 -- `walk::layer_part` meets its contract: each field of it is the definition's. Assumes nothing.
-use borrow.Author.Rules.{rules}
 use Rattle.walk.proofs.layer_part.Goals as goal
 
 pub returns : goal.returns

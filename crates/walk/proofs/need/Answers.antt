@@ -1,5 +1,4 @@
 -- `walk::need` meets its contract: the words are those of the walk. Assumes nothing.
-use borrow.Author.Rules.{rules}
 use Rattle.walk.proofs.Judging.{need_is}
 use Rattle.walk.proofs.need.Goals as goal
 

@@ -2,7 +2,6 @@
 use borrow.Author.Tests.{lt-ltb, le-ltb}
 use Rattle.walk.specs.States.{due_of, next_of}
 use Rattle.walk.proofs.Walking.{next_entries}
-use borrow.Author.Rules.{rules}
 use Rattle.walk.proofs.next.Goals as goal
 
 pub returns-then-s-gt0 : goal.returns-then-s-gt0

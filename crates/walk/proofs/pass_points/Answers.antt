@@ -4,7 +4,6 @@ use native.Mathlib.Nat.{min-eq_left, min-eq_right}
 use native.Mathlib.Omega.{arith}
 use mathlib.Core.Path.{refl, sym}
 use Rattle.walk.proofs.Passing.{past_points}
-use borrow.Author.Rules.{rules}
 use Rattle.walk.proofs.pass_points.Goals as goal
 
 pub returns-then-most-all : goal.returns-then-most-all

@@ -1,7 +1,6 @@
 -- `walk::pass_quiet` meets its contract: what the tests found is what the state tells of the records ahead. Assumes nothing.
 use mathlib.Core.Path.{ap, ◌∙◌}
 use Prim.Native.Nat.{min}
-use borrow.Author.Rules.{rules}
 use Rattle.walk.proofs.Passing.{points_ahead, entries_ahead, loops_ahead, nodes_ahead}
 use Rattle.walk.proofs.pass_quiet.Goals as goal
 

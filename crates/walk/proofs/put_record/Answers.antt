@@ -1,6 +1,5 @@
 -- `walk::put_record` meets its contract: one way for each kind that can be due. Assumes nothing.
 use native.Mathlib.Omega.{arith}
-use borrow.Author.Rules.{rules}
 use Rattle.walk.proofs.put_record.Goals as goal
 
 pub overflow_mul-c : goal.overflow_mul-c

@@ -3,7 +3,6 @@ use native.Mathlib.Nat.{add-zero}
 use native.Mathlib.Numerals.{add-one, add-two, add-three, add-four}
 use native.Mathlib.Omega.{arith}
 use lib.ListN.{length-set}
-use borrow.Author.Rules.{rules}
 use Rattle.walk.proofs.put_row.Goals as goal
 
 pub bounds-table-at-2 : goal.bounds-table-at-2

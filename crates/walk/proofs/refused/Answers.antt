@@ -1,5 +1,4 @@
 -- `walk::refused` meets its contract: it has no counts. Assumes nothing.
-use borrow.Author.Rules.{rules}
 use Rattle.walk.proofs.refused.Goals as goal
 
 pub returns : goal.returns

@@ -1,10 +1,7 @@
-use mathlib.Core.Path.{◌≡◌}
-use Prim.Native.Nat.{◌-◌, ◌≤◌}
+use Prim.Native.Nat.{◌-◌}
 use borrow.Author.Rules.{rules}
-use Rattle.verdict.specs.declared.Verdict.TheVariants.{Fine}
-use Rattle.verdict.specs.Rules.{first_broken, rows}
 use Rattle.verdict.proofs.Parts.{rows_none, rows_pass}
-use Rattle.walk.proofs.Judging.{ends_of, end_is, one_stops, one_done}
+use Rattle.walk.proofs.Judging.{end_is, one_stops, one_done}
 use Rattle.walk.proofs.stage_one.Goals as goal
 
 pub loop-k-init : goal.loop-k-init

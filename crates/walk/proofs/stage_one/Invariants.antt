@@ -2,11 +2,9 @@
 -- Assumes nothing.
 use mathlib.Core.Path.{◌≡◌}
 use Prim.Native.Nat.{◌-◌, ◌≤◌}
-use borrow.Author.Rules.{rules}
 use Rattle.verdict.specs.declared.Verdict.TheVariants.{Fine}
 use Rattle.verdict.specs.Rules.{first_broken, rows}
-use Rattle.verdict.proofs.Parts.{rows_none, rows_pass}
-use Rattle.walk.proofs.Judging.{ends_of, end_is, one_stops, one_done}
+use Rattle.walk.proofs.Judging.{ends_of}
 use Rattle.walk.proofs.stage_one.Given as goal
 
 abbrev pub invariant-loop-k : goal.invariant-loop-k

@@ -1,17 +1,11 @@
 -- `walk::stage_two` meets its contract: the loop carries the state and the counts, passes what is fine at a glance and leaves at the first broken record;
 -- behind it all are kept, and the end decides. Assumes nothing.
-use mathlib.Core.Path.{◌≡◌, refl, ap, ◌∙◌}
+use mathlib.Core.Path.{◌≡◌}
 use Prim.Native.Nat.{◌-◌, ◌≤◌}
-use native.Mathlib.Nat.{le_refl}
-use native.Mathlib.Omega.{arith}
-use borrow.Author.Rules.{rules}
 use Rattle.verdict.specs.declared.Verdict.TheVariants.{Fine}
 use Rattle.verdict.specs.Rules.{first_broken, rows}
-use Rattle.verdict.proofs.Parts.{rows_none, rows_pass}
-use Rattle.walk.specs.States.{due_of, state_at, counts_at}
-use Rattle.walk.proofs.Walking.{at_none, next_state, counts_none, next_counts, countable}
-use Rattle.walk.proofs.Passing.{past_counts, pass_most, pass_are_quiet, passed_state, passed_counts, found_most, found_fit, fine_rows}
-use Rattle.walk.proofs.Judging.{stage_two_rules, rule_is, two_stops, two_done, counts_done, walked_broken, walked_kept}
+use Rattle.walk.specs.States.{state_at, counts_at}
+use Rattle.walk.proofs.Judging.{stage_two_rules}
 use Rattle.walk.proofs.stage_two.Given as goal
 
 abbrev pub invariant-loop-k : goal.invariant-loop-k

@@ -1,5 +1,4 @@
 -- `walk::walk_file` meets its contract: a broken stage 1 is the answer; else stage 2's is. Assumes nothing.
-use borrow.Author.Rules.{rules}
 use Rattle.walk.proofs.Judging.{walked_first, walked_second}
 use Rattle.walk.proofs.walk_file.Goals as goal
 

@@ -1,10 +1,9 @@
 use mathlib.Core.List.{append_assoc}
 use mathlib.Core.Path.{◌≡◌, refl, ◌∙◌}
-use Prim.Native.Nat.{◌≤◌, ◌-◌}
 use native.Mathlib.Numerals.{add-one}
 use native.Mathlib.Omega.{arith}
 use lib.ListN.{take, length, length-set}
-use lib.Seq.{take-length, paste, paste-zero, paste-suc}
+use lib.Seq.{take-length, paste-zero, paste-suc}
 use borrow.Author.Rules.{rules}
 use Rattle.writers.proofs.copy.Goals as goal
 

@@ -1,12 +1,8 @@
 -- `writers::copy` meets its contract. The loop's invariant: the first `i` bytes are pasted. Assumes nothing.
-use mathlib.Core.List.{append_assoc}
-use mathlib.Core.Path.{◌≡◌, refl, ◌∙◌}
+use mathlib.Core.Path.{◌≡◌}
 use Prim.Native.Nat.{◌≤◌, ◌-◌}
-use native.Mathlib.Numerals.{add-one}
-use native.Mathlib.Omega.{arith}
-use lib.ListN.{take, length, length-set}
-use lib.Seq.{take-length, paste, paste-zero, paste-suc}
-use borrow.Author.Rules.{rules}
+use lib.ListN.{length}
+use lib.Seq.{paste}
 use Rattle.writers.proofs.copy.Given as goal
 
 abbrev pub invariant-loop-i : goal.invariant-loop-i

@@ -1,13 +1,10 @@
 -- `writers::fill` meets its contract. The loop's invariant: the buffer with the columns that are left is the buffer that is wanted.
 -- Assumes nothing.
 use mathlib.Core.List.{◌++◌}
-use mathlib.Core.Path.{◌≡◌, refl, sym, ◌∙◌}
-use Prim.Native.Nat.{◌≤◌, ◌-◌, ◌+◌}
-use native.Mathlib.Omega.{arith}
-use lib.ListN.{length, take, drop, length-set}
-use borrow.Author.Rules.{rules}
+use mathlib.Core.Path.{◌≡◌}
+use Prim.Native.Nat.{◌≤◌, ◌+◌}
+use lib.ListN.{length, take, drop}
 use Rattle.fields.specs.Spelling.{columns}
-use Rattle.writers.proofs.Filling.{fill_step, fill_done}
 use Rattle.writers.proofs.fill.Given as goal
 
 abbrev pub invariant-loop-k : goal.invariant-loop-k

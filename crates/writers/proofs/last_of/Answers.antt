@@ -1,6 +1,5 @@
 -- `writers::last_of` meets its contract, case by case. Assumes nothing.
 use mathlib.Core.Path.{sym, ap}
-use borrow.Author.Rules.{rules}
 use Rattle.fields.specs.Spelling.{last_of}
 use Rattle.writers.proofs.last_of.Goals as goal
 

@@ -1,5 +1,4 @@
 -- `writers::rest_of` meets its contract, case by case. Assumes nothing.
-use borrow.Author.Rules.{rules}
 use borrow.Author.Tests.{le-leb, lt-leb}
 use Rattle.writers.proofs.rest_of.Goals as goal
 
