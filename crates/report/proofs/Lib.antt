@@ -1,5 +1,5 @@
--- `Accepted` says what `measure` prints of an accepted file, and `Lent` that what the programs lend is enough for every file that they take.
--- The others serve the proofs.
+-- `Accepted` says what `measure` prints of an accepted file, `Lent` that what the programs lend is enough for every file that they take, and
+-- `Programs` that what they read settles what they print. The others serve the proofs.
 pub mod Putting
 pub mod Decimals
 pub mod Negated

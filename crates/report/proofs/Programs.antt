@@ -27,7 +27,7 @@ IsSettled text = (first rest : List ℕ) → (length first < 65491 → rest ≡ 
 settled : (text : List ℕ → List ℕ) {long : List ℕ} → ((input : List ℕ) → 65490 < length input → long ≡ text input) → IsSettled text
 settled text {long} h first rest short =
     elim (cases_lt (length first) 65491) [
-      inl l ↦ ap text (sym (append-nil first) ∙ ap (λ r. first ++ r) (sym (short l)))
+      | inl l ↦ ap text (sym (append-nil first) ∙ ap (λ r. first ++ r) (sym (short l)))
       | inr l ↦ sym (h first (omega arith)) ∙ h (first ++ rest) (omega (arith, length-append first rest))
     ]
 

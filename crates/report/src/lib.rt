@@ -243,13 +243,15 @@ pub fn measure_text(input: &[u8], out: &mut [u8; 120000]) -> usize
 
 // ---- the programs
 
-// The program `check` over what `source` gives: up to one byte more than is taken. What it prints goes to
-// `output`. Where a read fails nothing is judged; `errors` is told of it, and of a write that fails. True where
-// neither failed.
+// The bytes that are read at most: one more than is taken.
+const READ: usize = MOST + 1;
+
+// The program `check` over what `source` gives. What it prints goes to `output`. Where a read fails nothing is
+// judged; `errors` is told of it, and of a write that fails. True where neither failed.
 pub fn check<R: Read, W: Write, E: Write>(source: &mut R, output: &mut W, errors: &mut E) -> bool
     ensures { IsTrue result → IfSome (R.remaining source.old) (λ input. Appends (W.contents output.old) (W.contents output.new) (check_text input)) }
 {
-    let mut input = [0u8; 65491];
+    let mut input = [0u8; READ];
     let read = streams::read_input(
         source,
         errors,
@@ -273,7 +275,7 @@ pub fn check<R: Read, W: Write, E: Write>(source: &mut R, output: &mut W, errors
 pub fn measure<R: Read, W: Write, E: Write>(source: &mut R, output: &mut W, errors: &mut E) -> bool
     ensures { IsTrue result → IfSome (R.remaining source.old) (λ input. Appends (W.contents output.old) (W.contents output.new) (measure_text input)) }
 {
-    let mut input = [0u8; 65491];
+    let mut input = [0u8; READ];
     let read = streams::read_input(
         source,
         errors,

@@ -2,7 +2,6 @@
 use native.Mathlib.Omega.{arith}
 use Rattle.report.proofs.Putting.{named}
 use Rattle.report.proofs.Answers.{check_long, check_ok, check_refused}
-use borrow.Author.Rules.{rules}
 use Rattle.report.proofs.check_text.Goals as goal
 
 pub returns-then-input-gt-MOST : goal.returns-then-input-gt-MOST

@@ -1,11 +1,11 @@
--- `report::measure` is safe and ends: what was read and the text lie within their buffers. Assumes nothing.
+-- `report::measure` meets its contract: what was read and the text lie within their buffers, and that text is the one of all that was given.
+-- Assumes nothing.
 use mathlib.Core.Path.{sym, ◌∙◌}
 use Prim.Native.Nat.{ℕ}
 use lib.ListN.{length-replicate}
 use lib.Seq.{length-take-le}
 use Rattle.report.proofs.Putting.{put_within}
 use Rattle.report.proofs.Programs.{first_bytes, measure_settled, all_given}
-use borrow.Author.Rules.{rules}
 use Rattle.report.proofs.measure.Goals as goal
 
 pub slice_bounds-out-end : goal.slice_bounds-out-end

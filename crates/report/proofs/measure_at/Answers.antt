@@ -1,6 +1,5 @@
 -- `report::measure_at` meets its contract: past the end there is none. Assumes nothing.
 use Rattle.report.proofs.Putting.{none_there}
-use borrow.Author.Rules.{rules}
 use Rattle.report.proofs.measure_at.Goals as goal
 
 pub returns : goal.returns

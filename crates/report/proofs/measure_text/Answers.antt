@@ -4,7 +4,6 @@ use native.Mathlib.Omega.{arith}
 use Rattle.report.proofs.Putting.{named}
 use Rattle.report.proofs.Areas.{few_records}
 use Rattle.report.proofs.Answers.{measure_long, measure_ok, measure_refused}
-use borrow.Author.Rules.{rules}
 use Rattle.report.proofs.measure_text.Goals as goal
 
 pub returns-then-input-gt-MOST : goal.returns-then-input-gt-MOST

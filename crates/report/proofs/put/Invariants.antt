@@ -1,11 +1,8 @@
 -- `report::put` meets its contract: each turn stores the next byte behind those that stand. Assumes nothing.
-use mathlib.Core.Path.{◌≡◌, refl}
+use mathlib.Core.Path.{◌≡◌}
 use Prim.Native.Nat.{◌-◌, ◌≤◌}
-use native.Mathlib.Omega.{arith}
 use lib.ListN.{length, take}
 use lib.Seq.{sets}
-use borrow.Author.Rules.{rules}
-use Rattle.report.proofs.Putting.{one_more, all_put}
 use Rattle.report.proofs.put.Given as goal
 
 abbrev pub invariant-loop-i : goal.invariant-loop-i

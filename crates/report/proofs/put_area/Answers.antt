@@ -5,7 +5,6 @@ use mir.ValLaws.{to_z-of_z}
 use native.Mathlib.Omega.{arith}
 use Rattle.report.specs.Texts.{signed, area_text}
 use Rattle.report.proofs.Putting.{then, named}
-use borrow.Author.Rules.{rules}
 use Rattle.report.proofs.put_area.Goals as goal
 
 pub returns : goal.returns

@@ -1,13 +1,10 @@
-use mathlib.Core.Path.{◌≡◌, refl, ◌∙◌, ap}
-use Prim.Native.Nat.{◌-◌, ◌*◌, ◌≤◌}
+use mathlib.Core.Path.{refl, ◌∙◌, ap}
 use native.Mathlib.Omega.{arith}
-use borrow.Author.Rules.{rules}
 use mir.Syntax.{w64}
 use mir.ValLaws.{to_z-of_z}
-use Rattle.walk.specs.States.{due_of, state_at, counts_at}
+use Rattle.walk.specs.States.{due_of, counts_at}
 use Rattle.walk.proofs.Walking.{at_none, next_state}
 use Rattle.report.specs.Texts.{areas_text}
-use Rattle.report.specs.Putting.{Put}
 use Rattle.report.proofs.Putting.{nothing, then, named}
 use Rattle.report.proofs.Areas.{few_areas, room_left, area_small, next_areas, next_text, all_areas}
 use Rattle.report.proofs.put_areas.Goals as goal

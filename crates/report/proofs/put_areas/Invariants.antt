@@ -1,16 +1,9 @@
 -- `report::put_areas` meets its contract: the loop carries the state, the areas and the text behind the records so far. Assumes nothing.
-use mathlib.Core.Path.{◌≡◌, refl, ◌∙◌, ap}
+use mathlib.Core.Path.{◌≡◌}
 use Prim.Native.Nat.{◌-◌, ◌*◌, ◌≤◌}
-use native.Mathlib.Omega.{arith}
-use borrow.Author.Rules.{rules}
-use mir.Syntax.{w64}
-use mir.ValLaws.{to_z-of_z}
-use Rattle.walk.specs.States.{due_of, state_at, counts_at}
-use Rattle.walk.proofs.Walking.{at_none, next_state}
+use Rattle.walk.specs.States.{state_at, counts_at}
 use Rattle.report.specs.Texts.{areas_text}
 use Rattle.report.specs.Putting.{Put}
-use Rattle.report.proofs.Putting.{nothing, then, named}
-use Rattle.report.proofs.Areas.{few_areas, room_left, area_small, next_areas, next_text, all_areas}
 use Rattle.report.proofs.put_areas.Given as goal
 
 abbrev pub invariant-loop-k : goal.invariant-loop-k

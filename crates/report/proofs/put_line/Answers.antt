@@ -1,7 +1,6 @@
 -- `report::put_line` meets its contract: one text after the other. Assumes nothing.
 use native.Mathlib.Omega.{arith}
 use Rattle.report.proofs.Putting.{then}
-use borrow.Author.Rules.{rules}
 use Rattle.report.proofs.put_line.Goals as goal
 
 pub returns : goal.returns

@@ -3,7 +3,6 @@ use mathlib.Core.Path.{◌∙◌}
 use native.Mathlib.Omega.{arith}
 use Rattle.report.proofs.Putting.{named}
 use Rattle.report.proofs.Decimals.{few_digits, is_decimal}
-use borrow.Author.Rules.{rules}
 use Rattle.report.proofs.put_number.Goals as goal
 
 pub put-requires : goal.put-requires

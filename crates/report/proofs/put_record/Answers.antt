@@ -5,7 +5,6 @@ use native.Mathlib.Omega.{arith}
 use Rattle.report.specs.Texts.{record_text}
 use Rattle.report.proofs.Putting.{nothing}
 use Rattle.report.proofs.Areas.{area_named}
-use borrow.Author.Rules.{rules}
 use Rattle.report.proofs.put_record.Goals as goal
 
 pub returns-in-Mesh : goal.returns-in-Mesh

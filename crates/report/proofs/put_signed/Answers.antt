@@ -2,7 +2,6 @@
 use native.Mathlib.Omega.{arith}
 use Rattle.report.proofs.Putting.{then, named}
 use Rattle.report.proofs.Negated.{negative, not_negative}
-use borrow.Author.Rules.{rules}
 use Rattle.report.proofs.put_signed.Goals as goal
 
 pub overflow_add-below : goal.overflow_add-below

@@ -3,7 +3,6 @@
 use Rattle.records.proofs.Codes.{code_number}
 use Rattle.walk.specs.States.{size_in}
 use Rattle.report.specs.Texts.{shown_in}
-use borrow.Author.Rules.{rules}
 use Rattle.report.proofs.shown_of.Goals as goal
 
 pub returns : goal.returns
