@@ -1,0 +1,2 @@
+-- What a caller of `streams` goes by.
+pub mod Reading
