@@ -1,9 +1,9 @@
 -- What stage 2 asks of each number of a record (RULES 4 and 5; refusals 6 and 8), in column order, kind by kind.
 -- The columns are those of the layouts, which stand in `records`; here they are named beside each number. Assumes nothing.
 --   Ask              a value that has to be permitted (6), or in step (8)
---   meshAsks .. ns   of an M, and so on: for each of its numbers what is asked of it. ns are the numbers read so far, each in its
+--   mesh_asks .. ns  of an M, and so on: for each of its numbers what is asked of it. ns are the numbers read so far, each in its
 --                    place, and 0 elsewhere; nothing is asked of a number that looks at one behind it
---   firstAsked       the refusal number of the first ask that is not kept
+--   first_asked      the refusal number of the first ask that is not kept
 use Rattle.std.specs.Prelude.{Bool, cond, ◌||◌, List, [], ◌∷◌, ℕ, zero, suc, ◌+◌, ◌/◌, ltb, eqb, ℤ, pos, get_or}
 use Rattle.permitted.specs.Permitted.{natural, size, within, is, at_least, is_mesh_code, follows_mesh, is_layer_code, follows_layer, is_date, is_coordinate}
 use Rattle.permitted.specs.Permitted.{is_node_item, is_frame, is_line_item, is_line_kind, is_link, is_code, is_side, of_areas, is_area_code, is_slot, is_point, is_next}

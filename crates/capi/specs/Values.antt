@@ -1,9 +1,9 @@
 -- The records of C: a kind is a number there (RULES 9.7; 4.8, 9.4, 9.5). Assumes nothing.
---   meantBy n         the kind that the number n stands for, if it stands for one: 1 M, 2 H, 3 N, 4 L, 5 coordinates, 6 A, 7 loop
---   kindNumber k      the number that stands for the kind k
---   owedNumber o      what is told of a record, by number
---   meantRecord k v   the value v as a record of kind k, and givenValue r the record r with its kind as a number
---   foundOf n s      the answer to the bytes s, read as a record of the kind that n stands for
+--   meant_by n        the kind that the number n stands for, if it stands for one: 1 M, 2 H, 3 N, 4 L, 5 coordinates, 6 A, 7 loop
+--   kind_number k     the number that stands for the kind k
+--   owed_number o     what is told of a record, by number
+--   meant_record k v   the value v as a record of kind k, and given_value r the record r with its kind as a number
+--   found_of n s     the answer to the bytes s, read as a record of the kind that n stands for
 --   WrittenValue     the writer's answer and its buffer afterwards
 use Rattle.std.specs.Prelude.{◌≡◌, cond, List, [], ◌∷◌, ℕ, leb, length, get_or}
 use Rattle.records.specs.declared.Kind.{Kind}

@@ -1,9 +1,9 @@
 -- A code field (RULES 3.6): a number with one more spelling, and the mark that tells the two apart. Assumes nothing.
---   landText             " 0000"
+--   land_text            " 0000"
 --   code_at s c w         the answer to the w columns of s from column c on: a value with its mark, or a refusal
---   codeRefusal, codeValue, codeMark   what the answer stands for: 5 or 0; its value; its mark
---   codeHolds w v m      w columns hold the value v with the mark m
---   spellCode w v m      its columns
+--   code_refusal, code_value, code_mark  what the answer stands for: 5 or 0; its value; its mark
+--   code_holds w v m     w columns hold the value v with the mark m
+--   spell_code w v m     its columns
 --   CodeSays s c w v m   the w columns of s from column c on say v with the mark m
 use Rattle.std.specs.Prelude.{◌≡◌, Bool, true, false, cond, ◌&&◌, List, [], ◌∷◌, ℕ, zero, suc, eqb, ℤ, pos, negsuc, length, get_or}
 use Rattle.fields.specs.Place.{is_inside, bytes_at}

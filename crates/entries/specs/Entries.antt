@@ -2,12 +2,12 @@
 -- and a loop of n lines takes n/12 records, rounded up. An area's loops follow its A one after another, so its slots stand in one
 -- row, twelve a record. A slot that is 0 is no entry (RULES 1.3); those past the count are 0 (RULES 5.9). Assumes nothing.
 --   slot_of file f e      slot e, counted from 0, of the loop records from record f on (links)
---   entriesTo file f n   the entries in the first n of these slots
---   countAt, loopsAt     a loop's line count; how many loops an A has
---   recordsFor n         the records of a loop of n lines
---   recordsTo file a n   the records of the first n loops of the A at record a
+--   entries_to file f n  the entries in the first n of these slots
+--   count_at, loops_at   a loop's line count; how many loops an A has
+--   records_for n        the records of a loop of n lines
+--   records_to file a n  the records of the first n loops of the A at record a
 --   slots_of file a       how many slots the area has
---   loopAt, loopsTo      the entries of the loop whose first record is f; those of the area's first n loops
+--   loop_at, loops_to    the entries of the loop whose first record is f; those of the area's first n loops
 use Rattle.std.specs.Prelude.{List, [], ◌∷◌, ◌++◌, ℕ, zero, suc, ◌+◌, ◌*◌, ◌-◌, ◌/◌, ℤ, pos, negsuc}
 use Rattle.records.specs.Columns.{area_loops, loop_count, value_at}
 use Rattle.permitted.specs.Permitted.{size}

@@ -1,9 +1,9 @@
 -- The line measures of a layer, kept so that no line is walked once for each loop that names it. It serves the code and is no part of a
 -- promise. Assumes nothing.
---   walkedTo file t l n   what the code measures of the layer's first n lines
---   possibleOf z          z where a line of an accepted file can measure so much, else 0
---   keptMeasure l ms n    what the list ms, line 1 first, says of the layer's line n; 0 where it says nothing or n names no line
---   keptLoop file l ms f  the measure of the loop whose first record is f, by these
+--   walked_to file t l n  what the code measures of the layer's first n lines
+--   possible_of z         z where a line of an accepted file can measure so much, else 0
+--   kept_measure l ms n   what the list ms, line 1 first, says of the layer's line n; 0 where it says nothing or n names no line
+--   kept_loop file l ms f  the measure of the loop whose first record is f, by these
 --   Kept file t l ms      ms says each line's measure
 --   SoundLayer file t l   the layer's lines are no more than are kept, and well formed
 use Rattle.std.specs.Prelude.{cond, List, ◌≡◌, ℕ, ◌+◌, ◌-◌, ◌≤◌, ◌<◌, leb, ℤ, pos, nat_abs, get_or}

@@ -1,8 +1,8 @@
 -- The measures of loops and areas of a file (RULES 7.2, 7.3); t is the file's table and l the layer. Assumes nothing.
---   measureOf file t l n      the measure of line n of the layer; 0 where n names no line
---   slotMeasure m v           what a slot adds to its loop's measure, where m gives each line's
---   loopMeasureIn file t l f  the measure of the loop whose first record is f
---   areaMeasureIn file t l a  the measure of the area whose A is record a
+--   measure_of file t l n     the measure of line n of the layer; 0 where n names no line
+--   slot_measure m v          what a slot adds to its loop's measure, where m gives each line's
+--   loop_measure_in file t l f  the measure of the loop whose first record is f
+--   area_measure_in file t l a  the measure of the area whose A is record a
 use Rattle.std.specs.Prelude.{cond, List, ℕ, ℤ, pos, neg_ℤ}
 use Rattle.permitted.specs.Permitted.{natural, size}
 use Rattle.layers.specs.declared.Layer.{Layer}

@@ -1,7 +1,7 @@
 -- What each answer stands for: its refusal number (RULES 6.2), and its value. Assumes nothing.
---   numberRefusal, textRefusal   5 for an ill-formed field, else 0
+--   number_refusal, text_refusal  5 for an ill-formed field, else 0
 --   value_of                      a number field's value, 0 where it is refused
---   writingRefusal               20 for what does not fit, else 0
+--   writing_refusal              20 for what does not fit, else 0
 --   Wrote                        a writer's answer and its buffer afterwards
 use Rattle.std.specs.Prelude.{◌≡◌, Bool, cond, ◌&&◌, List, ℕ, eqb, ℤ, pos, length}
 use Rattle.fields.specs.Place.{is_inside, put}

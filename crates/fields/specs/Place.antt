@@ -1,5 +1,5 @@
 -- Where a field stands (RULES 1.4: columns count from 1). Assumes nothing.
---   isInside s c w   the w columns from column c on lie within s
+--   is_inside s c w  the w columns from column c on lie within s
 --   bytes_at s c w    their bytes
 --   put s c t        s with the bytes t from column c on
 use Rattle.std.specs.Prelude.{Bool, ◌&&◌, List, ◌++◌, ℕ, ◌+◌, ◌-◌, leb, length, take, drop}

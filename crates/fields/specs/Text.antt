@@ -1,7 +1,7 @@
 -- The other fields (RULES 3.3, 3.4): a name is two-byte characters of Shift JIS, a blank is spaces. Assumes nothing.
---   isName f         the bytes f are two-byte characters
---   isBlanks f       the bytes f are spaces
---   textAt p s c w   the answer to the w columns of s from column c on, where p says what is well formed
+--   is_name f        the bytes f are two-byte characters
+--   is_blanks f      the bytes f are spaces
+--   text_at p s c w  the answer to the w columns of s from column c on, where p says what is well formed
 use Rattle.std.specs.Prelude.{Bool, true, false, cond, ◌&&◌, ◌||◌, List, [], ◌∷◌, ℕ, leb, eqb}
 use Rattle.fields.specs.Place.{is_inside, bytes_at}
 use Rattle.fields.specs.declared.Text.{Text}

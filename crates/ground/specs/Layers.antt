@@ -1,10 +1,10 @@
 -- What a layer and a file measure (RULES 7.3, 7.4); t is the file's table, b where the lines and the areas begin in it, and l a
 -- layer. Assumes nothing.
---   areaOfLayer file t l a   the measure of the layer's area a
---   areasSum file t l        the sum of its areas' measures
---   leftAreaOf, rightAreaOf  a line's left and right area
---   outsideSum file t l      the outside sum: walked along the lines between an area and the outside
---   measuresTo file t b n    the measures of all areas of the first n layers, in file order
+--   area_of_layer file t l a  the measure of the layer's area a
+--   areas_sum file t l       the sum of its areas' measures
+--   left_area_of, right_area_of  a line's left and right area
+--   outside_sum file t l     the outside sum: walked along the lines between an area and the outside
+--   measures_to file t b n   the measures of all areas of the first n layers, in file order
 use Rattle.std.specs.Prelude.{List, [], ◌++◌, ℕ, zero, suc, ℤ, pos}
 use Rattle.records.specs.Columns.{left_area, right_area, value_at}
 use Rattle.permitted.specs.Permitted.{size}

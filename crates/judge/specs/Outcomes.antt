@@ -1,12 +1,12 @@
 -- What a call of the judge answers, and what each lent buffer holds afterwards (RULES 8.3 to 8.5, 9.1, 9.2, 9.11). Assumes nothing.
---   judgedOf, tableJudged what all stages say of a file, and what the table holds behind them; askedBy: what a call then asks
---   outcomeBy v c n r     the verdict v by refusal numbers, with the need n where it is told, and the counts c and r records of acceptance
---   outcomeBehind, tableBehind   what is told by a call that asks `last` behind all stages, and the table that held the words ws behind it
+--   judged_of, table_judged what all stages say of a file, and what the table holds behind them; asked_by: what a call then asks
+--   outcome_by v c n r    the verdict v by refusal numbers, with the need n where it is told, and the counts c and r records of acceptance
+--   outcome_behind, table_behind  what is told by a call that asks `last` behind all stages, and the table that held the words ws behind it
 --   lent_by v zs ds        the buffer that held ds, where figures zs go to it on acceptance
---   outcomeOf file room p the judge's answer to a file, a table of `room` words and p places for measures
---   tableAfter, measuresAfter   the table, and the measures that held ms, behind it
---   sumsOf file room i    the answer of the layer sums; tableAfterSums: the table behind it
---   outcomeOfAll, tableAfterAll, sumsAfter   of all sums: the answer, the table, and the sums that held ss
+--   outcome_of file room p the judge's answer to a file, a table of `room` words and p places for measures
+--   table_after, measures_after  the table, and the measures that held ms, behind it
+--   sums_of file room i    the answer of the layer sums; table_after_sums: the table behind it
+--   outcome_of_all, table_after_all, sums_after  of all sums: the answer, the table, and the sums that held ss
 use Rattle.std.specs.Prelude.{cond, List, [], ◌∷◌, ◌++◌, ℕ, zero, suc, ◌-◌, eqb, leb, ℤ, pos, length}
 use Rattle.verdict.specs.declared.Verdict.{Verdict}
 use Rattle.verdict.specs.declared.Verdict.TheVariants.{Fine, Broken}

@@ -2,11 +2,11 @@
 -- stages 1 and 2 and refusal 9 in `walk`, those of stage 3 in `totals`, of stage 4 in `links`, of stage 5 in `loops` and of stage 6 in
 -- `sides`. Assumes nothing.
 --   late file                  the rules behind refusal 9
---   rulesOf file room          the rules of the file, where a table of `room` words is lent
---   measureRule, layerRule, pairRule   what a call asks behind all stages: refusals 19, 22 and 48
---   callRules file room last   the rules of a call that asks `last` behind all stages, and its answer:
---   callVerdict file room last the first broken one of them
---   verdictOf, sumsVerdict, allVerdict   the answers of the judge, the layer sums and all sums
+--   rules_of file room         the rules of the file, where a table of `room` words is lent
+--   measure_rule, layer_rule, pair_rule  what a call asks behind all stages: refusals 19, 22 and 48
+--   call_rules file room last  the rules of a call that asks `last` behind all stages, and its answer:
+--   call_verdict file room last the first broken one of them
+--   verdict_of, sums_verdict, all_verdict  the answers of the judge, the layer sums and all sums
 use Rattle.std.specs.Prelude.{◌&&◌, List, [], ◌∷◌, ◌++◌, ℕ, ◌*◌, leb}
 use Rattle.verdict.specs.declared.Verdict.{Verdict}
 use Rattle.verdict.specs.Rules.{Rule, Check, check, block, first_broken}

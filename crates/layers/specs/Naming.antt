@@ -1,10 +1,10 @@
 -- What a number names (RULES 2.7, 6.7): nodes, lines and areas are numbered from 1 in each layer of each mesh, and a number names only a
 -- record of its own layer. A layer is a row of the table t: its H record, how many nodes, lines and areas it has, and where its lines
 -- and areas begin in the table (RULES 8.1). Assumes nothing.
---   layerIn t b i    layer i of the table t, counted from 0; b says where the lines and the areas of all layers begin
+--   layer_in t b i   layer i of the table t, counted from 0; b says where the lines and the areas of all layers begin
 --   names n v        v is one of the serials 1 to n
---   namesLine n v    v, with or without its sign turned, is one of them
---   node_of, line_of, areaOf   the record that the number or entry v names in the layer l; 0, which is no record, where it names nothing
+--   names_line n v   v, with or without its sign turned, is one of them
+--   node_of, line_of, area_of  the record that the number or entry v names in the layer l; 0, which is no record, where it names nothing
 use Rattle.std.specs.Prelude.{Bool, cond, ◌&&◌, List, ℕ, zero, suc, ◌+◌, ◌*◌, ◌-◌, leb, ℤ, get_or}
 use Rattle.permitted.specs.Permitted.{size, within}
 use Rattle.walk.specs.Row.{row_length, head_word, nodes_word, lines_word, areas_word}

@@ -1,8 +1,8 @@
 -- The layer of a record, in which its numbers name records (RULES 2.3, 2.7): each H begins another one. Assumes nothing.
---   isLayer d           an H is due
---   basesOf c           where the lines and the areas begin in the table of a file with the counts c
---   layerAt file t b k  the layer of the record behind the first k
---   layerOf file i      layer i of the file, counted from 0
+--   is_layer d          an H is due
+--   bases_of c          where the lines and the areas begin in the table of a file with the counts c
+--   layer_at file t b k  the layer of the record behind the first k
+--   layer_of file i     layer i of the file, counted from 0
 use Rattle.std.specs.Prelude.{Bool, true, false, List, ℕ, ◌+◌, ◌*◌, ◌-◌}
 use Rattle.rules.specs.declared.Due.{Due}
 use Rattle.rules.specs.declared.Due.TheVariants.{Mesh, Layer, Node, Line, Coordinates, Area, Loop}

@@ -1,10 +1,10 @@
 -- Where a walk stands behind the first records of a file, and a stage that judges each record by where the walk then stands (RULES 2.7,
 -- 6.1). Assumes nothing.
---   standingAt file t b k     the walk behind the first k records: the state, how many layers came, the layer of the next record, and k
+--   standing_at file t b k    the walk behind the first k records: the state, how many layers came, the layer of the next record, and k
 --   Goes file t b x y         a step from x to y leads behind the next record
---   quietIn file most x       how many quiet records come next, of those that the file has, and no more than `most`
---   pastBy x h                the walk behind the next h records, which are quiet
---   logicAt, stageOf turn g   the checks g of the record behind the first k, and of every record, as rules of a turn
+--   quiet_in file most x      how many quiet records come next, of those that the file has, and no more than `most`
+--   past_by x h               the walk behind the next h records, which are quiet
+--   rules_at, stage_of turn g  the checks g of the record behind the first k, and of every record, as rules of a turn
 use Rattle.std.specs.Prelude.{List, ◌≡◌, ℕ, ◌+◌, ◌-◌, ◌<◌, min}
 use Rattle.verdict.specs.Rules.{Rule, Check, block, rows}
 use Rattle.walk.specs.States.{state_at, counts_at}

@@ -1,12 +1,12 @@
 -- Stage 4 (RULES 6.7, refusals 11 to 14): what the numbers of a layer name, and whether both sides say the same. The table t says where
 -- lines and areas stand; l is the layer of the record. A check waits where a number that it needs names nothing: 11 speaks for it.
 -- Assumes nothing.
---   nodeChecks ..     of an N's entries: 11, 12, 13
---   lineEndChecks ..  of one end of a line: its node number (11, 14) and its link (12)
---   sideChecks ..     of one side of a line: its code (12) and its area number (11)
---   pointChecks ..    of a line's first and last point (12)
---   entryChecks ..    of a loop record's entries: 11
---   stageFour file t b   all of them, in the order of RULES 6.1; b says where the lines and the areas begin in the table
+--   node_checks ..    of an N's entries: 11, 12, 13
+--   line_end_checks ..  of one end of a line: its node number (11, 14) and its link (12)
+--   side_checks ..    of one side of a line: its code (12) and its area number (11)
+--   point_checks ..   of a line's first and last point (12)
+--   entry_checks ..   of a loop record's entries: 11
+--   stage_four file t b  all of them, in the order of RULES 6.1; b says where the lines and the areas begin in the table
 use Rattle.std.specs.Prelude.{Bool, true, false, cond, ◌&&◌, ◌||◌, not, List, [], ◌∷◌, ◌++◌, ℕ, zero, suc, ◌+◌, ◌-◌, ◌/◌, ◌%◌, eqb, leb, ltb, ℤ, get_or}
 use Rattle.records.specs.View.{number_in}
 use Rattle.records.specs.Columns.{Column, Span, span_of, number_on, value_at, code_on, slot_column, slot_at}

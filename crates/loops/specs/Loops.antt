@@ -1,11 +1,11 @@
 -- Stage 5 (RULES 6.8, refusals 13 in an area, 15, 16 and 17): whether an area's loops close, turn the right way round and have the area
 -- on their right hand. The table t says where lines and areas stand; l is the layer of the loop record r. Assumes nothing.
---   repeatsArea file a e   slot e of the area whose A is record a repeats an earlier one
+--   repeats_area file a e  slot e of the area whose A is record a repeats an earlier one
 --   joins ..               an entry begins where the one before it ends
 --   winds serial m         a loop's measure m has the sign that its serial asks for
---   areaOnHand ..           the area on an entry's right hand
---   loopChecks ..          all of them, of a loop record
---   stageFive file t b     of all loop records, in the order of RULES 6.1
+--   area_on_hand ..         the area on an entry's right hand
+--   loop_checks ..         all of them, of a loop record
+--   stage_five file t b    of all loop records, in the order of RULES 6.1
 use Rattle.std.specs.Prelude.{Bool, cond, ◌||◌, not, List, [], ◌∷◌, ◌++◌, ℕ, ◌+◌, ◌*◌, ◌-◌, ◌/◌, eqb, ltb, ℤ, pos, get_or}
 use Rattle.std.specs.Int.Signed.{lt_z}
 use Rattle.records.specs.Columns.{column_of, value_at, loop_serial, loop_entries, slot_column}

@@ -1,6 +1,6 @@
 -- What the rules say of an area's entries (RULES 6.7 to 6.9: 11, 13, 17 and 18), without a file: n lines, each with a left and a
 -- right area, and the entries of an area. Assumes nothing.
---   listedIn e es                     e is one of the entries es
+--   listed_in e es                    e is one of the entries es
 --   Known, NoRepeat, Own, Present     rules 11, 13, 17, 18
 --   Listed n left right a es          es are area a's entries by all four
 use Rattle.std.specs.Prelude.{Bool, true, false, ◌||◌, List, [], ◌∷◌, ◌≡◌, ℕ, ◌≤◌, ◌<◌, eqb}

@@ -1,8 +1,8 @@
 -- Measures (RULES 7: X runs east, Y north; all are doubled areas, with a sign), of points, entries and loops.
 -- Assumes nothing.
---   lineMeasure ps   of a line with the points ps
---   loopMeasure m es of a loop with the entries es, where m gives each line's measure
---   areaMeasure m ls of an area with the loops ls
+--   line_measure ps  of a line with the points ps
+--   loop_measure m es of a loop with the entries es, where m gives each line's measure
+--   area_measure m ls of an area with the loops ls
 --   outside l r z    what a line adds to its layer's outside sum: its left and right area, and its measure
 use Rattle.std.specs.Prelude.{cond, List, [], ◌∷◌, ℕ, eqb, ℤ, pos, neg_ℤ, ◌-ℤ◌, ◌*ℤ◌}
 use Rattle.measures.specs.Sum.{sum}

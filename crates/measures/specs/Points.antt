@@ -1,7 +1,7 @@
 -- The points of a line in a file (RULES 4.4: how many; RULES 4.5: X and Y of seven points a record). Assumes nothing.
---   coordinateIn s c    the coordinate that starts at column c of the record s: the number that stands there
---   pointAt file r i    point i, counted from 0, of the line whose L is record r
---   measureIn file r    its measure
+--   coordinate_in s c   the coordinate that starts at column c of the record s: the number that stands there
+--   point_at file r i   point i, counted from 0, of the line whose L is record r
+--   measure_in file r   its measure
 -- `pair_by`, `point_by`, `points_by` and `measure_by` are the same for any way to read a coordinate.
 use Rattle.std.specs.Prelude.{List, [], ◌∷◌, ◌++◌, ℕ, zero, suc, ◌+◌, ◌/◌, ◌%◌, ℤ, pos, negsuc}
 use Rattle.fields.specs.Number.{number_at}

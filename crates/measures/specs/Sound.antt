@@ -2,7 +2,7 @@
 -- bytes. Assumes nothing.
 --   SoundAt s c z    the coordinate z at column c of the record s is a well formed number from 0 to 10000
 --   Sound file r     so is every coordinate of the line whose L is record r
---   addedUp s c      the remainders of the bytes of the coordinate that starts at column c of s, added up
+--   added_up s c     the remainders of the bytes of the coordinate that starts at column c of s, added up
 use Rattle.std.specs.Prelude.{List, ◌≡◌, ℕ, ◌+◌, ◌/◌, ◌%◌, ◌≤◌, ◌<◌, ℤ, pos}
 use Rattle.glances.specs.Glimpse.{remainders_at}
 use Rattle.fields.specs.Number.{number_at}

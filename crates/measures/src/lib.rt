@@ -10,7 +10,7 @@ ghost use Rattle.measures.specs.Points.{pair_by, point_count, measure_by};
 ghost use Rattle.measures.specs.Walks.{Small, Near, far, Seven, step_to, walk_along};
 ghost use Rattle.measures.specs.Sound.{added_up};
 
-// A walk walkAlong points: the sum so far, and the point where it stands.
+// A walk along points: the sum so far, and the point where it stands.
 #[derive(Clone, Copy)]
 struct Walk {
     sum: i64,
@@ -40,7 +40,7 @@ fn step(w: Walk, x: i64, y: i64) -> Walk
     }
 }
 
-// On walkAlong the first `count` points of a coordinate record.
+// On along the first `count` points of a coordinate record.
 fn walk_record(s: &[u8], count: usize, w: Walk) -> Walk
     requires { (count ≤ 7) × (Near far 900000000000000000 w) }
     ensures { result ≡ walk_along w (pair_by added_up s.now) count }

@@ -1,6 +1,6 @@
 -- Permitted values (RULES 5, and the tables of RULES 4), of a number v. Assumes nothing.
 --   natural v, size v     v is 0 or more; v without its sign
---   isZero v              v is 0
+--   is_zero v             v is 0
 --   within low high v     v is one of low to high
 --   the others            one rule each, with its section
 use Rattle.std.specs.Prelude.{Bool, true, false, cond, ◌&&◌, ◌||◌, not, ℕ, suc, ◌/◌, ◌%◌, leb, ltb, eqb, ℤ, pos, negsuc, nat_abs}

@@ -1,10 +1,10 @@
 -- Where a point lies in degrees (RULES 10), for any whole numbers. Assumes nothing.
 --   pp m, uu m, q m, v m    the digits of a mesh code m
 --   hundredths m y          the latitude in hundredths of a second
---   twoHundredths m x       the longitude in 200ths of a second
+--   two_hundredths m x      the longitude in 200ths of a second
 --   degrees n d             n parts in degrees, where d parts make one
---   degreesOf m x y         both in degrees
---   notPlaced               the answer to what is not permitted
+--   degrees_of m x y        both in degrees
+--   not_placed              the answer to what is not permitted
 --   placed m x y            the answer to what is permitted
 --   position_of m x y        the answer to any numbers
 use Rattle.std.specs.Prelude.{false, cond, ◌&&◌, ℕ, ◌+◌, ◌*◌, ◌/◌, ◌%◌, ℤ, pos, Float}

@@ -1,12 +1,12 @@
 -- The number fields that are read alone, by name (RULES 4.1 to 4.7). Whoever reads a field of a record without the rest of it names it
 -- here and nowhere else; `column_laid` and `slot_laid` (proofs/Named) say of every name that it is a field of its layout. Assumes nothing.
 --   Column, Row       the names: of a field, and of a row of slots
---   columnKind, span_of   the kind of record that a field is of; its first column and its width
---   columnOf c        its first column, which is its place in a refusal (RULES 1.4)
+--   column_kind, span_of  the kind of record that a field is of; its first column and its width
+--   column_of c       its first column, which is its place in a refusal (RULES 1.4)
 --   value_at file k c  the number in the field c of record k of a file; 0 where there is none
---   codeOn file k s   the value of the code in these columns of record k (RULES 3.6, 5.7); 0 where there is none
---   row_kind, rowSpanOf   the same of a row: its kind, and where its slots stand
---   slotColumn r i    the first column of slot i of the row r, counted from 0
+--   code_on file k s  the value of the code in these columns of record k (RULES 3.6, 5.7); 0 where there is none
+--   row_kind, row_span_of  the same of a row: its kind, and where its slots stand
+--   slot_column r i   the first column of slot i of the row r, counted from 0
 --   slot_at file k r i the number in slot i of the row r of record k; 0 where there is none
 use Rattle.std.specs.Prelude.{cond, List, ℕ, ◌+◌, ◌*◌, ltb, ℤ}
 use Rattle.records.specs.declared.Kind.{Kind}

@@ -3,7 +3,7 @@
 -- RULES 3.4: each run of columns up to 72 that no other field has is one blank field. Assumes nothing.
 --   layout_of k       the fields of kind k
 --   start_of, width_of a field's first column, and how many columns it takes
---   numbersOf, bytes_of, marksOf   how many numbers, name bytes and marks it gives to the record's value
+--   numbers_of, bytes_of, marks_of  how many numbers, name bytes and marks it gives to the record's value
 use Rattle.std.specs.Prelude.{List, [], ◌∷◌, ◌++◌, ℕ, zero, suc, ◌+◌}
 use Rattle.records.specs.declared.Kind.{Kind}
 use Rattle.records.specs.declared.Kind.TheVariants.{Mesh, Layer, Node, Line, Coordinates, Area, Loop}

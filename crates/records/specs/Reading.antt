@@ -1,9 +1,9 @@
 -- What a record's bytes say (RULES 9.4, the reader), over any layout. Assumes nothing.
---   faultOf f s      the refusal that field f of the record s gives: 0, 3 or 5
---   lettersIn k s    the letters of a record of kind k: 1 or 2 for an H, 0 for any other
+--   fault_of f s     the refusal that field f of the record s gives: 0, 3 or 5
+--   letters_in k s   the letters of a record of kind k: 1 or 2 for an H, 0 for any other
 --   code_in s c w     the code in the w columns of the record s from column c on
---   numbersIn, nameIn, marksIn   what the field adds to the record's numbers, its name and its marks
---   firstFault L s   the first refusal along the layout L, with its column
+--   numbers_in, name_in, marks_in  what the field adds to the record's numbers, its name and its marks
+--   first_fault L s  the first refusal along the layout L, with its column
 --   reading_of k s    the answer to a record of kind k
 use Rattle.std.specs.Prelude.{Bool, true, false, cond, ◌&&◌, ◌||◌, List, [], ◌∷◌, ◌++◌, ℕ, zero, suc, eqb, ℤ, pos, length, get_or, replicate}
 use Rattle.std.proofs.lemmas.List.Edits.{sets}

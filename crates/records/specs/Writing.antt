@@ -1,8 +1,8 @@
 -- How a record's value is written (RULES 9.5, the writer), over any layout. Assumes nothing.
 --   text_of l L ns nm ms   the columns of the layout L for the letters l, the numbers ns, the name bytes nm and the marks ms
 --   fits five L ns nm ms   whether each field holds its own and the unused entries are 0; five says that the record is of layer 5
---   lettersFit k l   whether a record of kind k may have the letters l
---   recordBytes r    the record's 74 bytes
+--   letters_fit k l  whether a record of kind k may have the letters l
+--   record_bytes r   the record's 74 bytes
 --   Written          the writer's answer and its buffer afterwards
 use Rattle.std.specs.Prelude.{◌≡◌, Bool, true, cond, ◌&&◌, ◌||◌, List, [], ◌∷◌, ◌++◌, ℕ, zero, suc, leb, eqb, ℤ, pos, length, get_or, take, drop, replicate}
 use Rattle.permitted.specs.Permitted.{is_zero, is}

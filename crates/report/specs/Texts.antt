@@ -1,10 +1,10 @@
 -- What the programs `check` and `measure` print (RULES 12). Assumes nothing.
 --   decimal n          a number below 10^20: digits, no leading zeros
 --   signed z           a signed one: "-" before the digits where it is below 0
---   textLine name n   a line: the name, the number, a line feed
---   refusedText, okText, outcomeText   what `check` prints of an outcome
---   areasText file ms k   what `measure` prints of the areas of the first k records
---   checkText, measureText   what the programs print of an input
+--   text_line name n  a line: the name, the number, a line feed
+--   refused_text, ok_text, outcome_text  what `check` prints of an outcome
+--   areas_text file ms k  what `measure` prints of the areas of the first k records
+--   check_text, measure_text  what the programs print of an input
 use Rattle.std.specs.Prelude.{cond, List, [], ◌∷◌, ◌++◌, ℕ, zero, suc, ◌+◌, ◌/◌, ◌%◌, eqb, ltb, ℤ, pos, negsuc, length, get_or}
 use Rattle.records.specs.View.{record_of}
 use Rattle.records.specs.Columns.{Column, span_of, area_code, area_serial}

@@ -2,9 +2,9 @@
 -- form and then what is asked of its value. Assumes nothing.
 --   kind_of d         the kind of record that is due
 --   asked_of d t i ns what is asked of number i of the record t that is due as d; ns are the numbers read so far
---   formChecks f t   the checks of field f's form in the record t
+--   form_checks f t  the checks of field f's form in the record t
 --   along a L i ns t the checks along the layout L, behind i numbers, which are ns; a says what is asked of a number
---   checksOf d t     the checks of the record t, due as d
+--   checks_of d t    the checks of the record t, due as d
 use Rattle.std.specs.Prelude.{Bool, not, List, [], ◌∷◌, ◌++◌, ℕ, suc, eqb, ℤ, set, get_or}
 use Rattle.fields.specs.Number.{number_at}
 use Rattle.fields.specs.Answer.{value_of}

@@ -1,13 +1,13 @@
 -- The smallest sheet and its neighbours (RULES 11), and what is answered to each. Assumes nothing.
---   mRecord, .., loopRecord   a record of sheet S, as a function of what its neighbours change
---   sheetS                    sheet S, 518 bytes
---   changed k c bytes         S with these bytes in record k, from column c on; withMesh: with another M
---   landSheet                 S as a sheet of layer 5 with land on its whole ground, by the texts of its codes (RULES 11.3)
---   bareSheet                 S as an unstructured layer (RULES 11.4); bareFive: in layer 5, by the text of its left code
+--   m_record, .., loop_record  a record of sheet S, as a function of what its neighbours change
+--   sheet_s                   sheet S, 518 bytes
+--   changed k c bytes         S with these bytes in record k, from column c on; with_mesh: with another M
+--   land_sheet                S as a sheet of layer 5 with land on its whole ground, by the texts of its codes (RULES 11.3)
+--   bare_sheet                 S as an unstructured layer (RULES 11.4); bare_five: in layer 5, by the text of its left code
 --   cases                     the cases of RULES 11.2 to 11.4, each with its answer
 --   further                   more files, of each refusal
---   twoMeshes, sheetT, sheetU accepted files: two meshes; two lines round one area; a lake in an area, with a hole for it
---   twoLayers, bareMeshes     accepted files: two layers in one mesh; two meshes with unstructured layers alone
+--   two_meshes, sheet_t, sheet_u accepted files: two meshes; two lines round one area; a lake in an area, with a hole for it
+--   two_layers, bare_meshes   accepted files: two layers in one mesh; two meshes with unstructured layers alone
 use Rattle.std.specs.Prelude.{List, [], ◌∷◌, ◌++◌, ℕ, zero, suc, ◌+◌, ◌-◌, ◌*◌, ℤ, pos, negsuc, length, take, drop}
 use Rattle.fields.specs.declared.Number.{Number}
 use Rattle.fields.specs.declared.Number.TheVariants.{Value, Refused}

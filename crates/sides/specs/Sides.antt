@@ -1,9 +1,9 @@
 -- Stage 6 (RULES 6.9, refusal 18): whether each side of each line is listed in its area. The table t says where areas stand; l is the
 -- layer of the L at record r. Assumes nothing.
 --   lists file a back n    the area whose A is record a has the entry +n or, backwards, -n
---   sideListed ..          the area that stands at a column has it; area 0 is nobody
---   listChecks ..          of both sides of a line
---   stageSix file t b      of all lines, in the order of RULES 6.1
+--   side_listed ..         the area that stands at a column has it; area 0 is nobody
+--   list_checks ..         of both sides of a line
+--   stage_six file t b     of all lines, in the order of RULES 6.1
 use Rattle.std.specs.Prelude.{Bool, true, false, ◌||◌, List, [], ◌∷◌, ℕ, ◌+◌}
 use Rattle.records.specs.Columns.{Span, span_of, column_of, number_on, left_area, right_area}
 use Rattle.verdict.specs.Rules.{Rule, Check, check}

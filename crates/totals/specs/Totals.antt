@@ -2,9 +2,9 @@
 -- layers'; A's lines are the sum of its loops' line counts; M's and H's records are those that follow in the mesh or layer, the bearer left out.
 -- Assumes nothing.
 --   rank_of d            0 for an M, 1 for an H, 3 for a loop record, 2 for the others
---   sumsBehind r file k what follows the first k records, up to the next of rank r or above, added up
---   totalChecks d file k   the checks of stage 3 on record k + 1, due as d
---   stageThree file     all of them, in the order of RULES 6.1
+--   sums_behind r file k what follows the first k records, up to the next of rank r or above, added up
+--   total_checks d file k  the checks of stage 3 on record k + 1, due as d
+--   stage_three file    all of them, in the order of RULES 6.1
 use Rattle.std.specs.Prelude.{cond, List, [], ◌∷◌, ℕ, zero, suc, ◌+◌, ◌-◌, leb, eqb}
 use Rattle.records.specs.View.{record_of}
 use Rattle.records.specs.Columns.{Column, column_of, mesh_nodes, mesh_lines, mesh_areas, mesh_records}

@@ -1,11 +1,11 @@
 -- Rules and the first broken one (RULES 6.1). Assumes nothing.
 --   Check, Rule         one rule of a record; the same with its turn and record
---   firstBroken rs      the first broken rule of the list rs, or Fine
---   isFine v            the verdict v is Fine
+--   first_broken rs     the first broken rule of the list rs, or Fine
+--   is_fine v           the verdict v is Fine
 --   block s r cs        the checks cs as rules of turn s at record r
 --   rows n g            the lists g 0, g 1, .., g (n - 1), one after the other
 --   spread n g          the checks g 0, g 1, .., g (n - 1), one after the other
---   toldOf v            the verdict v by the numbers of RULES 6.2
+--   told_of v           the verdict v by the numbers of RULES 6.2
 use Rattle.std.specs.Prelude.{Bool, true, false, cond, List, [], ◌∷◌, ◌++◌, ℕ, zero, suc}
 use Rattle.verdict.specs.declared.Verdict.{Verdict}
 use Rattle.verdict.specs.declared.Verdict.TheVariants.{Fine, Broken}

@@ -1,11 +1,11 @@
 -- Quiet records: N and coordinates. Stages 3, 5 and 6 and the table ask nothing of them, so the code passes a run of them in one step.
 -- It serves the code's speed and is no part of a promise. Assumes nothing.
---   isQuiet d          the record is quiet
+--   is_quiet d         the record is quiet
 --   passed s h         the state behind the next h records, which are quiet
 --   Quiet s h          they are: coordinates where points are left, else nodes
---   quietAhead s       how many of them come next
---   countedPast c s h  the counts with them
---   fineAhead file points k m   of the m records behind the first k, how many from the first on are the next ones of a line with so many
+--   quiet_ahead s      how many of them come next
+--   counted_past c s h  the counts with them
+--   fine_ahead file points k m  of the m records behind the first k, how many from the first on are the next ones of a line with so many
 --                      points left, and keep the rules of stage 2
 use Rattle.std.specs.Prelude.{Bool, true, false, cond, ◌&&◌, ◌||◌, List, ◌≡◌, ℕ, zero, suc, ◌+◌, ◌-◌, ◌*◌, ◌/◌, ◌<◌, ltb}
 use Rattle.verdict.specs.Rules.{first_broken, is_fine, block}

@@ -1,9 +1,9 @@
 -- A layer's row in the table (RULES 8.1): how many words it has, and which word is what. A change of the row changes this page, and
 -- `put_row`, which writes one. Assumes nothing.
---   rowLength        how many words
---   headWord, ..     the place of each in its row, counted from 0
+--   row_length       how many words
+--   head_word, ..    the place of each in its row, counted from 0
 --   row_of ..         a row, by its words
---   mostLayerWords   the most words that a layer can need
+--   most_layer_words  the most words that a layer can need
 use Rattle.std.specs.Prelude.{List, [], ◌∷◌, ℕ, ◌+◌, ◌*◌}
 
 -- RULES 8.1: the H record, nodes, lines, areas, letters

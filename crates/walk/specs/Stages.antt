@@ -1,9 +1,9 @@
 -- Stages 1 and 2 of a file as lists of rules in the order of RULES 6.1 (RULES 6.3 to 6.5, refusals 1 to 9), and
 -- the need. Assumes nothing.
---   recordsOf file      how many records are judged: those that there are, and no more than there may be
---   stageOne file       refusals 1 and 2
---   stageTwo file       refusals 3 to 6, and 8
---   walkedOf file       the first broken rule of both, and the counts of a file that keeps them
+--   records_of file     how many records are judged: those that there are, and no more than there may be
+--   stage_one file      refusals 1 and 2
+--   stage_two file      refusals 3 to 6, and 8
+--   walked_of file      the first broken rule of both, and the counts of a file that keeps them
 --   early file room     the rules of both, and refusal 9 for a table of `room` words
 --   need_of file         the words that the file needs; 0 for a file refused in stage 1 or 2
 use Rattle.std.specs.Prelude.{Bool, true, false, cond, ◌&&◌, List, [], ◌∷◌, ◌++◌, ℕ, ◌+◌, ◌/◌, ◌%◌, ltb, leb, eqb, length, get_or}

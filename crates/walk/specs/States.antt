@@ -2,10 +2,10 @@
 -- coordinate records, and its areas, each an A and its loop records; RULES 2.5: the numbers that steer the walk).
 -- Assumes nothing.
 --   size_at t c       the number in the field c of the record t, without its sign; 0 where there is none
---   dueOf s          what is due in the state s
+--   due_of s         what is due in the state s
 --   next_of s t       the state behind the record t
---   stateAt file k   the state behind the first k records
---   countsAt file k  what these records were, counted, and the words that they need
+--   state_at file k  the state behind the first k records
+--   counts_at file k  what these records were, counted, and the words that they need
 use Rattle.std.specs.Prelude.{cond, List, ℕ, zero, suc, ◌+◌, ◌-◌, ◌*◌, ◌≤◌, ltb}
 use Rattle.fields.specs.Number.{number_at}
 use Rattle.fields.specs.Answer.{value_of}

@@ -1,10 +1,10 @@
 -- The table of a file (RULES 8.1: for each layer, in file order, its row; behind all rows each line's L record; then each
 -- area's A record). Assumes nothing.
---   rowWords d t r   the words of the row that the record t gives, due as d, with the number r: none but for an H
+--   row_words d t r  the words of the row that the record t gives, due as d, with the number r: none but for an H
 --   gather g file k  the words that g takes from the first k records, in file order
 --   table_of file     the file's table
 --   filled ws d      ws in front, and what stood in d behind it
---   tabledOf, filledBy   what is answered up to refusal 9, and what the lent table holds then
+--   tabled_of, filled_by  what is answered up to refusal 9, and what the lent table holds then
 use Rattle.std.specs.Prelude.{List, [], ◌∷◌, ◌++◌, ℕ, zero, suc, length, drop}
 use Rattle.records.specs.View.{record_of}
 use Rattle.records.specs.Reading.{head_letters}
