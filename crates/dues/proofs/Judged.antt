@@ -18,8 +18,7 @@ use Rattle.records.specs.Reading.{fault_of, first_fault, no_fault, zeros, fields
 use Rattle.records.specs.View.{record_of}
 use Rattle.records.proofs.Numbers.{record_length}
 use Rattle.records.proofs.RecordLaws.{fault_free}
-use Rattle.verdict.specs.declared.Verdict.TheVariants.{Fine, Broken}
-use Rattle.verdict.specs.Rules.{first_broken, check, block, rows}
+use Rattle.verdict.specs.Rules.{Fine, Broken, first_broken, check, block, rows}
 use Rattle.verdict.proofs.Parts.{in_turn, both_fine, check_none, check_kept, check_broken}
 use Rattle.verdict.proofs.Holding.{Holding, all_hold, both_hold, row_fine}
 use Rattle.asks.specs.Asks.{Ask}
@@ -127,7 +126,7 @@ last_by r false = check_broken 2 r 1 4 false [] refl
 -- ENDED AS TOLD: where a file keeps stage 1 and each of its records the rules of stage 2, its end is fine if an M is told behind the last record;
 -- if any other record is, it is 4 there
 pub ended_as_told : (file : List ℕ) → first_broken (stage_one file) ≡ Fine → first_broken (rows (records_of file) (stage_two_rules file)) ≡ Fine
-    → {j : Kind} → due_at file (records_of file + 1) ≡ A j → (walked_of file).verdict ≡ cond (is_mesh j) Fine (Broken 4 (records_of file + 1) 1)
+    → {j : Kind} → due_at file (records_of file + 1) ≡ A j → verdict_in (walked_of file) ≡ cond (is_mesh j) Fine (Broken 4 (records_of file + 1) 1)
 unfolding stage_two last_checks
 ended_as_told file one two e =
     let n = records_of file in

@@ -11,8 +11,7 @@ use lib.IntN.{ℤ, pos, negsuc}
 use lib.ListN.{get_or}
 use borrow.Author.Tests.{eqb-true}
 use Rattle.records.specs.Columns.{Span, span_of, number_on, left_area, right_area, value_at}
-use Rattle.verdict.specs.declared.Verdict.TheVariants.{Fine}
-use Rattle.verdict.specs.Rules.{first_broken}
+use Rattle.verdict.specs.Rules.{Fine, first_broken}
 use Rattle.verdict.proofs.Holding.{row_fine, Holding, all_hold}
 use Rattle.rules.specs.declared.Due.{Due}
 use Rattle.permitted.specs.Permitted.{size, within, is_zero}

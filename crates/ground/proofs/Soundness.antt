@@ -19,8 +19,7 @@ use Rattle.records.specs.Columns.{layer_lines, layer_areas}
 use Rattle.records.specs.Layout.{layout_of}
 use Rattle.records.specs.Reading.{head_letters, fault_of}
 use Rattle.records.specs.declared.Field.TheVariants as field
-use Rattle.verdict.specs.declared.Verdict.TheVariants.{Fine}
-use Rattle.verdict.specs.Rules.{first_broken}
+use Rattle.verdict.specs.Rules.{Fine, first_broken}
 use Rattle.verdict.proofs.Holding.{Holding}
 use Rattle.verdict.proofs.Orders.{and_both}
 use Rattle.rules.specs.declared.Due.{Due}

@@ -18,7 +18,7 @@ use mir.Syntax.{w32, w64}
 use mir.Val.{SFits, to_z, of_z, hbits}
 use Rattle.records.specs.Columns.{left_area, right_area, value_at}
 use Rattle.permitted.specs.Permitted.{size, same, is_zero}
-use Rattle.verdict.specs.declared.Verdict.TheVariants.{Fine}
+use Rattle.verdict.specs.Rules.{Fine}
 use Rattle.walk.specs.Row.{areas_word}
 use Rattle.walk.specs.Table.{filled}
 use Rattle.walk.proofs.Stores.{more_filled, filled_length}

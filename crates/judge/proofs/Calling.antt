@@ -8,9 +8,8 @@ use lib.Dec.{leb, lit≤}
 use lib.IntN.{ℤ, pos}
 use lib.ListN.{length, take, drop, length-append}
 use lib.Seq.{take-append_seam}
-use Rattle.verdict.specs.declared.Verdict.{Verdict}
-use Rattle.verdict.specs.declared.Verdict.TheVariants.{Fine, Broken}
-use Rattle.verdict.specs.Rules.{Check, block, first_broken}
+use Rattle.std.specs.Prelude.{Err}
+use Rattle.verdict.specs.Rules.{Verdict, Fine, Broken, Check, block, first_broken}
 use Rattle.verdict.proofs.Parts.{fine_broken, stands, goes_on, both_fine, check_fine}
 use Rattle.walk.specs.declared.Tabled.{Tabled}
 use Rattle.walk.specs.declared.Counts.{Counts}
@@ -45,11 +44,11 @@ use Rattle.judge.proofs.Loading.{counts_few}
 -- ---- a file that keeps all stages
 
 module _ (file : List ℕ) (room : ℕ) (q : first_broken (rules_of file room) ≡ Fine) where
-  walked_kept : (walked_of file).verdict ≡ Fine
+  walked_kept : verdict_in (walked_of file) ≡ Fine
   unfolding rules_of early
   walked_kept = walked_verdict file ∙ (both_fine (stage_one file ++ stage_two file) (room_rule file room) (both_fine (early file room) (late file) q).0).0
 
-  stages_kept : (first_broken (stage_two file) ≡ Fine) × ((walked_of file).counts ≡ counts_at file (records_of file))
+  stages_kept : (first_broken (stage_two file) ≡ Fine) × (counts_in (walked_of file) ≡ counts_at file (records_of file))
   stages_kept = ((walked_fine file walked_kept).1, (walked_fine file walked_kept).2)
 
   late_kept : first_broken (late file) ≡ Fine
@@ -80,9 +79,9 @@ module _ (file : List ℕ) (room : ℕ) (last : Counts → Check) (h : call_verd
 
 counts_countable : (v : Verdict) (c : Counts) → Countable c → Countable (walked_by v c).counts
 counts_countable Fine c h = h
-counts_countable (Broken n r p) c h = record { meshes = lit≤ tt; layers = lit≤ tt; nodes = lit≤ tt; lines = lit≤ tt; areas = lit≤ tt; words = lit≤ tt }
+counts_countable (Err r) c h = record { meshes = lit≤ tt; layers = lit≤ tt; nodes = lit≤ tt; lines = lit≤ tt; areas = lit≤ tt; words = lit≤ tt }
 
-walked_countable : (file : List ℕ) → Countable (walked_of file).counts
+walked_countable : (file : List ℕ) → Countable counts_in (walked_of file)
 unfolding walked_of
 walked_countable file =
     counts_countable (first_broken (stage_one file ++ stage_two file)) (counts_at file (records_of file)) (countable file (records_of file) (records_small file))
@@ -91,7 +90,7 @@ walked_countable file =
 
 asked_fine : (v : Verdict) (x : Check) → asked_by v x ≡ Fine → (v ≡ Fine) × (x.holds ≡ true)
 asked_fine Fine x h = (refl, check_fine eighth 0 x.column x.number x.holds h)
-asked_fine (Broken n r c) x h = fine_broken h refl
+asked_fine (Err r) x h = fine_broken h refl
 
 -- a refusal above 9 leaves the table where it stands
 asked_table : (file words : List ℕ) (v : Verdict) (x : Check) → leb x.number 9 ≡ false → table_by (asked_by v x) file words ≡ table_by v file words
@@ -101,7 +100,7 @@ asked_table file words Fine x h = by x.holds
     by : (b : Bool) → table_by (cond b Fine (Broken x.number 0 x.column)) file words ≡ filled (table_of file) words
     by true = refl
     by false = rw h
-asked_table file words (Broken n r c) x h = refl
+asked_table file words (Err r) x h = refl
 
 -- ---- behind all stages, of whose answer t is known
 
@@ -110,7 +109,7 @@ module _ (file : List ℕ) (room : ℕ) {t : Tabled} (e : t ≡ judged_of file r
   unfolding judged_of
   judged = ap (λ (x : Tabled). x.verdict) e
 
-  counted : t.counts ≡ (walked_of file).counts
+  counted : t.counts ≡ counts_in (walked_of file)
   unfolding judged_of
   counted = ap (λ (x : Tabled). x.counts) e
 
@@ -198,7 +197,7 @@ module _ (file : List ℕ) (room : ℕ) {t : Tabled} (e : t ≡ judged_of file r
       where
         by : (u : Verdict) → t.verdict ≡ u → v ≡ first_broken (call_rules file room last)
         by Fine q = goes_on (rules_of file room) _ q judged (rw (← judged_counts q) (rw q at a))
-        by (Broken n r c) q = (rw q at a) ∙ sym q ∙ stands (rules_of file room) _ q judged
+        by (Err r) q = (rw q at a) ∙ sym q ∙ stands (rules_of file room) _ q judged
 
     pub outcome_told : {o : Outcome} → o ≡ outcome_by v t.counts (records_of file) t.counts.words → o ≡ outcome_behind file room last
     unfolding outcome_behind
@@ -207,7 +206,7 @@ module _ (file : List ℕ) (room : ℕ) {t : Tabled} (e : t ≡ judged_of file r
         by : (u : Verdict) → v ≡ u
             → outcome_by u t.counts (records_of file) t.counts.words ≡ outcome_by u (counts_at file (records_of file)) (records_of file) t.counts.words
         by Fine q = rw (judged_counts (asked_fine t.verdict _ (sym a ∙ q)).0)
-        by (Broken n r c) q = refl
+        by (Err r) q = refl
 
     -- a number above 9
     pub table_told : leb (last t.counts).number 9 ≡ false

@@ -8,9 +8,8 @@ use lib.Dec.{leb}
 use lib.ListN.{length, take, drop, length-append}
 use lib.Seq.{take-append_seam}
 use borrow.Author.Tests.{lt-leb}
-use Rattle.verdict.specs.declared.Verdict.{Verdict}
-use Rattle.verdict.specs.declared.Verdict.TheVariants.{Fine, Broken}
-use Rattle.verdict.specs.Rules.{first_broken}
+use Rattle.std.specs.Prelude.{Err}
+use Rattle.verdict.specs.Rules.{Verdict, Fine, Broken, first_broken}
 use Rattle.verdict.proofs.Parts.{stands, goes_on, both_fine}
 use Rattle.verdict.proofs.Orders.{and_both}
 use Rattle.verdict.proofs.Numbers.{between, unlike, up_to9, ten_to18, between_both, Numbered, append_numbered, broken_number}
@@ -102,7 +101,7 @@ module _ (file : List ℕ) (room : ℕ) {t : Tabled} (e : t ≡ tabled_of file r
   unfolding tabled_of
   tabled = ap (λ (x : Tabled). x.verdict) e
 
-  counted : t.counts ≡ (walked_of file).counts
+  counted : t.counts ≡ counts_in (walked_of file)
   unfolding tabled_of
   counted = ap (λ (x : Tabled). x.counts) e
 
@@ -132,7 +131,7 @@ module _ (file : List ℕ) (room : ℕ) {t : Tabled} (e : t ≡ tabled_of file r
 
   -- not refused so: the counts are those of all records, and the first words of the table are the file's table
   module _ (q : t.verdict ≡ Fine) where
-    kept : (walked_of file).verdict ≡ Fine
+    kept : verdict_in (walked_of file) ≡ Fine
     unfolding early
     kept = walked_verdict file ∙ (both_fine (stage_one file ++ stage_two file) (room_rule file room) (sym tabled ∙ q)).0
 
@@ -169,7 +168,7 @@ module _ (file : List ℕ) (room : ℕ) {t : Tabled} (e : t ≡ tabled_of file r
 
       stood : (v : Verdict) (words : List ℕ) → v ≡ first_broken (late file) → filled (table_of file) words ≡ table_by v file words
       stood Fine words h = refl
-      stood (Broken n r c) words h =
+      stood (Err r) words h =
           let b = between_both 10 18 n (broken_number ten_to18 (late file) (late_numbered file) (sym h)) in
           let d : leb n 9 ≡ false = lt-leb n 9 b.0 in
           rw d

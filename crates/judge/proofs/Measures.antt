@@ -7,7 +7,7 @@ use native.Mathlib.Numerals.{add-one}
 use native.Mathlib.Omega.{arith}
 use lib.IntN.{ℤ, pos}
 use lib.ListN.{length, get_or}
-use Rattle.verdict.specs.declared.Verdict.TheVariants.{Fine}
+use Rattle.verdict.specs.Rules.{Fine}
 use Rattle.rules.specs.declared.Due.TheVariants.{Area}
 use Rattle.walk.specs.Row.{areas_word}
 use Rattle.walk.specs.States.{due_of, state_at, counts_at}

@@ -8,9 +8,8 @@ use Prim.Native.Nat.{ℕ, ◌-◌, ◌≤◌}
 use native.Mathlib.Omega.{arith}
 use lib.IntN.{pos}
 use borrow.Author.Tests.{leb-true, le-leb}
-use Rattle.verdict.specs.declared.Verdict.{Verdict}
-use Rattle.verdict.specs.declared.Verdict.TheVariants.{Fine, Broken}
-use Rattle.verdict.specs.Rules.{Check, first_broken}
+use Rattle.std.specs.Prelude.{Err}
+use Rattle.verdict.specs.Rules.{Verdict, Fine, Broken, Check, first_broken}
 use Rattle.verdict.proofs.Orders.{and_both}
 use Rattle.verdict.proofs.Parts.{goes_on, check_none, check_kept}
 use Rattle.walk.specs.declared.Counts.{Counts}
@@ -59,4 +58,4 @@ sums_equal file room i = by (sums_verdict file room i) refl
     by Fine h =
         let c = and_both _ _ (last_fine file room (layer_rule i) h) in
         layer_agrees file room i (leb-true 1 i c.0) (leb-true i _ c.1) (rules_fine file room (layer_rule i) h)
-    by (Broken n r c) h = refl
+    by (Err r) h = refl

@@ -7,7 +7,7 @@ use native.Mathlib.Nat.{add-zero}
 use native.Mathlib.Omega.{arith}
 use lib.IntN.{ℤ, pos}
 use lib.ListN.{length, get_or, get_or-append}
-use Rattle.verdict.specs.declared.Verdict.TheVariants.{Fine}
+use Rattle.verdict.specs.Rules.{Fine}
 use Rattle.walk.specs.States.{counts_at}
 use Rattle.walk.specs.Stages.{records_of}
 use Rattle.walk.specs.Table.{table_of}

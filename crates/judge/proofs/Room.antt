@@ -8,9 +8,8 @@ use Prim.Native.Nat.{ℕ, ◌*◌, ◌/◌, ◌≤◌, ◌<◌}
 use native.Mathlib.Omega.{arith}
 use lib.Dec.{lit<}
 use borrow.Author.Tests.{le-leb}
-use Rattle.verdict.specs.declared.Verdict.{Verdict}
-use Rattle.verdict.specs.declared.Verdict.TheVariants.{Fine, Broken}
-use Rattle.verdict.specs.Rules.{Rule, Check, block, first_broken, told_of}
+use Rattle.std.specs.Prelude.{Err}
+use Rattle.verdict.specs.Rules.{Verdict, Fine, Broken, Rule, Check, block, first_broken, told_of}
 use Rattle.verdict.proofs.Numbers.{unlike, between_unlike, given_unlike, numbered, Numbered, block_numbered, append_numbered, not_told}
 use Rattle.verdict.proofs.Parts.{◌or_else◌, in_turn, both_fine, check_none, check_kept}
 use Rattle.walk.specs.declared.Counts.{Counts}
@@ -29,7 +28,7 @@ use Rattle.judge.proofs.Loading.{late_numbered}
 -- a table of `room` words and `places` places for measures are enough for a file: the need, and a place for each area
 pub record Enough (file : List ℕ) (room places : ℕ) : Type 0 where
   pub words : need_of file ≤ room
-  pub areas : (walked_of file).verdict ≡ Fine → (counts_at file (records_of file)).areas ≤ places
+  pub areas : verdict_in (walked_of file) ≡ Fine → (counts_at file (records_of file)).areas ≤ places
 
 -- as many of each as the need says are
 pub need_enough : (file : List ℕ) (room places : ℕ) → need_of file ≤ room → need_of file ≤ places → Enough file room places
@@ -40,11 +39,11 @@ need_enough file room places w p = record { words = w; areas = λ kept. omega (a
 -- a part that is fine wherever those before it are can be left out
 skipped : (a b c : Verdict) → (a ≡ Fine → b ≡ Fine) → (a or_else b) or_else c ≡ a or_else c
 skipped Fine b c h = rw (h refl)
-skipped (Broken n r p) b c h = refl
+skipped (Err r) b c h = refl
 
 last_skipped : (a b : Verdict) → (a ≡ Fine → b ≡ Fine) → a or_else b ≡ a
 last_skipped Fine b h = h refl
-last_skipped (Broken n r p) b h = refl
+last_skipped (Err r) b h = refl
 
 -- the rules of a file but for the room
 abbrev own_rules : List ℕ → List Rule
@@ -70,7 +69,7 @@ module _ (file : List ℕ) (room : ℕ) (w : need_of file ≤ room) where
   rules_then rs = in_turn (rules_of file room) rs ∙ ap (λ v. v or_else first_broken rs) rules_roomy ∙ sym (in_turn (own_rules file) rs)
 
 -- what a call asks is so in every file that keeps stages 1 and 2
-module _ (file : List ℕ) (room : ℕ) (last : Counts → Check) (p : (walked_of file).verdict ≡ Fine → (last (counts_at file (records_of file))).holds ≡ true) where
+module _ (file : List ℕ) (room : ℕ) (last : Counts → Check) (p : verdict_in (walked_of file) ≡ Fine → (last (counts_at file (records_of file))).holds ≡ true) where
   asked_kept : first_broken (rules_of file room) ≡ Fine → first_broken (block eighth 0 (last (counts_at file (records_of file)) ∷ [])) ≡ Fine
   unfolding rules_of early
   asked_kept h =
@@ -117,7 +116,7 @@ never_nine file room last h w t =
     omega arith
 
 -- a number above 18 is not told where what it asks is so
-never_last : (file : List ℕ) (room : ℕ) (last : Counts → Check) → ((walked_of file).verdict ≡ Fine → (last (counts_at file (records_of file))).holds ≡ true)
+never_last : (file : List ℕ) (room : ℕ) (last : Counts → Check) → (verdict_in (walked_of file) ≡ Fine → (last (counts_at file (records_of file))).holds ≡ true)
     → (m : ℕ) → 18 < m → (outcome_behind file room last).number ≡ m → ⊥
 never_last file room last p m g e =
     let v = call_verdict file room last in

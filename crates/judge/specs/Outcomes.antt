@@ -7,15 +7,13 @@
 --   table_after, measures_after  the table, and the measures that held ms, behind it
 --   sums_of file room i    the answer of the layer sums; table_after_sums: the table behind it
 --   outcome_of_all, table_after_all, sums_after  of all sums: the answer, the table, and the sums that held ss
-use Rattle.std.specs.Prelude.{cond, List, [], ◌∷◌, ◌++◌, ℕ, zero, suc, ◌-◌, eqb, leb, ℤ, pos, length}
-use Rattle.verdict.specs.declared.Verdict.{Verdict}
-use Rattle.verdict.specs.declared.Verdict.TheVariants.{Fine, Broken}
-use Rattle.verdict.specs.Rules.{Check, block, told_of, first_broken}
+use Rattle.std.specs.Prelude.{cond, List, [], ◌∷◌, ◌++◌, ℕ, zero, suc, ◌-◌, eqb, leb, ℤ, pos, length, Result, Ok, Err}
+use Rattle.verdict.specs.Rules.{Verdict, Fine, Broken, Check, block, told_of, first_broken}
 use Rattle.walk.specs.declared.Counts.{Counts}
-use Rattle.walk.specs.declared.Tabled.{Tabled}
+use Rattle.walk.specs.declared.Refused.{Refused}
 use Rattle.walk.specs.States.{no_counts, counts_at}
-use Rattle.walk.specs.Stages.{records_of, walked_of, need_of}
-use Rattle.walk.specs.Table.{table_of, filled}
+use Rattle.walk.specs.Stages.{records_of, need_of}
+use Rattle.walk.specs.Table.{table_of, filled, tabled_by}
 use Rattle.layers.specs.declared.Bases.{Bases}
 use Rattle.layers.specs.declared.Layer.{Layer}
 use Rattle.layers.specs.Naming.{layer_in}
@@ -28,13 +26,13 @@ use Rattle.judge.specs.Rulebook.{rules_of, eighth, measure_rule, layer_rule, pai
 -- ---- all stages
 
 -- RULES 6.1: the verdict of the file's rules, and the counts of a file that keeps stages 1 and 2
-unfoldable pub judged_of : List ℕ → ℕ → Tabled
-judged_of file room = record { verdict = first_broken (rules_of file room); counts = (walked_of file).counts }
+unfoldable pub judged_of : List ℕ → ℕ → Result Counts Refused
+judged_of file room = tabled_by (first_broken (rules_of file room)) (counts_at file (records_of file)) (need_of file)
 
 -- RULES 8.3: refused with 1 to 9, all words are as they were; refused later, or accepted, the table stands in front, the rest is as it was
 abbrev pub table_by : Verdict → List ℕ → List ℕ → List ℕ
 table_by Fine file words = filled (table_of file) words
-table_by (Broken number r c) file words = cond (leb number 9) words (filled (table_of file) words)
+table_by (Err r) file words = cond (leb r.number 9) words (filled (table_of file) words)
 
 -- RULES 8.3: the table behind all stages
 unfoldable pub table_judged : List ℕ → List ℕ → List ℕ
@@ -43,7 +41,7 @@ table_judged file words = table_by (first_broken (rules_of file (length words)))
 -- RULES 6.1: a refusal of the stages stands, and behind them a call asks `last`
 abbrev pub asked_by : Verdict → Check → Verdict
 asked_by Fine last = first_broken (block eighth 0 (last ∷ []))
-asked_by (Broken number r c) last = Broken number r c
+asked_by (Err r) last = Err r
 
 -- ---- every call
 
@@ -68,7 +66,7 @@ outcome_with v c records n = record {
 -- RULES 9.1: the counts are 0 if refused
 abbrev pub outcome_by : Verdict → Counts → ℕ → ℕ → Outcome
 outcome_by Fine c records n = outcome_with Fine c records n
-outcome_by (Broken number r column) c records n = outcome_with (Broken number r column) no_counts 0 n
+outcome_by (Err r) c records n = outcome_with (Err r) no_counts 0 n
 
 -- RULES 9.1, 9.11: counted over the whole file
 unfoldable pub outcome_behind : List ℕ → ℕ → (Counts → Check) → Outcome
@@ -81,7 +79,7 @@ table_behind file last words = table_by (call_verdict file (length words) last) 
 -- RULES 8.4, 8.5: on acceptance only; otherwise, and behind them, the buffer is as it was
 abbrev pub lent_by : Verdict → List ℤ → List ℤ → List ℤ
 lent_by Fine zs ds = filled zs ds
-lent_by (Broken number r c) zs ds = ds
+lent_by (Err r) zs ds = ds
 
 -- ---- the judge
 
@@ -109,7 +107,7 @@ sums_with v areas outside = record { number = (told_of v).number; place = (told_
 abbrev pub sums_by : Verdict → List ℕ → ℕ → Sums
 sums_by Fine file i =
     sums_with Fine (areas_sum file (table_of file) (layer_of file (i - 1))) (outside_sum file (table_of file) (layer_of file (i - 1)))
-sums_by (Broken number r column) file i = sums_with (Broken number r column) (pos 0) (pos 0)
+sums_by (Err r) file i = sums_with (Err r) (pos 0) (pos 0)
 
 -- RULES 9.2: the answer of the layer sums
 unfoldable pub sums_of : List ℕ → ℕ → ℕ → Sums

@@ -8,8 +8,7 @@
 --   call_verdict file room last the first broken one of them
 --   verdict_of, sums_verdict, all_verdict  the answers of the judge, the layer sums and all sums
 use Rattle.std.specs.Prelude.{◌&&◌, List, [], ◌∷◌, ◌++◌, ℕ, ◌*◌, leb}
-use Rattle.verdict.specs.declared.Verdict.{Verdict}
-use Rattle.verdict.specs.Rules.{Rule, Check, check, block, first_broken}
+use Rattle.verdict.specs.Rules.{Verdict, Rule, Check, check, block, first_broken}
 use Rattle.walk.specs.declared.Counts.{Counts}
 use Rattle.walk.specs.States.{counts_at}
 use Rattle.walk.specs.Stages.{records_of, early}

@@ -8,8 +8,7 @@
 
 ghost use Rattle.std.specs.Prelude.{◌≡◌, suc, ◌+◌, ◌*◌, ◌≤◌, pos, length};
 ghost use Rattle.std.proofs.lemmas.List.Edits.{sets};
-ghost use Rattle.verdict.specs.declared.Verdict.TheVariants.{Fine};
-ghost use Rattle.verdict.specs.Rules.{check, first_broken};
+ghost use Rattle.verdict.specs.Rules.{Fine, check, first_broken};
 ghost use Rattle.walk.specs.Row.{areas_word};
 ghost use Rattle.walk.specs.States.{counts_at, Countable};
 ghost use Rattle.walk.specs.Stages.{records_of, stage_two};
@@ -25,7 +24,7 @@ ghost use Rattle.judge.specs.Outcomes.{sums_with, sums_of, table_after_sums, out
 ghost use Rattle.judge.specs.Measuring.{Measurable, kept_area, outside_at, Summable, SummableTo};
 
 use layers::{Bases, Layer};
-use verdict::Verdict;
+use verdict::{Refusal, Verdict};
 use walk::{Counts, Tabled};
 
 // What is answered: a refusal's number and place, or 0 at 0, 0; the file's meshes, layers, nodes, lines,
@@ -78,77 +77,34 @@ fn judge_late(file: &[u8], table: &[u32], c: Counts) -> Verdict
     ensures { result ≡ first_broken (late file.now) }
 {
     let b = bases_of(c);
-    let three = totals::stage_three(file);
-    if let Verdict::Broken {
-        number: _,
-        record: _,
-        column: _,
-    } = three
-    {
-        return three;
-    }
-    let four = links::stage_four(file, table, b);
-    if let Verdict::Broken {
-        number: _,
-        record: _,
-        column: _,
-    } = four
-    {
-        return four;
-    }
-    let five = loops::stage_five(file, table, b);
-    if let Verdict::Broken {
-        number: _,
-        record: _,
-        column: _,
-    } = five
-    {
-        return five;
-    }
+    totals::stage_three(file)?;
+    links::stage_four(file, table, b)?;
+    loops::stage_five(file, table, b)?;
     sides::stage_six(file, table, b)
 }
 
-// All stages, and the counts; the table is left in the first words of `table`, and refused with 1 to 9
+// All stages: the counts, or the refusal. The table is left in the first words of `table`, and refused with 1 to 9
 // `table` is left as it was.
-fn judge_file(file: &[u8], table: &mut [u32]) -> Tabled
+fn judge_file(file: &[u8], table: &mut [u32]) -> Result<Counts, Refused>
     ensures { (result ≡ judged_of file.now (length table.old)) × (table.new ≡ table_judged file.now table.old) }
 {
-    let t = walk::fill_table(file, table);
-    let v = t.verdict;
-    if let Verdict::Broken {
-        number: _,
-        record: _,
-        column: _,
-    } = v
-    {
-        return t;
-    }
-    let counts = t.counts;
-    let w = judge_late(file, &table[..counts.words], counts);
-    Tabled { verdict: w, counts }
+    let counts = walk::fill_table(file, table)?;
+    judge_late(file, &table[..counts.words], counts)?;
+    Ok(counts)
 }
 
-// What a call asks behind all stages: their refusal `v` stands; else what is not `kept` is refused with
-// `number`, at no place.
-fn asked(v: Verdict, number: u32, kept: bool) -> Verdict
-    ensures { result ≡ asked_by v (check 0 number kept) }
+// What a call asks behind all stages: what is not `kept` is refused with `number`, at no place.
+fn asked(number: u32, kept: bool) -> Verdict
+    ensures { result ≡ first_broken (block eighth 0 (check 0 number kept ∷ [])) }
 {
-    if let Verdict::Broken {
-        number: _,
-        record: _,
-        column: _,
-    } = v
-    {
-        return v;
-    }
     if kept {
-        return v;
+        return Ok(());
     }
-    Verdict::Broken {
+    Err(Refusal {
         number,
-        record: 0,
+        place: 0,
         column: 0,
-    }
+    })
 }
 
 // ---- measures
@@ -287,62 +243,46 @@ fn fill_sums(file: &[u8], table: &[u32], b: Bases, n: usize, sums: &mut [i64])
 
 // ---- the calls
 
-// A verdict by refusal numbers, with the need where it is told; the counts and records of acceptance.
-fn outcome_of(file: &[u8], v: Verdict, c: Counts) -> Outcome
-    requires { Countable c }
-    ensures { result ≡ outcome_by v c (records_of file.now) c.words }
+// What a call answers: the counts and records of acceptance, or the refusal by its number, with the need where it is
+// told.
+fn outcome_of(file: &[u8], judged: Result<Counts, Refused>) -> Outcome
+    requires { Countable (counts_told judged) }
+    ensures { result ≡ outcome_told judged (records_of file.now) }
 {
-    let told = verdict::by_number(v);
-    let mut o = Outcome {
-        number: told.number,
-        place: told.place,
-        column: told.column,
-        meshes: 0,
-        layers: 0,
-        nodes: 0,
-        lines: 0,
-        areas: 0,
-        records: 0,
-        need: 0,
-    };
-    if told.number == 9 {
-        o.need = c.words as u64;
-        return o;
+    match judged {
+        Ok(c) => Outcome {
+            number: 0,
+            place: 0,
+            column: 0,
+            meshes: c.meshes as u32,
+            layers: c.layers as u32,
+            nodes: c.nodes as u32,
+            lines: c.lines as u32,
+            areas: c.areas as u32,
+            records: walk::records_of(file) as u32,
+            need: 0,
+        },
+        Err(r) => Outcome {
+            number: r.refusal.number,
+            place: r.refusal.place,
+            column: r.refusal.column,
+            meshes: 0,
+            layers: 0,
+            nodes: 0,
+            lines: 0,
+            areas: 0,
+            records: 0,
+            need: r.need as u64,
+        },
     }
-    if let Verdict::Broken {
-        number: _,
-        record: _,
-        column: _,
-    } = v
-    {
-        return o;
-    }
-    o.meshes = c.meshes as u32;
-    o.layers = c.layers as u32;
-    o.nodes = c.nodes as u32;
-    o.lines = c.lines as u32;
-    o.areas = c.areas as u32;
-    o.records = walk::records_of(file) as u32;
-    o
 }
 
-// Judges a file, and leaves its table in the first words of `table` and its areas' measures in the first
-// places of `measures`. Refused with 1 to 9, it leaves `table` as it was; refused at all, `measures`.
-pub fn load(file: &[u8], table: &mut [u32], measures: &mut [i64]) -> Outcome
-    ensures { (result ≡ outcome_of file.now (length table.old) (length measures.old)) × (table.new ≡ table_after file.now (length measures.old) table.old) × (measures.new ≡ measures_after file.now (length table.old) measures.old) }
+// Judges a file, asks for a place for each measure, and fills them in.
+fn judge_measures(file: &[u8], table: &mut [u32], measures: &mut [i64]) -> Result<Counts, Refused>
+    ensures { (result ≡ told_behind file.now (length table.old) (measure_rule (length measures.old))) × (table.new ≡ table_after file.now (length measures.old) table.old) × (measures.new ≡ measures_after file.now (length table.old) measures.old) }
 {
-    let t = judge_file(file, table);
-    let counts = t.counts;
-    let stages = t.verdict;
-    let v = asked(stages, 19, counts.areas <= measures.len());
-    if let Verdict::Broken {
-        number: _,
-        record: _,
-        column: _,
-    } = v
-    {
-        return outcome_of(file, v, counts);
-    }
+    let counts = judge_file(file, table)?;
+    asked(19, counts.areas <= measures.len())?;
     fill_measures(
         file,
         &table[..counts.words],
@@ -350,7 +290,16 @@ pub fn load(file: &[u8], table: &mut [u32], measures: &mut [i64]) -> Outcome
         counts.layers,
         measures,
     );
-    outcome_of(file, v, counts)
+    Ok(counts)
+}
+
+// Judges a file, and leaves its table in the first words of `table` and its areas' measures in the first
+// places of `measures`. Refused with 1 to 9, it leaves `table` as it was; refused at all, `measures`.
+pub fn load(file: &[u8], table: &mut [u32], measures: &mut [i64]) -> Outcome
+    ensures { (result ≡ outcome_of file.now (length table.old) (length measures.old)) × (table.new ≡ table_after file.now (length measures.old) table.old) × (measures.new ≡ measures_after file.now (length table.old) measures.old) }
+{
+    let judged = judge_measures(file, table, measures);
+    outcome_of(file, judged)
 }
 
 // A refusal, and no sums.
@@ -378,12 +327,7 @@ pub fn layer_sums(file: &[u8], table: &mut [u32], layer: u32) -> Sums
     let stages = t.verdict;
     let i = layer as usize;
     let v = asked(stages, 22, (1 <= i) & (i <= counts.layers));
-    if let Verdict::Broken {
-        number: _,
-        record: _,
-        column: _,
-    } = v
-    {
+    if let Err(_) = v {
         return no_sums(v);
     }
     let mut measures = [0i64; 9999];
@@ -402,12 +346,7 @@ pub fn all_sums(file: &[u8], table: &mut [u32], sums: &mut [i64]) -> Outcome
     let counts = t.counts;
     let stages = t.verdict;
     let v = asked(stages, 48, 2 * counts.layers <= sums.len());
-    if let Verdict::Broken {
-        number: _,
-        record: _,
-        column: _,
-    } = v
-    {
+    if let Err(_) = v {
         return outcome_of(file, v, counts);
     }
     fill_sums(

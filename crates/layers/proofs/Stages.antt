@@ -5,9 +5,7 @@ use mathlib.Core.List.{List, []}
 use mathlib.Core.Path.{◌≡◌, sym, ◌∙◌, ap}
 use Prim.Native.Nat.{ℕ, ◌+◌, ◌≤◌, ◌<◌}
 use native.Mathlib.Omega.{arith}
-use Rattle.verdict.specs.declared.Verdict.{Verdict}
-use Rattle.verdict.specs.declared.Verdict.TheVariants.{Fine, Broken}
-use Rattle.verdict.specs.Rules.{Check, first_broken, block, rows}
+use Rattle.verdict.specs.Rules.{Verdict, Fine, Broken, Check, first_broken, block, rows}
 use Rattle.verdict.specs.Order.{Sorted, rising}
 use Rattle.verdict.proofs.Parts.{check_none, rows_none, rows_pass, rows_past, rows_stop, rows_done}
 use Rattle.verdict.proofs.Numbers.{ten_to18, numbered, Numbered, block_numbered, rows_numbered}

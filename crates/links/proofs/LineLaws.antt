@@ -13,9 +13,7 @@ use Rattle.records.specs.Columns.{Row, row_span_of, slot_start, Span, span_of, n
 use Rattle.records.specs.Columns as column
 use Rattle.records.proofs.Named.{start_there}
 use Rattle.records.proofs.Codes.{code_on_lem}
-use Rattle.verdict.specs.declared.Verdict.{Verdict}
-use Rattle.verdict.specs.declared.Verdict.TheVariants.{Fine, Broken}
-use Rattle.verdict.specs.Rules.{Check, check, first_broken, block, rows}
+use Rattle.verdict.specs.Rules.{Verdict, Fine, Broken, Check, check, first_broken, block, rows}
 use Rattle.verdict.proofs.Parts.{stands, goes_on, rows_pass, block_append, check_none, check_kept, check_broken}
 use Rattle.permitted.specs.Permitted.{size, is_zero}
 use Rattle.permitted.proofs.Signs.{passed_on}

@@ -8,9 +8,7 @@ use Rattle.layers.specs.declared.Layer.{Layer}
 use Rattle.layers.specs.Naming.{names_line}
 use Rattle.records.specs.Columns.{slot_column}
 use Rattle.records.specs.Columns as column
-use Rattle.verdict.specs.declared.Verdict.{Verdict}
-use Rattle.verdict.specs.declared.Verdict.TheVariants.{Fine, Broken}
-use Rattle.verdict.specs.Rules.{check, first_broken, block}
+use Rattle.verdict.specs.Rules.{Verdict, Fine, Broken, check, first_broken, block}
 use Rattle.verdict.proofs.Parts.{fine_broken, check_kept, check_broken}
 use Rattle.links.specs.Links.{repeats, node_entry, meets, repeats_node, node_slot, fifth}
 use Rattle.links.specs.Scanning.{clean}

@@ -13,9 +13,7 @@ use lib.IntN.{ℤ, pos}
 use lib.ListN.{length}
 use borrow.Author.Tests.{eq-eqb, ne_eqb}
 use Rattle.records.proofs.Numbers.{record_past, number_none}
-use Rattle.verdict.specs.declared.Verdict.{Verdict}
-use Rattle.verdict.specs.declared.Verdict.TheVariants.{Fine, Broken}
-use Rattle.verdict.specs.Rules.{Rule, Check, first_broken, block, rows, spread}
+use Rattle.verdict.specs.Rules.{Verdict, Fine, Broken, Rule, Check, first_broken, block, rows, spread}
 use Rattle.verdict.proofs.Parts.{spread_rows, rows_stop, rows_done}
 use Rattle.permitted.specs.Permitted.{is_zero}
 use Rattle.links.specs.Links.{equal, some, loop_entry, slot_of}

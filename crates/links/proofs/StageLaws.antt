@@ -8,9 +8,7 @@ use lib.ListN.{get_or}
 use borrow.Author.Tests.{lt-ltb}
 use Rattle.records.specs.Columns.{value_at}
 use Rattle.records.specs.Columns as column
-use Rattle.verdict.specs.declared.Verdict.{Verdict}
-use Rattle.verdict.specs.declared.Verdict.TheVariants.{Fine}
-use Rattle.verdict.specs.Rules.{first_broken, block}
+use Rattle.verdict.specs.Rules.{Verdict, Fine, first_broken, block}
 use Rattle.permitted.specs.Permitted.{size}
 use Rattle.rules.specs.declared.Due.{Due}
 use Rattle.rules.specs.declared.Due.TheVariants as due

@@ -1,7 +1,6 @@
 -- What the scan for a repeated entry finds, and which records are passed. It serves the code and is no part of a promise. Assumes nothing.
 use Rattle.std.specs.Prelude.{Bool, true, false, ◌||◌, not, List, ◌≡◌, ℕ, ◌+◌, ◌≤◌, ◌<◌, ℤ}
-use Rattle.verdict.specs.declared.Verdict.TheVariants.{Fine}
-use Rattle.verdict.specs.Rules.{first_broken, block}
+use Rattle.verdict.specs.Rules.{Fine, first_broken, block}
 use Rattle.walk.specs.declared.State.{State}
 use Rattle.walk.specs.Quiet.{quiet_due}
 use Rattle.permitted.specs.Permitted.{is_zero}

@@ -5,8 +5,7 @@
 #![tactic(auto)]
 
 ghost use Rattle.std.specs.Prelude.{◌≡◌, false, true, cond, not, ◌+◌, ◌-◌, ◌≤◌, ◌<◌, get_or};
-ghost use Rattle.verdict.specs.declared.Verdict.TheVariants.{Broken};
-ghost use Rattle.verdict.specs.Rules.{first_broken, block};
+ghost use Rattle.verdict.specs.Rules.{Broken, first_broken, block};
 ghost use Rattle.permitted.specs.Permitted.{size, is_zero};
 ghost use Rattle.records.specs.View.{number_in};
 ghost use Rattle.records.specs.Columns.{span_from, slot_start};
@@ -16,7 +15,7 @@ ghost use Rattle.links.specs.Scanning.{slot_by, slot_count, clean, FirstRepeat, 
 use layers::{Bases, Layer};
 use records::{Columns, Slots};
 use rules::Due;
-use verdict::Verdict;
+use verdict::{Refusal, Verdict};
 use walk::State;
 
 // ---- numbers
@@ -48,11 +47,11 @@ fn broken(number: u32, row: u32, column: usize) -> Verdict
     requires { column ≤ 74 }
     ensures { result ≡ Broken number row column }
 {
-    Verdict::Broken {
+    Err(Refusal {
         number,
-        record: row,
+        place: row,
         column: column as u32,
-    }
+    })
 }
 
 // A refusal of slot `i` of a row of slots.
@@ -60,11 +59,11 @@ pub fn slot_broken(number: u32, row: u32, slots: Slots, i: usize) -> Verdict
     ensures { result ≡ Broken number row (slot_start slots.0 slots.1 slots.2 i) }
 {
     let column = records::slot_column(slots, i);
-    Verdict::Broken {
+    Err(Refusal {
         number,
-        record: row,
+        place: row,
         column: column as u32,
-    }
+    })
 }
 
 // ---- slots
@@ -194,7 +193,7 @@ fn judge_slot(
 {
     let v = node_entry(file, r, i);
     if permitted::is_zero(v) {
-        return Verdict::Fine;
+        return Ok(());
     }
     if !layers::names_line(l.lines, v) {
         return slot_broken(11, row, records::NODE_ENTRIES, i);
@@ -205,7 +204,7 @@ fn judge_slot(
     if again {
         return slot_broken(13, row, records::NODE_ENTRIES, i);
     }
-    Verdict::Fine
+    Ok(())
 }
 
 // The entries of the N at record `r`.
@@ -215,18 +214,10 @@ fn judge_node(file: &[u8], table: &[u32], l: Layer, r: usize, row: u32) -> Verdi
     let at = first_repeat(Owner::Node, file, r, 0);
     let mut i: usize = 0;
     while i < 9 {
-        let v = judge_slot(file, table, l, r, i, i == at, row);
-        if let Verdict::Broken {
-            number: _,
-            record: _,
-            column: _,
-        } = v
-        {
-            return v;
-        }
+        judge_slot(file, table, l, r, i, i == at, row)?;
         i += 1;
     }
-    Verdict::Fine
+    Ok(())
 }
 
 // ---- L
@@ -280,7 +271,7 @@ fn judge_end(
     if !link_fits(link, frame) {
         return broken(12, row, k.0);
     }
-    Verdict::Fine
+    Ok(())
 }
 
 // One side of the line at record `r`: its code in the columns `c`, its area number in the columns `a`.
@@ -299,7 +290,7 @@ fn judge_side(
     let v = records::value_at(file, r, a);
     if !layers::names(l.areas, v) {
         if permitted::is_zero(v) {
-            return Verdict::Fine;
+            return Ok(());
         }
         return broken(11, row, a.0);
     }
@@ -309,14 +300,14 @@ fn judge_side(
     if !equal(code, other) {
         return broken(12, row, c.0);
     }
-    Verdict::Fine
+    Ok(())
 }
 
 // The ends and the sides of the line at record `r`.
 fn judge_line(file: &[u8], table: &[u32], l: Layer, r: usize, row: u32) -> Verdict
     ensures { result ≡ first_broken (block fifth row (line_checks file.now table.now l r)) }
 {
-    let start = judge_end(
+    judge_end(
         file,
         l,
         r,
@@ -324,25 +315,9 @@ fn judge_line(file: &[u8], table: &[u32], l: Layer, r: usize, row: u32) -> Verdi
         records::START_LINK,
         false,
         row,
-    );
-    if let Verdict::Broken {
-        number: _,
-        record: _,
-        column: _,
-    } = start
-    {
-        return start;
-    }
-    let end = judge_end(file, l, r, records::END_NODE, records::END_LINK, true, row);
-    if let Verdict::Broken {
-        number: _,
-        record: _,
-        column: _,
-    } = end
-    {
-        return end;
-    }
-    let left = judge_side(
+    )?;
+    judge_end(file, l, r, records::END_NODE, records::END_LINK, true, row)?;
+    judge_side(
         file,
         table,
         l,
@@ -350,15 +325,7 @@ fn judge_line(file: &[u8], table: &[u32], l: Layer, r: usize, row: u32) -> Verdi
         records::LEFT_CODE,
         records::LEFT_AREA,
         row,
-    );
-    if let Verdict::Broken {
-        number: _,
-        record: _,
-        column: _,
-    } = left
-    {
-        return left;
-    }
+    )?;
     judge_side(
         file,
         table,
@@ -391,16 +358,16 @@ fn judge_first(file: &[u8], l: Layer, q: usize, r: usize, left: usize, row: u32)
     ensures { result ≡ first_broken (block fifth row (first_point_checks file.now l q r left)) }
 {
     if left <= 1 {
-        return Verdict::Fine;
+        return Ok(());
     }
     if left != permitted::size(records::value_at(file, q, records::LINE_POINTS)) {
-        return Verdict::Fine;
+        return Ok(());
     }
     let v = records::value_at(file, q, records::START_NODE);
     if !at_node(file, l, v, r, 0) {
         return slot_broken(12, row, records::POINTS_X, 0);
     }
-    Verdict::Fine
+    Ok(())
 }
 
 // The last point, where no more than seven are left.
@@ -408,31 +375,23 @@ fn judge_last(file: &[u8], l: Layer, q: usize, r: usize, left: usize, row: u32) 
     ensures { result ≡ first_broken (block fifth row (last_point_checks file.now l q r left)) }
 {
     if left == 0 {
-        return Verdict::Fine;
+        return Ok(());
     }
     if 7 < left {
-        return Verdict::Fine;
+        return Ok(());
     }
     let v = records::value_at(file, q, records::END_NODE);
     if !at_node(file, l, v, r, left - 1) {
         return slot_broken(12, row, records::POINTS_X, left - 1);
     }
-    Verdict::Fine
+    Ok(())
 }
 
 // The first and the last point of a line.
 fn judge_points(file: &[u8], l: Layer, q: usize, r: usize, left: usize, row: u32) -> Verdict
     ensures { result ≡ first_broken (block fifth row (point_checks file.now l q r left)) }
 {
-    let first = judge_first(file, l, q, r, left, row);
-    if let Verdict::Broken {
-        number: _,
-        record: _,
-        column: _,
-    } = first
-    {
-        return first;
-    }
+    judge_first(file, l, q, r, left, row)?;
     judge_last(file, l, q, r, left, row)
 }
 
@@ -450,7 +409,7 @@ fn judge_entries(file: &[u8], l: Layer, r: usize, row: u32) -> Verdict
         }
         i += 1;
     }
-    Verdict::Fine
+    Ok(())
 }
 
 // ---- the stage
@@ -473,15 +432,15 @@ fn judge_record(d: Due, file: &[u8], table: &[u32], l: Layer, line: usize, r: us
 {
     let row = r as u32;
     match d {
-        Due::Mesh(_) => Verdict::Fine,
-        Due::Layer(_) => Verdict::Fine,
+        Due::Mesh(_) => Ok(()),
+        Due::Layer(_) => Ok(()),
         Due::Node(_, _) => judge_node(file, table, l, r, row),
         Due::Line(_, _, _) => judge_line(file, table, l, r, row),
         Due::Coordinates(left) => {
             let q = current_line(table, l, line);
             judge_points(file, l, q, r, left, row)
         }
-        Due::Area(_, _) => Verdict::Fine,
+        Due::Area(_, _) => Ok(()),
         Due::Loop(_, _, _) => judge_entries(file, l, r, row),
     }
 }
@@ -510,19 +469,11 @@ pub fn stage_four(file: &[u8], table: &[u32], b: Bases) -> Verdict
     while x.records < n {
         let s = x.state;
         let l = x.layer;
-        let v = judge_record(walk::due(s), file, table, l, s.layer.line, x.records + 1);
-        if let Verdict::Broken {
-            number: _,
-            record: _,
-            column: _,
-        } = v
-        {
-            return v;
-        }
+        judge_record(walk::due(s), file, table, l, s.layer.line, x.records + 1)?;
         x = layers::behind(file, table, b, x);
         let next = x.state;
         let layer = x.layer;
         x = layers::past_quiet(file, x, between(file, table, layer, next));
     }
-    Verdict::Fine
+    Ok(())
 }

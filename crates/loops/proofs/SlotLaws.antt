@@ -11,9 +11,7 @@ use mir.Syntax.{w64}
 use mir.Val.{to_z, of_z, hbits}
 use borrow.Author.Tests.{not-true, not-false, lt-ltb, le-ltb}
 use Rattle.records.specs.Columns.{value_at, loop_serial, loop_entries, slot_column}
-use Rattle.verdict.specs.declared.Verdict.{Verdict}
-use Rattle.verdict.specs.declared.Verdict.TheVariants.{Fine, Broken}
-use Rattle.verdict.specs.Rules.{Check, check, first_broken, block, spread}
+use Rattle.verdict.specs.Rules.{Verdict, Fine, Broken, Check, check, first_broken, block, spread}
 use Rattle.verdict.proofs.Parts.{fine_broken, stands, goes_on, block_append, check_none, check_kept, check_broken}
 use Rattle.permitted.specs.Permitted.{is, is_zero}
 use Rattle.layers.specs.declared.Layer.{Layer}

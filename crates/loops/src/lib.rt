@@ -7,8 +7,7 @@
 
 ghost use Rattle.std.specs.Prelude.{◌≡◌, not, ◌+◌, ◌*◌, ◌-◌, ◌≤◌, ◌<◌, length};
 ghost use Rattle.records.specs.Columns.{loop_entries, slot_column};
-ghost use Rattle.verdict.specs.declared.Verdict.TheVariants.{Broken};
-ghost use Rattle.verdict.specs.Rules.{first_broken, block, spread};
+ghost use Rattle.verdict.specs.Rules.{Broken, first_broken, block, spread};
 ghost use Rattle.layers.specs.Passing.{is_layer};
 ghost use Rattle.links.specs.Links.{slot_of};
 ghost use Rattle.links.specs.Scanning.{clean, FirstRepeat};
@@ -19,7 +18,7 @@ ghost use Rattle.loops.specs.Scanning.{mark_of, Unrepeated, Marking, KeptFor, Ke
 use layers::{Bases, Layer};
 use links::Owner;
 use rules::Due;
-use verdict::Verdict;
+use verdict::{Refusal, Verdict};
 
 // ---- repeated entries
 
@@ -134,7 +133,7 @@ fn judge_slot(
     }
     let v = links::slot_of(file, r, i);
     if permitted::is_zero(v) {
-        return Verdict::Fine;
+        return Ok(());
     }
     if !joins(file, table, l, f, 12 * walk::less(r, f) + i, v) {
         return broken(15, r, i);
@@ -143,7 +142,7 @@ fn judge_slot(
     if !permitted::is(right, area) {
         return broken(17, r, i);
     }
-    Verdict::Fine
+    Ok(())
 }
 
 // The slots of the loop record `r`; slot `at` is the first that repeats an earlier one.
@@ -162,18 +161,10 @@ fn judge_slots(
 {
     let mut i: usize = 0;
     while i < 12 {
-        let v = judge_slot(file, table, l, a, area, f, r, i, i == at);
-        if let Verdict::Broken {
-            number: _,
-            record: _,
-            column: _,
-        } = v
-        {
-            return v;
-        }
+        judge_slot(file, table, l, a, area, f, r, i, i == at)?;
         i += 1;
     }
-    Verdict::Fine
+    Ok(())
 }
 
 // ---- loops
@@ -195,18 +186,18 @@ fn judge_winding(file: &[u8], l: Layer, kept: &[i64], left: usize, r: usize) -> 
     ensures { result ≡ first_broken (block sixth r (wind_checks file.now (kept_loop file.now l kept.now r) r left)) }
 {
     if 0 < left {
-        return Verdict::Fine;
+        return Ok(());
     }
     let serial = records::value_at(file, r, records::LOOP_SERIAL);
     let m = entries::loop_measure(file, l, kept, r);
     if !winds(serial, m) {
-        return Verdict::Broken {
+        return Err(Refusal {
             number: 16,
-            record: r as u32,
+            place: r as u32,
             column: 1,
-        };
+        });
     }
-    Verdict::Fine
+    Ok(())
 }
 
 // The first record of a loop: of its `count` entries `left` are left.
@@ -241,15 +232,7 @@ fn judge_loop(
     requires { (r ≤ 6399936) × Unrepeated file.now (area_record table.now l area) known }
     ensures { Kept file.now table.now l kept.now → result ≡ first_broken (block sixth r (loop_checks file.now table.now l area count left r)) }
 {
-    let v = judge_winding(file, l, kept, left, r);
-    if let Verdict::Broken {
-        number: _,
-        record: _,
-        column: _,
-    } = v
-    {
-        return v;
-    }
+    judge_winding(file, l, kept, left, r)?;
     let a = area_record(table, l, area);
     let at = repeat_in(file, a, r, known);
     judge_slots(file, table, l, a, area, first_record(r, count, left), r, at)
@@ -272,12 +255,12 @@ fn judge_record(
     ensures { KeptFor d file.now table.now l kept.now → result ≡ first_broken (block sixth r (area_checks d file.now table.now l area r)) }
 {
     match d {
-        Due::Mesh(_) => Verdict::Fine,
-        Due::Layer(_) => Verdict::Fine,
-        Due::Node(_, _) => Verdict::Fine,
-        Due::Line(_, _, _) => Verdict::Fine,
-        Due::Coordinates(_) => Verdict::Fine,
-        Due::Area(_, _) => Verdict::Fine,
+        Due::Mesh(_) => Ok(()),
+        Due::Layer(_) => Ok(()),
+        Due::Node(_, _) => Ok(()),
+        Due::Line(_, _, _) => Ok(()),
+        Due::Coordinates(_) => Ok(()),
+        Due::Area(_, _) => Ok(()),
         Due::Loop(_, count, left) => {
             judge_loop(file, table, l, kept, area, known, count, left, r)
         }
@@ -341,7 +324,7 @@ pub fn stage_five(file: &[u8], table: &[u32], b: Bases) -> Verdict
         let s = x.state;
         let l = x.layer;
         let d = walk::due(s);
-        let v = judge_record(
+        judge_record(
             d,
             file,
             table,
@@ -350,20 +333,12 @@ pub fn stage_five(file: &[u8], table: &[u32], b: Bases) -> Verdict
             s.layer.area,
             known,
             x.records + 1,
-        );
-        if let Verdict::Broken {
-            number: _,
-            record: _,
-            column: _,
-        } = v
-        {
-            return v;
-        }
+        )?;
         known = known_behind(d, file, table, l, s.layer.area, known, &mut marks);
         x = layers::behind(file, table, b, x);
         let layer = x.layer;
         have = kept_behind(d, file, table, layer, have, &mut kept);
         x = layers::past_quiet(file, x, n);
     }
-    Verdict::Fine
+    Ok(())
 }

@@ -7,7 +7,7 @@ use native.Mathlib.Omega.{arith}
 use lib.IntN.{ℤ}
 use lib.ListN.{length, drop}
 use borrow.Author.Tests.{lt-ltb, le-ltb, eq-eqb, ne_eqb}
-use Rattle.verdict.specs.declared.Verdict.TheVariants.{Fine}
+use Rattle.verdict.specs.Rules.{Fine}
 use Rattle.walk.specs.Stages.{records_of}
 use Rattle.walk.specs.Row.{row_length}
 use Rattle.judge.specs.declared.Outcome.{Outcome}

@@ -21,8 +21,7 @@ use Rattle.records.specs.Reading.{letters_fault, letters_in, code_in, fault_of, 
 use Rattle.records.specs.declared.Field.{Field}
 use Rattle.records.specs.declared.Field.TheVariants.{End, Letters, Number, Code, Name, Blank}
 use Rattle.records.proofs.Layouts.{is_field, on_layout, off_layout, split, total_split, fitting, start_small}
-use Rattle.verdict.specs.declared.Verdict.TheVariants.{Fine, Broken}
-use Rattle.verdict.specs.Rules.{Check, check, first_broken, block}
+use Rattle.verdict.specs.Rules.{Fine, Broken, Check, check, first_broken, block}
 use Rattle.verdict.proofs.Parts.{check_none, check_kept, check_broken}
 use Rattle.rules.specs.declared.Due.{Due}
 use Rattle.asks.specs.Asks.{Ask, permitted, in_step, first_asked}

@@ -6,15 +6,14 @@
 #![tactic(auto)]
 
 ghost use Rattle.std.specs.Prelude.{◌≡◌, [], ◌≤◌, get_or};
-ghost use Rattle.verdict.specs.declared.Verdict.TheVariants.{Broken};
-ghost use Rattle.verdict.specs.Rules.{first_broken, block};
+ghost use Rattle.verdict.specs.Rules.{Broken, first_broken, block};
 ghost use Rattle.asks.specs.Asks.{first_asked};
 ghost use Rattle.rules.specs.Checks.{kind_of, asks_of, checks_of};
 
 use codes::Code;
 use fields::{Number, Text};
 use records::{Field, Kind};
-use verdict::Verdict;
+use verdict::{Refusal, Verdict};
 
 // What is due at a place of a file, with what its rules need to know of the records before it.
 #[derive(Clone, Copy)]
@@ -74,11 +73,11 @@ fn broken(number: u32, row: u32, column: usize) -> Verdict
     requires { column ≤ 73 }
     ensures { result ≡ Broken number row column }
 {
-    Verdict::Broken {
+    Err(Refusal {
         number,
-        record: row,
+        place: row,
         column: column as u32,
-    }
+    })
 }
 
 // Stage 2 on one record: along its layout, each field's form and then what is asked of its value. `row`
@@ -95,7 +94,7 @@ pub fn judge_record(due: Due, s: &[u8], row: u32) -> Verdict
         let f = records::field_of(kind, j);
         match f {
             Field::End => {
-                return Verdict::Fine;
+                return Ok(());
             }
             Field::Letters(a, b, c) => {
                 let fault = records::letters_fault(a, b, c, byte_at(s, 0), byte_at(s, 1));

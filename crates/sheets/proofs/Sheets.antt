@@ -16,8 +16,7 @@ use Rattle.records.specs.Reading.{head_letters, in_layer_five, code_in, fault_of
 use Rattle.records.specs.Writing.{second_letter, field_text, text_of, record_bytes}
 use Rattle.records.specs.View.{record_of, number_in}
 use Rattle.records.specs.Columns.{slot_start}
-use Rattle.verdict.specs.declared.Verdict.{Verdict}
-use Rattle.verdict.specs.Rules.{first_broken, block, rows, spread}
+use Rattle.verdict.specs.Rules.{Verdict, first_broken, block, rows, spread}
 use Rattle.permitted.specs.Permitted.{within, is_mesh_code, follows_mesh, is_layer_code, follows_layer, is_date, is_node_item, is_frame}
 use Rattle.permitted.specs.Permitted.{is_line_item, is_line_kind, is_link, is_code, is_side, of_areas, is_area_code, is_slot, is_point, is_next, is_loop_serial}
 use Rattle.asks.specs.Asks.{from, mesh_asks, layer_asks, node_asks, line_asks, coordinate_asks, area_asks, loop_asks}

@@ -19,8 +19,7 @@ use Rattle.codes.specs.declared.Code.TheVariants as code
 use Rattle.records.specs.declared.Kind.{Kind}
 use Rattle.records.specs.declared.Kind.TheVariants.{Mesh, Layer, Node, Line, Coordinates, Area, Loop}
 use Rattle.records.specs.Writing.{record_bytes}
-use Rattle.verdict.specs.declared.Verdict.{Verdict}
-use Rattle.verdict.specs.declared.Verdict.TheVariants.{Fine, Broken}
+use Rattle.verdict.specs.Rules.{Verdict, Fine, Broken}
 
 -- ---- the seven records
 

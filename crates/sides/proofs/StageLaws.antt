@@ -12,8 +12,7 @@ use mir.Val.{to_z, of_z, hbits}
 use borrow.Author.Tests.{not-true, not-false}
 use Rattle.records.specs.View.{record_of}
 use Rattle.records.specs.Columns.{Span, span_of, column_of, number_on, left_area, right_area}
-use Rattle.verdict.specs.declared.Verdict.TheVariants.{Fine, Broken}
-use Rattle.verdict.specs.Rules.{first_broken, block}
+use Rattle.verdict.specs.Rules.{Fine, Broken, first_broken, block}
 use Rattle.verdict.proofs.Parts.{check_none, check_kept, check_broken}
 use Rattle.rules.specs.declared.Due.{Due}
 use Rattle.rules.specs.declared.Due.TheVariants as due

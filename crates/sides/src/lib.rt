@@ -5,8 +5,7 @@
 #![tactic(auto)]
 
 ghost use Rattle.std.specs.Prelude.{◌≡◌, ◌≤◌};
-ghost use Rattle.verdict.specs.declared.Verdict.TheVariants.{Broken};
-ghost use Rattle.verdict.specs.Rules.{first_broken, block};
+ghost use Rattle.verdict.specs.Rules.{Broken, first_broken, block};
 ghost use Rattle.records.specs.Columns.{span_from};
 ghost use Rattle.sides.specs.Sides.{lists, side_listed, list_checks, line_list_checks, seventh, stage_six};
 ghost use Rattle.sides.specs.Marking.{mark_at, Marks, put_mark, bears, LineCountable};
@@ -14,7 +13,7 @@ ghost use Rattle.sides.specs.Marking.{mark_at, Marks, put_mark, bears, LineCount
 use layers::{Bases, Layer};
 use records::Columns;
 use rules::Due;
-use verdict::Verdict;
+use verdict::{Refusal, Verdict};
 
 // ---- marks
 
@@ -138,11 +137,11 @@ fn unlisted(r: usize, c: Columns) -> Verdict
     requires { (r ≤ 6399936) × (c.0 ≤ 74) }
     ensures { result ≡ Broken 18 r c.0 }
 {
-    Verdict::Broken {
+    Err(Refusal {
         number: 18,
-        record: r as u32,
+        place: r as u32,
         column: c.0 as u32,
-    }
+    })
 }
 
 // Both sides of line `n`, whose L is record `r`.
@@ -156,7 +155,7 @@ fn judge_line(file: &[u8], table: &[u32], l: Layer, r: usize, n: usize, marks: &
     if !side_listed(file, table, l, r, records::RIGHT_AREA, false, n, marks) {
         return unlisted(r, records::RIGHT_AREA);
     }
-    Verdict::Fine
+    Ok(())
 }
 
 // ---- the stage
@@ -167,13 +166,13 @@ fn judge_record(d: Due, file: &[u8], table: &[u32], l: Layer, r: usize, marks: &
     ensures { result ≡ first_broken (block seventh r (line_list_checks d file.now table.now l r)) }
 {
     match d {
-        Due::Mesh(_) => Verdict::Fine,
-        Due::Layer(_) => Verdict::Fine,
-        Due::Node(_, _) => Verdict::Fine,
+        Due::Mesh(_) => Ok(()),
+        Due::Layer(_) => Ok(()),
+        Due::Node(_, _) => Ok(()),
         Due::Line(_, last, _) => judge_line(file, table, l, r, last + 1, marks),
-        Due::Coordinates(_) => Verdict::Fine,
-        Due::Area(_, _) => Verdict::Fine,
-        Due::Loop(_, _, _) => Verdict::Fine,
+        Due::Coordinates(_) => Ok(()),
+        Due::Area(_, _) => Ok(()),
+        Due::Loop(_, _, _) => Ok(()),
     }
 }
 
@@ -199,19 +198,11 @@ pub fn stage_six(file: &[u8], table: &[u32], b: Bases) -> Verdict
         let s = x.state;
         let l = x.layer;
         let d = walk::due(s);
-        let v = judge_record(d, file, table, l, x.records + 1, &marks);
-        if let Verdict::Broken {
-            number: _,
-            record: _,
-            column: _,
-        } = v
-        {
-            return v;
-        }
+        judge_record(d, file, table, l, x.records + 1, &marks)?;
         x = layers::behind(file, table, b, x);
         let layer = x.layer;
         mark_behind(d, file, table, layer, &mut marks);
         x = layers::past_quiet(file, x, n);
     }
-    Verdict::Fine
+    Ok(())
 }

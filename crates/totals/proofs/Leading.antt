@@ -11,8 +11,7 @@ use lib.Dec.{leb, eqb}
 use borrow.Author.Tests.{leb-true, leb-false, eqb-true}
 use Rattle.records.specs.View.{record_of}
 use Rattle.records.specs.Columns.{mesh_records, layer_records}
-use Rattle.verdict.specs.declared.Verdict.TheVariants.{Fine}
-use Rattle.verdict.specs.Rules.{first_broken}
+use Rattle.verdict.specs.Rules.{Fine, first_broken}
 use Rattle.verdict.proofs.Holding.{Holding, row_fine, all_hold}
 use Rattle.rules.specs.declared.Due.{Due}
 use Rattle.rules.specs.declared.Due.TheVariants.{Mesh, Layer}

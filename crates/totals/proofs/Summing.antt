@@ -10,9 +10,7 @@ use lib.Dec.{leb, eqb}
 use borrow.Author.Tests.{le-leb, lt-leb, eq-eqb, ne_eqb}
 use Rattle.records.specs.View.{record_of}
 use Rattle.records.specs.Columns.{layer_records, area_lines}
-use Rattle.verdict.specs.declared.Verdict.{Verdict}
-use Rattle.verdict.specs.declared.Verdict.TheVariants.{Fine, Broken}
-use Rattle.verdict.specs.Rules.{Rule, check, first_broken, block, rows}
+use Rattle.verdict.specs.Rules.{Verdict, Fine, Broken, Rule, check, first_broken, block, rows}
 use Rattle.verdict.specs.Order.{Sorted, rising}
 use Rattle.verdict.proofs.Parts.{rows_stop, rows_done, check_none, check_kept, check_broken}
 use Rattle.verdict.proofs.Numbers.{ten_to18, numbered, Numbered, block_numbered, rows_numbered}

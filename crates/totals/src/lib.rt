@@ -12,7 +12,7 @@ ghost use Rattle.totals.specs.Adding.{Addable};
 
 use records::Columns;
 use rules::Due;
-use verdict::Verdict;
+use verdict::{Refusal, Verdict};
 use walk::State;
 
 // What follows a record: how many records, the totals of the H records among them, and the line counts of
@@ -152,46 +152,22 @@ fn judge_total(t: &[u8], c: Columns, counted: usize, row: u32) -> Verdict
     ensures { result ≡ first_broken (block fourth row (check c.0 10 (eqb (size_in t.now c.0 c.1) counted) ∷ [])) }
 {
     if walk::size_at(t, c) == counted {
-        return Verdict::Fine;
+        return Ok(());
     }
-    Verdict::Broken {
+    Err(Refusal {
         number: 10,
-        record: row,
+        place: row,
         column: c.0 as u32,
-    }
+    })
 }
 
 // The totals of an M, by what follows it in its mesh: the M itself is not counted.
 fn judge_mesh(t: &[u8], s: Sums, row: u32) -> Verdict
     ensures { result ≡ first_broken (block fourth row (mesh_totals t.now s)) }
 {
-    let nodes = judge_total(t, records::MESH_NODES, s.nodes, row);
-    if let Verdict::Broken {
-        number: _,
-        record: _,
-        column: _,
-    } = nodes
-    {
-        return nodes;
-    }
-    let lines = judge_total(t, records::MESH_LINES, s.lines, row);
-    if let Verdict::Broken {
-        number: _,
-        record: _,
-        column: _,
-    } = lines
-    {
-        return lines;
-    }
-    let areas = judge_total(t, records::MESH_AREAS, s.areas, row);
-    if let Verdict::Broken {
-        number: _,
-        record: _,
-        column: _,
-    } = areas
-    {
-        return areas;
-    }
+    judge_total(t, records::MESH_NODES, s.nodes, row)?;
+    judge_total(t, records::MESH_LINES, s.lines, row)?;
+    judge_total(t, records::MESH_AREAS, s.areas, row)?;
     judge_total(t, records::MESH_RECORDS, s.records, row)
 }
 
@@ -212,15 +188,15 @@ fn judge_totals(d: Due, file: &[u8], k: usize, next: State) -> Verdict
             let t = records::record_view(file, k + 1);
             judge_total(t, records::LAYER_RECORDS, s.records, row)
         }
-        Due::Node(_, _) => Verdict::Fine,
-        Due::Line(_, _, _) => Verdict::Fine,
-        Due::Coordinates(_) => Verdict::Fine,
+        Due::Node(_, _) => Ok(()),
+        Due::Line(_, _, _) => Ok(()),
+        Due::Coordinates(_) => Ok(()),
         Due::Area(_, _) => {
             let s = sums_behind(2, file, k + 1, next);
             let t = records::record_view(file, k + 1);
             judge_total(t, records::AREA_LINES, s.entries, row)
         }
-        Due::Loop(_, _, _) => Verdict::Fine,
+        Due::Loop(_, _, _) => Ok(()),
     }
 }
 
@@ -234,20 +210,12 @@ pub fn stage_three(file: &[u8]) -> Verdict
     while k < n {
         let d = walk::due(s);
         let next = walk::next(s, records::record_view(file, k + 1));
-        let v = judge_totals(d, file, k, next);
-        if let Verdict::Broken {
-            number: _,
-            record: _,
-            column: _,
-        } = v
-        {
-            return v;
-        }
+        judge_totals(d, file, k, next)?;
         s = next;
         k += 1;
         let p = walk::pass_quiet(s, n - k);
         s = p.state;
         k += p.records;
     }
-    Verdict::Fine
+    Ok(())
 }

@@ -6,8 +6,7 @@ use mathlib.Core.Path.{◌≡◌, refl, sym, ◌∙◌}
 use Prim.Native.Nat.{ℕ, zero, suc, ◌<◌}
 use native.Mathlib.Nat.{le_of_suc-le-suc, eq-or-lt_of_le}
 use native.Mathlib.Omega.{arith}
-use Rattle.verdict.specs.declared.Verdict.TheVariants.{Fine}
-use Rattle.verdict.specs.Rules.{Rule, first_broken, Check, check, block, rows, spread}
+use Rattle.verdict.specs.Rules.{Fine, Rule, first_broken, Check, check, block, rows, spread}
 use Rattle.verdict.proofs.Parts.{fine_broken, both_fine, check_kept, check_broken}
 
 -- of lists in a row each is fine

@@ -7,9 +7,9 @@ use Prim.Native.Nat.{ℕ, zero, suc, ◌≤◌}
 use native.Mathlib.Omega.{arith}
 use lib.Dec.{leb, eqb}
 use borrow.Author.Tests.{le-leb, leb-true, eq-eqb, ne_eqb}
-use Rattle.verdict.specs.declared.Verdict.{Verdict}
-use Rattle.verdict.specs.declared.Verdict.TheVariants.{Fine, Broken}
-use Rattle.verdict.specs.Rules.{Rule, broken_at, first_broken, Check, block, rows, told_of}
+use Rattle.std.specs.Prelude.{Err}
+use Rattle.verdict.specs.declared.Refusal.{Refusal}
+use Rattle.verdict.specs.Rules.{Verdict, Fine, Broken, Rule, broken_at, first_broken, Check, block, rows, told_of}
 use Rattle.verdict.specs.Order.{In}
 use Rattle.verdict.proofs.Orders.{in_append, and_both}
 
@@ -84,18 +84,18 @@ module _ (p : ℕ → Bool) where
   rows_numbered (suc n) g h a i = append_numbered (rows n g) (g n) (rows_numbered n g h) (h n) a i
 
   -- the number that is answered
-  pub broken_number : (rs : List Rule) → Numbered rs → {n r c : ℕ} → first_broken rs ≡ Broken n r c → p n ≡ true
+  pub broken_number : (rs : List Rule) → Numbered rs → {r : Refusal} → first_broken rs ≡ Err r → p r.number ≡ true
   unfolding first_broken
   broken_number [] h e = let z : ◌≡◌ {A = ℕ} 0 1 = cc in absurd (omega arith)
-  broken_number (a ∷ rs) h {n} {r} {c} e = by a.holds e (λ q. broken_number rs (λ b i. h b (inr i)) q)
+  broken_number (a ∷ rs) h {r} e = by a.holds e (λ q. broken_number rs (λ b i. h b (inr i)) q)
     where
-      by : (t : Bool) → cond t (first_broken rs) (broken_at a) ≡ Broken n r c → (first_broken rs ≡ Broken n r c → p n ≡ true) → p n ≡ true
+      by : (t : Bool) → cond t (first_broken rs) (broken_at a) ≡ Err r → (first_broken rs ≡ Err r → p r.number ≡ true) → p r.number ≡ true
       by true q rest = rest q
-      by false q rest = let z : a.number ≡ n = cc in rw (← z) (h a (inl refl))
+      by false q rest = let z : a.number ≡ r.number = ap (λ v. (told_of v).number) q in rw (← z) (h a (inl refl))
 
 -- a number that no rule bears is told of no refusal; 0 is told where all are kept
 pub not_told : (m : ℕ) (rs : List Rule) → Numbered (unlike m) rs → (v : Verdict) → v ≡ first_broken rs → (told_of v).number ≡ m → v ≡ Fine
 not_told m rs h Fine e z = refl
-not_told m rs h (Broken n r c) e z =
-    let b : unlike m n ≡ true = broken_number (unlike m) rs h (sym e) in
-    absurd (false≢true (rw (eq-eqb n m z) at b))
+not_told m rs h (Err r) e z =
+    let b : unlike m r.number ≡ true = broken_number (unlike m) rs h (sym e) in
+    absurd (false≢true (rw (eq-eqb r.number m z) at b))

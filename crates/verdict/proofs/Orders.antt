@@ -8,9 +8,8 @@ use Prim.Native.Nat.{ℕ, zero, suc, ◌+◌, ◌<◌, ◌≤◌}
 use native.Mathlib.Omega.{arith}
 use borrow.Author.Tests.{ltb-true, eqb-true, lt-ltb, le-ltb, eq-eqb}
 use lib.Dec.{ltb, eqb}
-use Rattle.verdict.specs.declared.Verdict.{Verdict}
-use Rattle.verdict.specs.declared.Verdict.TheVariants.{Fine, Broken}
-use Rattle.verdict.specs.Rules.{Rule, broken_at, first_broken, Check, rule_of, block, rows}
+use Rattle.std.specs.Prelude.{Err}
+use Rattle.verdict.specs.Rules.{Verdict, Fine, Broken, Rule, broken_at, first_broken, Check, rule_of, block, rows}
 use Rattle.verdict.specs.Order.{place_of, before, In, Least, Answer, Ahead, Sorted, spot_of, ahead_of, rising}
 
 -- ---- the answer is right
@@ -25,7 +24,7 @@ clash b p q = let z : true ≡ false = sym p ∙ q in let y : ◌≡◌ {A = ℕ
 -- one rule more in front that holds
 still : (a : Rule) (rs : List Rule) → a.holds ≡ true → (v : Verdict) → Answer rs v → Answer (a ∷ rs) v
 still a rs h Fine all = λ b i. ⊎_elim (λ e. rw e h) (λ j. all b j) i
-still a rs h (Broken n r c) l = record {
+still a rs h (Err r) l = record {
   rule = l.rule;
   listed = inr l.listed;
   broken = l.broken;
@@ -79,9 +78,9 @@ same rs l m e = l.told ∙ ap broken_at (sym e) ∙ sym m.told
 
 pub only : (rs : List Rule) (v w : Verdict) → Answer rs v → Answer rs w → v ≡ w
 only rs Fine Fine p q = refl
-only rs Fine (Broken n r c) p q = absurd (clash _ (p q.rule q.listed) q.broken)
-only rs (Broken n r c) Fine p q = absurd (clash _ (q p.rule p.listed) p.broken)
-only rs (Broken n r c) (Broken n' r' c') p q =
+only rs Fine (Err r) p q = absurd (clash _ (p q.rule q.listed) q.broken)
+only rs (Err r) Fine p q = absurd (clash _ (q p.rule p.listed) p.broken)
+only rs (Err r) (Err r') p q =
     ⊎_elim
     (λ e. same rs p q e)
     (λ l. ⊎_elim (λ e. same rs p q (sym e)) (λ m. absurd (asym (place_of p.rule) (place_of q.rule) l m)) (q.least p.rule p.listed p.broken))

@@ -8,26 +8,26 @@ use Prim.Native.Nat.{ℕ, zero, suc, ◌+◌, ◌<◌, ◌≤◌}
 use native.Mathlib.Nat.{add-zero, add-suc, le_of_suc-le-suc, not-suc-le-zero, eq-or-lt_of_le}
 use native.Mathlib.Numerals.{add-one}
 use native.Mathlib.Omega.{arith}
-use Rattle.verdict.specs.declared.Verdict.{Verdict}
-use Rattle.verdict.specs.declared.Verdict.TheVariants.{Fine, Broken}
-use Rattle.verdict.specs.Rules.{Rule, broken_at, first_broken, is_fine, Check, check, block, rows, spread}
+use Rattle.std.specs.Prelude.{Ok, Err}
+use Rattle.verdict.specs.declared.Refusal.{Refusal}
+use Rattle.verdict.specs.Rules.{Verdict, Fine, Broken, Rule, broken_at, first_broken, is_fine, Check, check, block, rows, spread}
 
 -- ---- two lists in a row
 
 -- a verdict is fine or broken, not both
-pub fine_broken : {A : Type 0} {v : Verdict} {a b c : ℕ} → v ≡ Fine → v ≡ Broken a b c → A
+pub fine_broken : {A : Type 0} {v : Verdict} {r : Refusal} → v ≡ Fine → v ≡ Err r → A
 fine_broken p q = let e = sym p ∙ q in let z : ◌≡◌ {A = ℕ} 0 1 = cc in absurd (omega arith)
 
 -- as code has it: the answer t to whether v is fine
 pub fine_is : (v : Verdict) {t : Bool} → t ≡ is_fine v → t ≡ true → v ≡ Fine
 fine_is Fine e h = refl
-fine_is (Broken n r c) e h = absurd (false≢true (sym e ∙ h))
+fine_is (Err r) e h = absurd (false≢true (sym e ∙ h))
 
 -- a, and b where a is fine
 infixr 30 ◌or_else◌
 abbrev pub ◌or_else◌ : Verdict → Verdict → Verdict
 Fine or_else b = b
-Broken n r c or_else b = Broken n r c
+Err r or_else b = Err r
 
 pub in_turn : (xs ys : List Rule) → first_broken (xs ++ ys) ≡ first_broken xs or_else first_broken ys
 unfolding first_broken
@@ -40,7 +40,7 @@ in_turn (x ∷ xs) ys = go x.holds (in_turn xs ys)
     go false h = refl
 
 -- as code has it: the first list's verdict v is broken and is returned
-pub stands : (xs ys : List Rule) {v : Verdict} {a b c : ℕ} → v ≡ Broken a b c → v ≡ first_broken xs → v ≡ first_broken (xs ++ ys)
+pub stands : (xs ys : List Rule) {v : Verdict} {r : Refusal} → v ≡ Err r → v ≡ first_broken xs → v ≡ first_broken (xs ++ ys)
 stands xs ys h e = rw (in_turn xs ys, ← e, h)
 
 -- as code has it: the first list's verdict v is fine, and the second list's, w, is returned
@@ -49,7 +49,7 @@ goes_on xs ys h e q = rw (in_turn xs ys, ← e, h) q
 
 both_by : (v w : Verdict) → v or_else w ≡ Fine → (v ≡ Fine) × (w ≡ Fine)
 both_by Fine w h = (refl, h)
-both_by (Broken n r c) w h = fine_broken h refl
+both_by (Err r) w h = fine_broken h refl
 
 -- both are fine
 pub both_fine : (xs ys : List Rule) → first_broken (xs ++ ys) ≡ Fine → (first_broken xs ≡ Fine) × (first_broken ys ≡ Fine)
@@ -73,19 +73,19 @@ module _ (g : ℕ → List Rule) where
   rows_past i zero f t = rw add-zero f
   rows_past i (suc h) f t = rw add-suc (in_turn (rows (i + h) g) (g (i + h)) ∙ rw (rows_past i h f (λ j l. t j (omega arith)), t h (omega arith)))
 
-  rows_hit : (n i a b c : ℕ) → i < n → first_broken (rows i g) ≡ Fine → first_broken (g i) ≡ Broken a b c → first_broken (rows n g) ≡ Broken a b c
+  rows_hit : (n i : ℕ) {r : Refusal} → i < n → first_broken (rows i g) ≡ Fine → first_broken (g i) ≡ Err r → first_broken (rows n g) ≡ Err r
   unfolding rows
-  rows_hit zero i a b c l h e = absurd (not-suc-le-zero l)
-  rows_hit (suc n) i a b c l h e =
+  rows_hit zero i l h e = absurd (not-suc-le-zero l)
+  rows_hit (suc n) i l h e =
       ⊎_elim
       (λ q. in_turn (rows n g) (g n) ∙ rw (← q, h, e))
-      (λ q. in_turn (rows n g) (g n) ∙ rw (rows_hit n i a b c q h e))
+      (λ q. in_turn (rows n g) (g n) ∙ rw (rows_hit n i q h e))
       (eq-or-lt_of_le (le_of_suc-le-suc l))
 
   -- the verdict v of turn i is broken and is returned
-  pub rows_stop : (n i : ℕ) {v : Verdict} {a b c : ℕ} → i < n → first_broken (rows i g) ≡ Fine
-      → v ≡ first_broken (g i) → v ≡ Broken a b c → v ≡ first_broken (rows n g)
-  rows_stop n i {v} {a} {b} {c} l h e t = t ∙ sym (rows_hit n i a b c l h (sym e ∙ t))
+  pub rows_stop : (n i : ℕ) {v : Verdict} {r : Refusal} → i < n → first_broken (rows i g) ≡ Fine
+      → v ≡ first_broken (g i) → v ≡ Err r → v ≡ first_broken (rows n g)
+  rows_stop n i l h e t = t ∙ sym (rows_hit n i l h (sym e ∙ t))
 
   -- all turns were fine
   pub rows_done : (n i : ℕ) → i ≤ n → n ≤ i → first_broken (rows i g) ≡ Fine → Fine ≡ first_broken (rows n g)
@@ -101,7 +101,7 @@ module _ (s r : ℕ) where
 
   module _ (xs ys : List Check) where
     -- the first checks' verdict v is broken and is returned
-    pub part_stops : {v : Verdict} {a b c : ℕ} → v ≡ Broken a b c → v ≡ first_broken (block s r xs) → v ≡ first_broken (block s r (xs ++ ys))
+    pub part_stops : {v : Verdict} {e : Refusal} → v ≡ Err e → v ≡ first_broken (block s r xs) → v ≡ first_broken (block s r (xs ++ ys))
     part_stops h e = stands (block s r xs) (block s r ys) h e ∙ ap first_broken (sym (block_append xs ys))
 
     -- it is fine, and the verdict w of the others is returned

@@ -4,10 +4,8 @@
 --   Answer rs v      v is the answer to the rules rs: the least broken one, or Fine where all are kept
 --   Sorted rs        each rule stands before all that follow it
 --   rising cs        the same of a record's checks; it computes
-use Rattle.std.specs.Prelude.{Bool, true, false, ◌&&◌, ◌||◌, List, [], ◌∷◌, ◌⊎◌, ◌≡◌, ℕ, ltb, eqb}
-use Rattle.verdict.specs.declared.Verdict.{Verdict}
-use Rattle.verdict.specs.declared.Verdict.TheVariants.{Fine, Broken}
-use Rattle.verdict.specs.Rules.{Rule, Check, broken_at}
+use Rattle.std.specs.Prelude.{Bool, true, false, ◌&&◌, ◌||◌, List, [], ◌∷◌, ◌⊎◌, ◌≡◌, ℕ, ltb, eqb, Err}
+use Rattle.verdict.specs.Rules.{Verdict, Fine, Broken, Rule, Check, broken_at}
 
 -- RULES 6.1: by turn, then record, then column, then number
 abbrev pub place_of : Rule → List ℕ
@@ -34,7 +32,7 @@ pub record Least (rs : List Rule) (v : Verdict) : Type 0 where
 -- RULES 6.1, 13.2: acceptance if all rules are kept; otherwise the first broken rule in the order of judgement is named
 abbrev pub Answer : List Rule → Verdict → Type 0
 Answer rs Fine = (b : Rule) → In b rs → b.holds ≡ true
-Answer rs (Broken n r c) = Least rs (Broken n r c)
+Answer rs (Err r) = Least rs (Err r)
 
 abbrev pub Ahead : Rule → List Rule → Type 0
 Ahead a [] = Unit {0}

@@ -1,4 +1,5 @@
 -- Rules and the first broken one (RULES 6.1). Assumes nothing.
+--   Verdict, Fine, Broken n r c   what a stage answers: the rules are kept, or the refusal n at record r, column c
 --   Check, Rule         one rule of a record; the same with its turn and record
 --   first_broken rs     the first broken rule of the list rs, or Fine
 --   is_fine v           the verdict v is Fine
@@ -6,10 +7,19 @@
 --   rows n g            the lists g 0, g 1, .., g (n - 1), one after the other
 --   spread n g          the checks g 0, g 1, .., g (n - 1), one after the other
 --   told_of v           the verdict v by the numbers of RULES 6.2
-use Rattle.std.specs.Prelude.{Bool, true, false, cond, List, [], ◌∷◌, ◌++◌, ℕ, zero, suc}
-use Rattle.verdict.specs.declared.Verdict.{Verdict}
-use Rattle.verdict.specs.declared.Verdict.TheVariants.{Fine, Broken}
+use Rattle.std.specs.Prelude.{Bool, true, false, cond, List, [], ◌∷◌, ◌++◌, ℕ, zero, suc, Result, Ok, Err, ⊤}
+use Rattle.verdict.specs.declared.Refusal.{Refusal}
 use Rattle.verdict.specs.declared.Told.{Told}
+
+-- RULES 6.1: acceptance, or a refusal with its number, record and column
+abbrev pub Verdict : Type 0
+Verdict = Result ⊤ Refusal
+
+pattern abbrev pub Fine : Verdict
+Fine = Ok tt
+
+abbrev pub Broken : ℕ → ℕ → ℕ → Verdict
+Broken n r c = Err (record { number = n; place = r; column = c })
 
 -- a rule at one place: its turn, at which it is judged, its record, column and number, and whether the file keeps it. Stages 1 and 2 have
 -- turns 1 and 2, refusal 9 has turn 3, stages 3 to 6 have turns 4 to 7, and what a call asks behind them has turn 8
@@ -30,8 +40,8 @@ first_broken (r ∷ rs) = cond r.holds (first_broken rs) (broken_at r)
 
 -- whether no rule is broken
 abbrev pub is_fine : Verdict → Bool
-is_fine Fine = true
-is_fine (Broken n r c) = false
+is_fine (Ok tt) = true
+is_fine (Err r) = false
 
 -- a rule of one record: its column and number, and whether the record keeps it
 pub record Check : Type 0 where
@@ -60,5 +70,5 @@ spread (suc n) g = spread n g ++ g n
 
 -- RULES 6.1: acceptance is number 0 at 0, 0
 abbrev pub told_of : Verdict → Told
-told_of Fine = record { number = 0; place = 0; column = 0 }
-told_of (Broken n r c) = record { number = n; place = r; column = c }
+told_of (Ok tt) = record { number = 0; place = 0; column = 0 }
+told_of (Err r) = record { number = r.number; place = r.place; column = r.column }

@@ -5,15 +5,16 @@
 ghost use Rattle.std.specs.Prelude.{◌≡◌};
 ghost use Rattle.verdict.specs.Rules.{told_of};
 
+// A broken rule: its refusal number, and its place, a record and a column.
 #[derive(Clone, Copy)]
-pub enum Verdict {
-    Fine,
-    Broken {
-        number: u32,
-        record: u32,
-        column: u32,
-    },
+pub struct Refusal {
+    pub number: u32,
+    pub place: u32,
+    pub column: u32,
 }
+
+// What a stage answers. A refusal is handed on with `?`.
+pub type Verdict = Result<(), Refusal>;
 
 // The same by refusal number (RULES 6.2): acceptance is number 0 at 0, 0.
 #[repr(C)]
@@ -29,19 +30,15 @@ pub fn by_number(v: Verdict) -> Told
     ensures { result ≡ told_of v }
 {
     match v {
-        Verdict::Fine => Told {
+        Ok(()) => Told {
             number: 0,
             place: 0,
             column: 0,
         },
-        Verdict::Broken {
-            number,
-            record,
-            column,
-        } => Told {
-            number,
-            place: record,
-            column,
+        Err(r) => Told {
+            number: r.number,
+            place: r.place,
+            column: r.column,
         },
     }
 }

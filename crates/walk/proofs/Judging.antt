@@ -7,9 +7,8 @@ use native.Mathlib.Omega.{arith}
 use borrow.Author.Tests.{le-ltb, ltb-false, leb-true, eqb-true, eq-eqb, ne_eqb}
 use lib.Dec.{leb, ltb, eqb, lit≤}
 use lib.ListN.{length, get_or}
-use Rattle.verdict.specs.declared.Verdict.{Verdict}
-use Rattle.verdict.specs.declared.Verdict.TheVariants.{Fine, Broken}
-use Rattle.verdict.specs.Rules.{Rule, block, rows, first_broken}
+use Rattle.std.specs.Prelude.{Err}
+use Rattle.verdict.specs.Rules.{Verdict, Fine, Broken, Rule, block, rows, first_broken}
 use Rattle.verdict.proofs.Parts.{fine_broken, in_turn, both_fine, stands, goes_on, rows_stop, rows_done, check_none, check_kept, check_broken, check_fine}
 use Rattle.verdict.proofs.Holding.{row_fine, Holding, all_hold}
 use Rattle.verdict.proofs.Orders.{and_both}
@@ -153,23 +152,23 @@ unfolding need_of
 need_is file e = ap (λ (x : Walked). x.counts.words) e
 
 -- the answer is the first broken rule of both
-pub walked_verdict : (file : List ℕ) → (walked_of file).verdict ≡ first_broken (stage_one file ++ stage_two file)
+pub walked_verdict : (file : List ℕ) → verdict_in (walked_of file) ≡ first_broken (stage_one file ++ stage_two file)
 unfolding walked_of
 walked_verdict file = by (first_broken (stage_one file ++ stage_two file)) (counts_at file (records_of file))
   where
     by : (v : Verdict) (c : Counts) → (walked_by v c).verdict ≡ v
     by Fine c = refl
-    by (Broken n r p) c = refl
+    by (Err r) c = refl
 
 -- ---- a file that keeps them
 
 verdict_by : (v : Verdict) (c : Counts) → (walked_by v c).verdict ≡ Fine → (v ≡ Fine) × ((walked_by v c).counts ≡ c)
 verdict_by Fine c h = (refl, refl)
-verdict_by (Broken n r p) c h = fine_broken h refl
+verdict_by (Err r) c h = fine_broken h refl
 
 -- both stages are kept, and the counts are those of all records
-pub walked_fine : (file : List ℕ) → (walked_of file).verdict ≡ Fine
-    → (first_broken (stage_one file) ≡ Fine) × (first_broken (stage_two file) ≡ Fine) × ((walked_of file).counts ≡ counts_at file (records_of file))
+pub walked_fine : (file : List ℕ) → verdict_in (walked_of file) ≡ Fine
+    → (first_broken (stage_one file) ≡ Fine) × (first_broken (stage_two file) ≡ Fine) × (counts_in (walked_of file) ≡ counts_at file (records_of file))
 unfolding walked_of
 walked_fine file h =
     let g = verdict_by (first_broken (stage_one file ++ stage_two file)) (counts_at file (records_of file)) h in

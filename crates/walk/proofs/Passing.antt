@@ -7,8 +7,7 @@ use native.Mathlib.Nat.{add-zero, add-suc, min-zero, min-le_left, min-le_right}
 use native.Mathlib.Omega.{arith}
 use lib.Dec.{leb, ltb}
 use borrow.Author.Tests.{lt-ltb, le-ltb, ltb-true, ltb-false, leb-true, leb-false}
-use Rattle.verdict.specs.declared.Verdict.TheVariants.{Fine}
-use Rattle.verdict.specs.Rules.{Rule, first_broken, is_fine, block, rows}
+use Rattle.verdict.specs.Rules.{Fine, Rule, first_broken, is_fine, block, rows}
 use Rattle.verdict.proofs.Parts.{fine_is, rows_past}
 use Rattle.records.specs.View.{record_of}
 use Rattle.rules.specs.Checks.{checks_of}

@@ -16,9 +16,8 @@ use Rattle.fields.specs.Number.{number_at}
 use Rattle.records.specs.Layout.{layout_of}
 use Rattle.records.specs.View.{record_of}
 use Rattle.records.specs.Columns.{span_of, area_loops}
-use Rattle.verdict.specs.declared.Verdict.{Verdict}
-use Rattle.verdict.specs.declared.Verdict.TheVariants.{Fine, Broken}
-use Rattle.verdict.specs.Rules.{first_broken}
+use Rattle.std.specs.Prelude.{Err}
+use Rattle.verdict.specs.Rules.{Verdict, Fine, Broken, first_broken}
 use Rattle.verdict.proofs.Holding.{Holding}
 use Rattle.verdict.proofs.Orders.{and_both}
 use Rattle.verdict.proofs.Parts.{both_fine}
@@ -41,7 +40,7 @@ use Rattle.walk.proofs.Walking.{next_entries}
 
 -- ---- a file that keeps stages 1 and 2
 
-module _ (file : List ℕ) (kept : (walked_of file).verdict ≡ Fine) where
+module _ (file : List ℕ) (kept : verdict_in (walked_of file) ≡ Fine) where
   -- the need is what the H records say
   pub need_words : need_of file ≡ (counts_at file (records_of file)).words
   unfolding need_of
@@ -84,7 +83,7 @@ need_most file = by (first_broken (stage_one file ++ stage_two file)) refl
     by Fine e =
         let two = (both_fine (stage_one file) (stage_two file) e).1 in
         omega (arith, rows_most file (records_of file), words_counted file (records_of file) (ended file two))
-    by (Broken n r c) e = omega arith
+    by (Err r) e = omega arith
 
 -- ---- the areas by the records
 

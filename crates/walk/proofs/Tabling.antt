@@ -5,9 +5,7 @@ use Prim.Native.Nat.{ℕ, ◌+◌, ◌*◌, ◌≤◌, ◌<◌}
 use native.Mathlib.Omega.{arith}
 use lib.Dec.{leb}
 use borrow.Author.Tests.{le-leb, lt-leb}
-use Rattle.verdict.specs.declared.Verdict.{Verdict}
-use Rattle.verdict.specs.declared.Verdict.TheVariants.{Fine, Broken}
-use Rattle.verdict.specs.Rules.{first_broken}
+use Rattle.verdict.specs.Rules.{Verdict, Fine, Broken, first_broken}
 use Rattle.verdict.proofs.Parts.{stands, goes_on, check_none, check_kept, check_broken}
 use Rattle.walk.specs.declared.Counts.{Counts}
 use Rattle.walk.specs.declared.Walked.{Walked}
@@ -28,7 +26,7 @@ module _ (file : List ℕ) {w : Walked} (e : w ≡ walked_of file) where
   early_broken room q = stands (stage_one file ++ stage_two file) (room_rule file room) q judged
 
   module _ (q : w.verdict ≡ Fine) where
-    kept : (walked_of file).verdict ≡ Fine
+    kept : verdict_in (walked_of file) ≡ Fine
     kept = sym (ap (λ (x : Walked). x.verdict) e) ∙ q
 
     -- the counts are those of all records

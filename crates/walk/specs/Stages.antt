@@ -3,19 +3,17 @@
 --   records_of file     how many records are judged: those that there are, and no more than there may be
 --   stage_one file      refusals 1 and 2
 --   stage_two file      refusals 3 to 6, and 8
---   walked_of file      the first broken rule of both, and the counts of a file that keeps them
+--   walked_of file      the first broken rule of both, or the counts of a file that keeps them; verdict_in, counts_in: its parts
 --   early file room     the rules of both, and refusal 9 for a table of `room` words
 --   need_of file         the words that the file needs; 0 for a file refused in stage 1 or 2
-use Rattle.std.specs.Prelude.{Bool, true, false, cond, ◌&&◌, List, [], ◌∷◌, ◌++◌, ℕ, ◌+◌, ◌/◌, ◌%◌, ltb, leb, eqb, length, get_or}
+use Rattle.std.specs.Prelude.{Bool, true, false, cond, ◌&&◌, List, [], ◌∷◌, ◌++◌, ℕ, ◌+◌, ◌/◌, ◌%◌, ltb, leb, eqb, length, get_or, Result, Ok, Err}
 use Rattle.records.specs.View.{record_of}
-use Rattle.verdict.specs.declared.Verdict.{Verdict}
-use Rattle.verdict.specs.declared.Verdict.TheVariants.{Fine, Broken}
-use Rattle.verdict.specs.Rules.{Rule, Check, check, block, rows, first_broken}
+use Rattle.verdict.specs.Rules.{Verdict, Fine, Broken, Rule, Check, check, block, rows, first_broken}
 use Rattle.rules.specs.declared.Due.{Due}
 use Rattle.rules.specs.declared.Due.TheVariants.{Mesh, Layer, Node, Line, Coordinates, Area, Loop}
 use Rattle.rules.specs.Checks.{checks_of}
 use Rattle.walk.specs.declared.Counts.{Counts}
-use Rattle.walk.specs.declared.Walked.{Walked}
+use Rattle.verdict.specs.declared.Refusal.{Refusal}
 use Rattle.walk.specs.States.{due_of, state_at, counts_at, no_counts}
 
 -- RULES 2.1: at most 6,399,936 records
@@ -67,16 +65,24 @@ stage_two file =
 -- ---- both
 
 -- RULES 9.1: the counts are 0 if refused
-abbrev pub walked_by : Verdict → Counts → Walked
-walked_by Fine c = record { verdict = Fine; counts = c }
-walked_by (Broken n r p) c = record { verdict = Broken n r p; counts = no_counts }
+abbrev pub walked_by : Verdict → Counts → Result Counts Refusal
+walked_by (Ok tt) c = Ok c
+walked_by (Err r) c = Err r
 
-unfoldable pub walked_of : List ℕ → Walked
+abbrev pub verdict_in : Result Counts Refusal → Verdict
+verdict_in (Ok c) = Fine
+verdict_in (Err r) = Err r
+
+abbrev pub counts_in : Result Counts Refusal → Counts
+counts_in (Ok c) = c
+counts_in (Err r) = no_counts
+
+unfoldable pub walked_of : List ℕ → Result Counts Refusal
 walked_of file = walked_by (first_broken (stage_one file ++ stage_two file)) (counts_at file (records_of file))
 
 -- RULES 9.3: the words that a file needs, and 0 for a file refused in stage 1 or 2
 unfoldable pub need_of : List ℕ → ℕ
-need_of file = (walked_of file).counts.words
+need_of file = (counts_in (walked_of file)).words
 
 -- ---- refusal 9, judged after stage 2: turn 3 of RULES 6.1
 

@@ -5,19 +5,18 @@
 --   table_of file     the file's table
 --   filled ws d      ws in front, and what stood in d behind it
 --   tabled_of, filled_by  what is answered up to refusal 9, and what the lent table holds then
-use Rattle.std.specs.Prelude.{List, [], ◌∷◌, ◌++◌, ℕ, zero, suc, length, drop}
+use Rattle.std.specs.Prelude.{cond, List, [], ◌∷◌, ◌++◌, ℕ, zero, suc, eqb, length, drop, Result, Ok, Err}
 use Rattle.records.specs.View.{record_of}
 use Rattle.records.specs.Reading.{head_letters}
 use Rattle.records.specs.Columns.{layer_nodes, layer_lines, layer_areas}
-use Rattle.verdict.specs.declared.Verdict.{Verdict}
-use Rattle.verdict.specs.declared.Verdict.TheVariants.{Fine, Broken}
-use Rattle.verdict.specs.Rules.{first_broken}
+use Rattle.verdict.specs.Rules.{Verdict, Fine, Broken, first_broken}
 use Rattle.rules.specs.declared.Due.{Due}
 use Rattle.rules.specs.declared.Due.TheVariants.{Mesh, Layer, Node, Line, Coordinates, Area, Loop}
 use Rattle.walk.specs.Row.{row_of}
-use Rattle.walk.specs.States.{size_at, due_of, state_at}
-use Rattle.walk.specs.declared.Tabled.{Tabled}
-use Rattle.walk.specs.Stages.{records_of, walked_of, early}
+use Rattle.walk.specs.States.{size_at, due_of, state_at, counts_at}
+use Rattle.walk.specs.declared.Counts.{Counts}
+use Rattle.walk.specs.declared.Refused.{Refused}
+use Rattle.walk.specs.Stages.{records_of, need_of, early}
 
 -- RULES 8.1: a layer's row
 abbrev pub row_words : Due → List ℕ → ℕ → List ℕ
@@ -66,8 +65,12 @@ filled ws d = ws ++ drop (length ws) d
 -- RULES 8.3: what a call leaves in the table whose rules up to refusal 9 gave a verdict: untouched, or the table in front
 abbrev pub filled_by : Verdict → List ℕ → List ℕ → List ℕ
 filled_by Fine file words = filled (table_of file) words
-filled_by (Broken n r c) file words = words
+filled_by (Err r) file words = words
 
 -- what is known then: the verdict, and the counts of a file that keeps stages 1 and 2
-unfoldable pub tabled_of : List ℕ → ℕ → Tabled
-tabled_of file room = record { verdict = first_broken (early file room); counts = (walked_of file).counts }
+abbrev pub tabled_by : Verdict → Counts → ℕ → Result Counts Refused
+tabled_by (Ok tt) c need = Ok c
+tabled_by (Err r) c need = Err (record { refusal = r; need = cond (eqb r.number 9) need 0 })
+
+unfoldable pub tabled_of : List ℕ → ℕ → Result Counts Refused
+tabled_of file room = tabled_by (first_broken (early file room)) (counts_at file (records_of file)) (need_of file)

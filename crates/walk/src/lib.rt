@@ -7,8 +7,7 @@
 
 ghost use Rattle.std.specs.Prelude.{◌≡◌, ◌+◌, ◌-◌, ◌*◌, ◌/◌, ◌≤◌, ◌<◌, min, length};
 ghost use Rattle.std.proofs.lemmas.List.Edits.{sets};
-ghost use Rattle.verdict.specs.declared.Verdict.TheVariants.{Broken};
-ghost use Rattle.verdict.specs.Rules.{first_broken, block};
+ghost use Rattle.verdict.specs.Rules.{Broken, first_broken, block};
 ghost use Rattle.walk.specs.States.{size_in, due_of, start, layer_part, meshed, headed, next_of, no_counts, Countable, counted_for, counts_at};
 ghost use Rattle.walk.specs.Row.{row_length, row_of};
 ghost use Rattle.walk.specs.Stages.{records_of, end_checks, length_checks, stage_one, last_checks, stage_two, walked_by, walked_of, need_of, early};
@@ -19,7 +18,7 @@ ghost use Rattle.walk.specs.Quiet.{passed, quiet_ahead, counted_past, fine_ahead
 use fields::Number;
 use records::Columns;
 use rules::Due;
-use verdict::Verdict;
+use verdict::{Refusal, Verdict};
 
 // A row (RULES 8.1): how many words it has, and which word is what.
 pub const ROW_LENGTH: usize = 5;
@@ -89,11 +88,20 @@ pub struct Counts {
     pub words: usize,
 }
 
-// What stages 1 and 2 answer; the counts of a refused file are 0.
+// What stages 1 and 2 and refusal 9 refuse: the refusal, and the words that the file needs, where the table is too
+// short (9), else 0.
 #[derive(Clone, Copy)]
-pub struct Walked {
-    pub verdict: Verdict,
-    pub counts: Counts,
+pub struct Refused {
+    pub refusal: Refusal,
+    pub need: usize,
+}
+
+impl From<Refusal> for Refused {
+    ghost from_gives = { λ r x. x ≡ record { refusal = r; need = 0 } };
+
+    fn from(refusal: Refusal) -> Refused {
+        Refused { refusal, need: 0 }
+    }
 }
 
 // ---- the walk
@@ -382,20 +390,20 @@ fn judge_end(t: &[u8], row: u32) -> Verdict
     ensures { result ≡ first_broken (block 1 row (end_checks t.now)) }
 {
     if rules::byte_at(t, 72) != 13 {
-        return Verdict::Broken {
+        return Err(Refusal {
             number: 2,
-            record: row,
+            place: row,
             column: 73,
-        };
+        });
     }
     if rules::byte_at(t, 73) != 10 {
-        return Verdict::Broken {
+        return Err(Refusal {
             number: 2,
-            record: row,
+            place: row,
             column: 74,
-        };
+        });
     }
-    Verdict::Fine
+    Ok(())
 }
 
 // The length of a file; `row` is the record behind the last that is judged.
@@ -404,13 +412,13 @@ fn judge_length(n: usize, row: u32) -> Verdict
 {
     let whole = n / 74;
     if (1 <= whole) & ((whole <= 6399936) & (n % 74 == 0)) {
-        return Verdict::Fine;
+        return Ok(());
     }
-    Verdict::Broken {
+    Err(Refusal {
         number: 1,
-        record: row,
+        place: row,
         column: 1,
-    }
+    })
 }
 
 // Stage 1: every line end, then the length.
@@ -420,15 +428,7 @@ fn stage_one(file: &[u8]) -> Verdict
     let n = records_of(file);
     let mut k: usize = 0;
     while k < n {
-        let v = judge_end(records::record_view(file, k + 1), (k + 1) as u32);
-        if let Verdict::Broken {
-            number: _,
-            record: _,
-            column: _,
-        } = v
-        {
-            return v;
-        }
+        judge_end(records::record_view(file, k + 1), (k + 1) as u32)?;
         k += 1;
     }
     judge_length(file.len(), (n + 1) as u32)
@@ -502,11 +502,11 @@ fn counted_past(c: Counts, s: State, h: usize) -> Counts
 fn cut_off(row: u32) -> Verdict
     ensures { result ≡ Broken 4 row 1 }
 {
-    Verdict::Broken {
+    Err(Refusal {
         number: 4,
-        record: row,
+        place: row,
         column: 1,
-    }
+    })
 }
 
 // The end of a file where `d` is due.
@@ -514,7 +514,7 @@ fn judge_last(d: Due, row: u32) -> Verdict
     ensures { result ≡ first_broken (block 2 row (last_checks d)) }
 {
     match d {
-        Due::Mesh(_) => Verdict::Fine,
+        Due::Mesh(_) => Ok(()),
         Due::Layer(_) => cut_off(row),
         Due::Node(_, _) => cut_off(row),
         Due::Line(_, _, _) => cut_off(row),
@@ -522,14 +522,6 @@ fn judge_last(d: Due, row: u32) -> Verdict
         Due::Area(_, _) => cut_off(row),
         Due::Loop(_, _, _) => cut_off(row),
     }
-}
-
-// A refusal, with no counts.
-fn refused(v: Verdict) -> Walked
-    ensures { result ≡ record { verdict = v; counts = no_counts } }
-{
-    let counts = no_counts();
-    Walked { verdict: v, counts }
 }
 
 // How many of the records behind the first `k` of `n`, from the first on, are coordinates that keep all
@@ -551,7 +543,7 @@ fn fine_ahead(file: &[u8], points: usize, k: usize, n: usize) -> usize
 }
 
 // Stage 2: every record by what is due, then the end of the file.
-fn stage_two(file: &[u8]) -> Walked
+fn stage_two(file: &[u8]) -> Result<Counts, Refusal>
     ensures { result ≡ walked_by (first_broken (stage_two file.now)) (counts_at file.now (records_of file.now)) }
 {
     let n = records_of(file);
@@ -561,15 +553,7 @@ fn stage_two(file: &[u8]) -> Walked
     while k < n {
         let t = records::record_view(file, k + 1);
         let d = due(s);
-        let v = rules::judge_record(d, t, (k + 1) as u32);
-        if let Verdict::Broken {
-            number: _,
-            record: _,
-            column: _,
-        } = v
-        {
-            return refused(v);
-        }
+        rules::judge_record(d, t, (k + 1) as u32)?;
         c = counted(c, d, t);
         s = next(s, t);
         k += 1;
@@ -578,34 +562,15 @@ fn stage_two(file: &[u8]) -> Walked
         s = p.state;
         k += p.records;
     }
-    let v = judge_last(due(s), (n + 1) as u32);
-    if let Verdict::Broken {
-        number: _,
-        record: _,
-        column: _,
-    } = v
-    {
-        return refused(v);
-    }
-    Walked {
-        verdict: v,
-        counts: c,
-    }
+    judge_last(due(s), (n + 1) as u32)?;
+    Ok(c)
 }
 
 // Stages 1 and 2.
-pub fn walk_file(file: &[u8]) -> Walked
+pub fn walk_file(file: &[u8]) -> Result<Counts, Refusal>
     ensures { result ≡ walked_of file.now }
 {
-    let v = stage_one(file);
-    if let Verdict::Broken {
-        number: _,
-        record: _,
-        column: _,
-    } = v
-    {
-        return refused(v);
-    }
+    stage_one(file)?;
     stage_two(file)
 }
 
@@ -702,48 +667,23 @@ fn fill(file: &[u8], total: Counts, table: &mut [u32])
     }
 }
 
-// What stages 1 and 2 and refusal 9 answer; the counts of a file refused in stage 1 or 2 are 0.
-#[derive(Clone, Copy)]
-pub struct Tabled {
-    pub verdict: Verdict,
-    pub counts: Counts,
-}
-
-// The table is too short.
-fn too_short() -> Verdict
-    ensures { result ≡ Broken 9 0 0 }
-{
-    Verdict::Broken {
-        number: 9,
-        record: 0,
-        column: 0,
-    }
-}
-
 // Stages 1 and 2, refusal 9, and then the table.
-pub fn fill_table(file: &[u8], table: &mut [u32]) -> Tabled
+pub fn fill_table(file: &[u8], table: &mut [u32]) -> Result<Counts, Refused>
     ensures { (result ≡ tabled_of file.now (length table.old)) × (table.new ≡ filled_by (first_broken (early file.now (length table.old))) file.now table.old) }
 {
-    let w = walk_file(file);
-    let counts = w.counts;
-    let v = w.verdict;
-    if let Verdict::Broken {
-        number: _,
-        record: _,
-        column: _,
-    } = v
-    {
-        return Tabled { verdict: v, counts };
-    }
+    let counts = walk_file(file)?;
     if table.len() < counts.words {
-        let short = too_short();
-        return Tabled {
-            verdict: short,
-            counts,
-        };
+        return Err(Refused {
+            refusal: Refusal {
+                number: 9,
+                place: 0,
+                column: 0,
+            },
+            need: counts.words,
+        });
     }
     fill(file, counts, table);
-    Tabled { verdict: v, counts }
+    Ok(counts)
 }
 
 // ---- the need
@@ -752,6 +692,8 @@ pub fn fill_table(file: &[u8], table: &mut [u32]) -> Tabled
 pub fn need(file: &[u8]) -> usize
     ensures { result ≡ need_of file.now }
 {
-    let w = walk_file(file);
-    w.counts.words
+    match walk_file(file) {
+        Ok(counts) => counts.words,
+        Err(_) => 0,
+    }
 }

@@ -4,7 +4,7 @@ use mathlib.Core.Path.{◌≡◌, refl, sym}
 use native.Mathlib.Omega.{arith}
 use lib.Seq.{length-take-le}
 use borrow.Author.Tests.{leb-true}
-use Rattle.verdict.specs.declared.Verdict.TheVariants.{Fine}
+use Rattle.verdict.specs.Rules.{Fine}
 use Rattle.judge.specs.Rulebook.{pair_rule}
 use Rattle.judge.specs.Outcomes.{sums_after}
 use Rattle.judge.proofs.Loading.{counts_few}

@@ -5,7 +5,7 @@ use Prim.Native.Nat.{◌≤◌}
 use lib.Seq.{length-take-le}
 use borrow.Author.Rules.{rules}
 use borrow.Author.Tests.{leb-true}
-use Rattle.verdict.specs.declared.Verdict.TheVariants.{Fine}
+use Rattle.verdict.specs.Rules.{Fine}
 use Rattle.verdict.proofs.Orders.{and_both}
 use Rattle.judge.specs.Rulebook.{layer_rule}
 use Rattle.judge.specs.Outcomes.{sums_of}

@@ -3,7 +3,7 @@
 use mathlib.Core.Path.{◌≡◌, refl, sym}
 use lib.Seq.{length-take-le}
 use borrow.Author.Tests.{leb-true}
-use Rattle.verdict.specs.declared.Verdict.TheVariants.{Fine}
+use Rattle.verdict.specs.Rules.{Fine}
 use Rattle.judge.specs.Rulebook.{measure_rule}
 use Rattle.judge.specs.Outcomes.{measures_after}
 use Rattle.judge.proofs.Loading.{counts_few}

@@ -4,9 +4,8 @@ use Prim.Native.Nat.{ℕ}
 use native.Mathlib.Omega.{arith}
 use borrow.Author.Tests.{eq-eqb, ne_eqb}
 use Rattle.verdict.specs.declared.Told.{Told}
-use Rattle.verdict.specs.declared.Verdict.{Verdict}
-use Rattle.verdict.specs.declared.Verdict.TheVariants.{Fine, Broken}
-use Rattle.verdict.specs.Rules.{told_of}
+use Rattle.std.specs.Prelude.{Err}
+use Rattle.verdict.specs.Rules.{Verdict, Fine, Broken, told_of}
 use Rattle.walk.specs.declared.Counts.{Counts}
 use Rattle.judge.specs.declared.Outcome.{Outcome}
 use Rattle.judge.specs.Outcomes.{outcome_by}
@@ -32,7 +31,7 @@ short : (v : Verdict) (c : Counts) (records : ℕ) {t : Told} → t ≡ told_of 
 short Fine c records e q =
     let z : ◌≡◌ {A = ℕ} 0 9 = sym (ap (λ t. t.number) e) ∙ q in
     absurd (omega arith)
-short (Broken n r k) c records e q =
+short (Err r) c records e q =
     let z : n ≡ 9 = sym (ap (λ t. t.number) e) ∙ q in
     rw (e, eq-eqb n 9 z)
 

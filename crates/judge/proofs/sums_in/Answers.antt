@@ -3,7 +3,7 @@ use mathlib.Core.Path.{sym, ◌∙◌, ap₂}
 use lib.Seq.{length-take-le}
 use mir.Facts.{to_z-of_z}
 use mir.Syntax.{w64}
-use Rattle.verdict.specs.declared.Verdict.TheVariants.{Fine}
+use Rattle.verdict.specs.Rules.{Fine}
 use Rattle.entries.proofs.Keeping.{kept_room, kept_lines}
 use Rattle.judge.specs.Outcomes.{sums_with}
 use Rattle.judge.proofs.sums_in.Goals as goal

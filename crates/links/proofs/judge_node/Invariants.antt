@@ -1,8 +1,7 @@
 -- `links::judge_node` meets its contract: a slot that is fine is clean, so the loop never passes the slot that the scan found. Assumes nothing.
 use mathlib.Core.Path.{◌≡◌}
 use Prim.Native.Nat.{◌-◌, ◌≤◌}
-use Rattle.verdict.specs.declared.Verdict.TheVariants.{Fine}
-use Rattle.verdict.specs.Rules.{first_broken, rows}
+use Rattle.verdict.specs.Rules.{Fine, first_broken, rows}
 use Rattle.links.specs.Links.{node_slot, fifth}
 use Rattle.links.proofs.Scans.{slot_rules}
 use Rattle.links.proofs.judge_node.Given as goal

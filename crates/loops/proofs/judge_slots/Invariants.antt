@@ -2,8 +2,7 @@
 -- nothing.
 use mathlib.Core.Path.{◌≡◌}
 use Prim.Native.Nat.{◌-◌, ◌≤◌}
-use Rattle.verdict.specs.declared.Verdict.TheVariants.{Fine}
-use Rattle.verdict.specs.Rules.{first_broken, rows}
+use Rattle.verdict.specs.Rules.{Fine, first_broken, rows}
 use Rattle.links.proofs.Scans.{slot_rules}
 use Rattle.loops.specs.Loops.{loop_slot, sixth}
 use Rattle.loops.proofs.judge_slots.Given as goal

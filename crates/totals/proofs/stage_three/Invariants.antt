@@ -1,8 +1,7 @@
 -- `totals::stage_three` meets its contract: the loop leaves at the first broken total, and quiet records have none. Assumes nothing.
 use mathlib.Core.Path.{◌≡◌}
 use Prim.Native.Nat.{◌-◌, ◌≤◌}
-use Rattle.verdict.specs.declared.Verdict.TheVariants.{Fine}
-use Rattle.verdict.specs.Rules.{first_broken, rows}
+use Rattle.verdict.specs.Rules.{Fine, first_broken, rows}
 use Rattle.walk.specs.States.{state_at}
 use Rattle.totals.proofs.Summing.{totals_of}
 use Rattle.totals.proofs.stage_three.Given as goal

@@ -2,8 +2,7 @@
 -- Assumes nothing.
 use mathlib.Core.Path.{◌≡◌}
 use Prim.Native.Nat.{◌-◌, ◌≤◌}
-use Rattle.verdict.specs.declared.Verdict.TheVariants.{Fine}
-use Rattle.verdict.specs.Rules.{first_broken, rows}
+use Rattle.verdict.specs.Rules.{Fine, first_broken, rows}
 use Rattle.walk.proofs.Judging.{ends_of}
 use Rattle.walk.proofs.stage_one.Given as goal
 

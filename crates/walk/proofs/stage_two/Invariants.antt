@@ -2,8 +2,7 @@
 -- behind it all are kept, and the end decides. Assumes nothing.
 use mathlib.Core.Path.{◌≡◌}
 use Prim.Native.Nat.{◌-◌, ◌≤◌}
-use Rattle.verdict.specs.declared.Verdict.TheVariants.{Fine}
-use Rattle.verdict.specs.Rules.{first_broken, rows}
+use Rattle.verdict.specs.Rules.{Fine, first_broken, rows}
 use Rattle.walk.specs.States.{state_at, counts_at}
 use Rattle.walk.proofs.Judging.{stage_two_rules}
 use Rattle.walk.proofs.stage_two.Given as goal
