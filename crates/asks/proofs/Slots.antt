@@ -9,6 +9,7 @@ use lib.Dec.{ltb}
 use lib.IntN.{ℤ}
 use lib.ListN.{length, get_or, drop, get_or-eq_default}
 use lib.Seq.{get_or-drop}
+use Rattle.std.specs.Prelude.{Ok}
 use Rattle.permitted.specs.Permitted.{is_slot}
 use Rattle.asks.specs.Asks.{Ask, permitted, at, from, slot_ask, first_asked}
 
@@ -42,6 +43,6 @@ slot_asked L d n count i ns e q l h =
     rw (row_behind L d n (slot_ask count ns d) i [] q l h, p, e)
 
 -- past the end of the list nothing is asked, so nothing is broken
-pub none_asked : (L : List (List Ask)) (i : ℕ) → length L ≤ i → 0 ≡ first_asked (get_or L i [])
+pub none_asked : (L : List (List Ask)) (i : ℕ) → length L ≤ i → Ok tt ≡ first_asked (get_or L i [])
 unfolding first_asked
 none_asked L i h = rw (get_or-eq_default L [] h)

@@ -3,8 +3,10 @@
 --   Ask              a value that has to be permitted (6), or in step (8)
 --   mesh_asks .. ns  of an M, and so on: for each of its numbers what is asked of it. ns are the numbers read so far, each in its
 --                    place, and 0 elsewhere; nothing is asked of a number that looks at one behind it
---   first_asked      the refusal number of the first ask that is not kept
-use Rattle.std.specs.Prelude.{Bool, cond, ◌||◌, List, [], ◌∷◌, ℕ, zero, suc, ◌+◌, ◌/◌, ltb, eqb, ℤ, pos, get_or}
+--   first_asked      why the first ask that is not kept is refused; fault_number: its refusal number
+use Rattle.std.specs.Prelude.{Bool, cond, ◌||◌, List, [], ◌∷◌, ℕ, zero, suc, ◌+◌, ◌/◌, ltb, eqb, ℤ, pos, get_or, Result, Ok, Err, ⊤}
+use Rattle.asks.specs.declared.Fault.{Fault}
+use Rattle.asks.specs.declared.Fault.TheVariants.{NotPermitted, OutOfStep}
 use Rattle.permitted.specs.Permitted.{natural, size, within, is, at_least, is_mesh_code, follows_mesh, is_layer_code, follows_layer, is_date, is_coordinate}
 use Rattle.permitted.specs.Permitted.{is_node_item, is_frame, is_line_item, is_line_kind, is_link, is_code, is_side, of_areas, is_area_code, is_slot, is_point, is_next}
 use Rattle.permitted.specs.Permitted.{is_loop_serial}
@@ -120,8 +122,13 @@ loop_asks last count left ns =
     ∷ (permitted (at_least 1 (at ns 1)) ∷ in_step (eqb left 0 || is count (at ns 1)) ∷ [])  -- 6-9 line count: 1 or more
     ∷ from (slot_ask (entries_due (size (at ns 1)) left) ns 2) 0 12  -- 10-69 twelve line numbers
 
--- the number of the first that is not kept, or 0
-unfoldable pub first_asked : List Ask → ℕ
-first_asked [] = 0
-first_asked (permitted b ∷ l) = cond b (first_asked l) 6
-first_asked (in_step b ∷ l) = cond b (first_asked l) 8
+-- RULES 6.2: their refusal numbers
+abbrev pub fault_number : Fault → ℕ
+fault_number NotPermitted = 6
+fault_number OutOfStep = 8
+
+-- why the first that is not kept is refused
+unfoldable pub first_asked : List Ask → Result ⊤ Fault
+first_asked [] = Ok tt
+first_asked (permitted b ∷ l) = cond b (first_asked l) (Err NotPermitted)
+first_asked (in_step b ∷ l) = cond b (first_asked l) (Err OutOfStep)

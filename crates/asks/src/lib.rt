@@ -3,11 +3,11 @@
 // to a row of these tables is checked without the judge of records.
 //
 // The contracts cite `specs/Asks`.
-#![tactic(auto)]
+#![tactic(auto, unfolding(crate::specs::Asks::first_asked))]
 
 ghost use Rattle.std.specs.Prelude.{◌≡◌, [], ◌∷◌, ltb, get_or};
 ghost use Rattle.permitted.specs.Permitted.{is_slot, is_loop_serial};
-ghost use Rattle.asks.specs.Asks.{permitted, in_step, at, layer_ask, mesh_asks, layer_asks, node_asks, line_asks, coordinate_asks, area_asks, loop_asks};
+ghost use Rattle.asks.specs.Asks.{fault_number, permitted, in_step, at, layer_ask, mesh_asks, layer_asks, node_asks, line_asks, coordinate_asks, area_asks, loop_asks};
 ghost use Rattle.asks.specs.Asks.{loop_due, entries_due, first_asked};
 
 use permitted::{
@@ -16,33 +16,44 @@ use permitted::{
     is_node_item, is_point, is_side, is_slot, natural, of_areas, same, size, within,
 };
 
-// 6 for a value that is not permitted.
-fn permitted(ok: bool) -> u32
+// Why a number is refused: its value is not permitted, or it is out of step with what came before it.
+#[derive(Clone, Copy, Debug, PartialEq, Eq)]
+pub enum Fault {
+    NotPermitted,
+    OutOfStep,
+}
+
+impl Fault {
+    // Its refusal number (RULES 6.2).
+    pub fn number(self) -> u32
+        ensures { result ≡ fault_number self }
+    {
+        match self {
+            Fault::NotPermitted => 6,
+            Fault::OutOfStep => 8,
+        }
+    }
+}
+
+// Whether a value is permitted.
+fn permitted(ok: bool) -> Result<(), Fault>
     ensures { result ≡ first_asked (permitted ok ∷ []) }
 {
-    if ok {
-        return 0;
-    }
-    6
+    if ok { Ok(()) } else { Err(Fault::NotPermitted) }
 }
 
-// 8 for one that is out of step.
-fn in_step(ok: bool) -> u32
+// Whether it is in step.
+fn in_step(ok: bool) -> Result<(), Fault>
     ensures { result ≡ first_asked (in_step ok ∷ []) }
 {
-    if ok {
-        return 0;
-    }
-    8
+    if ok { Ok(()) } else { Err(Fault::OutOfStep) }
 }
 
-// 6, then 8.
-fn both(ok: bool, next: bool) -> u32
+// Whether it is permitted, and then whether it is in step.
+fn both(ok: bool, next: bool) -> Result<(), Fault>
     ensures { result ≡ first_asked (permitted ok ∷ in_step next ∷ []) }
 {
-    if !ok {
-        return 6;
-    }
+    permitted(ok)?;
     in_step(next)
 }
 
@@ -50,21 +61,18 @@ fn both(ok: bool, next: bool) -> u32
 fn at(numbers: &[i32], i: usize) -> i32
     ensures { result ≡ at numbers.now i }
 {
-    if i < numbers.len() {
-        return numbers[i];
-    }
-    0
+    numbers.get(i).copied().unwrap_or(0)
 }
 
 // The layer code of an N, L or A.
-fn layer_fault(layer: usize, v: i32) -> u32
+fn layer_fault(layer: usize, v: i32) -> Result<(), Fault>
     ensures { result ≡ first_asked (layer_ask layer v) }
 {
     both(is_layer_code(v), is(v, layer))
 }
 
 // Number `i` of an M.
-pub fn mesh_fault(last: usize, i: usize, ns: &[i32]) -> u32
+pub fn mesh_fault(last: usize, i: usize, ns: &[i32]) -> Result<(), Fault>
     ensures { result ≡ first_asked (get_or (mesh_asks last ns.now) i []) }
 {
     let v = at(ns, i);
@@ -76,12 +84,12 @@ pub fn mesh_fault(last: usize, i: usize, ns: &[i32]) -> u32
         4 => permitted(natural(v)), // areas
         5 => permitted(is(v, 0)), // points
         6 => permitted(natural(v)), // records
-        _ => 0,
+        _ => Ok(()),
     }
 }
 
 // Number `i` of an H.
-pub fn head_fault(last: usize, letters: u32, i: usize, ns: &[i32]) -> u32
+pub fn head_fault(last: usize, letters: u32, i: usize, ns: &[i32]) -> Result<(), Fault>
     ensures { result ≡ first_asked (get_or (layer_asks last letters ns.now) i []) }
 {
     let v = at(ns, i);
@@ -94,19 +102,19 @@ pub fn head_fault(last: usize, letters: u32, i: usize, ns: &[i32]) -> u32
         5 => permitted(natural(v)), // records
         6 => permitted(is_date(v)), // first made
         7 => permitted(is_date(v)), // last changed
-        _ => 0,
+        _ => Ok(()),
     }
 }
 
 // A slot of a record: number `d + i`, where `count` slots are counted.
-fn slot_fault(count: usize, i: usize, v: i32) -> u32
+fn slot_fault(count: usize, i: usize, v: i32) -> Result<(), Fault>
     ensures { result ≡ first_asked (permitted (is_slot (ltb i count) v) ∷ []) }
 {
     permitted(is_slot(i < count, v))
 }
 
 // Number `i` of an N.
-pub fn node_fault(layer: usize, last: usize, i: usize, ns: &[i32]) -> u32
+pub fn node_fault(layer: usize, last: usize, i: usize, ns: &[i32]) -> Result<(), Fault>
     ensures { result ≡ first_asked (get_or (node_asks layer last ns.now) i []) }
 {
     let v = at(ns, i);
@@ -119,12 +127,18 @@ pub fn node_fault(layer: usize, last: usize, i: usize, ns: &[i32]) -> u32
         5 => permitted(is_frame(at(ns, 3), at(ns, 4), v)),
         6 => permitted(within(v, 1, 9)), // count
         7..=15 => slot_fault(size(at(ns, 6)), i - 7, v),
-        _ => 0,
+        _ => Ok(()),
     }
 }
 
 // Number `i` of an L.
-pub fn line_fault(layer: usize, last: usize, letters: u32, i: usize, ns: &[i32]) -> u32
+pub fn line_fault(
+    layer: usize,
+    last: usize,
+    letters: u32,
+    i: usize,
+    ns: &[i32],
+) -> Result<(), Fault>
     ensures { result ≡ first_asked (get_or (line_asks layer last letters ns.now) i []) }
 {
     let v = at(ns, i);
@@ -133,9 +147,9 @@ pub fn line_fault(layer: usize, last: usize, letters: u32, i: usize, ns: &[i32])
         1 => permitted(is_line_item(layer, v)),
         2 => in_step(is_next(last, v)),
         3 => permitted(is_line_kind(layer, at(ns, 1), v)),
-        4 => 0, // start node
+        4 => Ok(()), // start node
         5 => permitted(is_link(v)),
-        6 => 0, // end node
+        6 => Ok(()), // end node
         7 => permitted(is_link(v)),
         8 => permitted(of_areas(letters, v, is_code(layer, v))), // left
         9 => permitted(of_areas(letters, v, is_side(at(ns, 8), v))),
@@ -144,22 +158,22 @@ pub fn line_fault(layer: usize, last: usize, letters: u32, i: usize, ns: &[i32])
         12 => permitted(at_least(v, 2)), // points
         13 => permitted(is(v, 0)),
         14 => permitted(is(v, 0)),
-        _ => 0,
+        _ => Ok(()),
     }
 }
 
 // Number `i` of a coordinate record.
-pub fn coordinate_fault(left: usize, i: usize, ns: &[i32]) -> u32
+pub fn coordinate_fault(left: usize, i: usize, ns: &[i32]) -> Result<(), Fault>
     ensures { result ≡ first_asked (get_or (coordinate_asks left ns.now) i []) }
 {
     if i < 14 {
         return permitted(is_point(i / 2 < left, at(ns, i)));
     }
-    0
+    Ok(())
 }
 
 // Number `i` of an A.
-pub fn area_fault(layer: usize, last: usize, i: usize, ns: &[i32]) -> u32
+pub fn area_fault(layer: usize, last: usize, i: usize, ns: &[i32]) -> Result<(), Fault>
     ensures { result ≡ first_asked (get_or (area_asks layer last ns.now) i []) }
 {
     let v = at(ns, i);
@@ -171,7 +185,7 @@ pub fn area_fault(layer: usize, last: usize, i: usize, ns: &[i32]) -> u32
         4 => permitted(within(v, 0, 10000)), // Y
         5 => permitted(at_least(v, 1)), // loops
         6 => permitted(at_least(v, 1)), // lines
-        _ => 0,
+        _ => Ok(()),
     }
 }
 
@@ -201,7 +215,7 @@ fn entries_due(count: usize, left: usize) -> usize
 }
 
 // Number `i` of a loop record.
-pub fn loop_fault(last: usize, count: usize, left: usize, i: usize, ns: &[i32]) -> u32
+pub fn loop_fault(last: usize, count: usize, left: usize, i: usize, ns: &[i32]) -> Result<(), Fault>
     ensures { result ≡ first_asked (get_or (loop_asks last count left ns.now) i []) }
 {
     let v = at(ns, i);
@@ -209,6 +223,6 @@ pub fn loop_fault(last: usize, count: usize, left: usize, i: usize, ns: &[i32]) 
         0 => in_step(is_loop_due(last, left, v)),
         1 => both(at_least(v, 1), (left == 0) | is(v, count)),
         2..=13 => slot_fault(entries_due(size(at(ns, 1)), left), i - 2, v),
-        _ => 0,
+        _ => Ok(()),
     }
 }
