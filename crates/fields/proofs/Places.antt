@@ -7,7 +7,7 @@ use native.Mathlib.Omega.{arith}
 use lib.Dec.{leb}
 use lib.ListN.{length, take, drop, length-append, length-drop, take-append-drop}
 use lib.Seq.{length-take-le, take_at, drop_at, drop-drop}
-use borrow.Author.Tests.{le-leb, lt-leb, leb-true, not-false}
+use borrow.Author.Tests.{le-leb, lt-leb, leb-true, leb-false, not-false}
 use Rattle.fields.specs.Place.{is_inside, bytes_at, put}
 
 -- both of two tests that hold together
@@ -29,6 +29,18 @@ module _ (s : List ℕ) (c w : ℕ) where
   pub inside_fits : 1 ≤ c → c - 1 + w ≤ length s → is_inside s c w ≡ true
   unfolding is_inside
   inside_fits p l = rw (le-leb 1 c p, le-leb _ _ l)
+
+  -- as the code asks it, so that no sum can wrap
+  pub inside_rest : 1 ≤ c → c - 1 ≤ length s → leb w (length s - (c - 1)) ≡ is_inside s c w
+  inside_rest p l = by (leb w (length s - (c - 1))) refl
+    where
+      by : (t : Bool) → leb w (length s - (c - 1)) ≡ t → t ≡ is_inside s c w
+      by true e =
+          let h = leb-true _ _ e in
+          sym (inside_fits p (omega arith))
+      by false e =
+          let h = leb-false _ _ e in
+          sym (inside_short p (omega arith))
 
   pub inside_bounds : is_inside s c w ≡ true → (1 ≤ c) × (c - 1 + w ≤ length s)
   unfolding is_inside

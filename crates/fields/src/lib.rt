@@ -2,6 +2,9 @@
 // stands in, its first column, counted from 1, and its width. Every function takes every buffer,
 // column and width.
 //
+// The answer to a number field is an `Option`: its value, or none for refusal 5. The answer to a name or a
+// blank field is a `bool`: whether it is well formed, and refusal 5 if not.
+//
 // `specs/` has the definitions: `Number` and `Spelling` say what a number field is, `Text` what the
 // other two are, `Answer` which refusal number an answer stands for. `proofs/FieldLaws` has the laws.
 //
@@ -11,30 +14,12 @@
 // speed alone, `writers` writes all three.
 #![tactic(auto)]
 
-ghost use Rattle.std.specs.Prelude.{◌≡◌};
-ghost use Rattle.fields.specs.Number.{is_digit};
-ghost use Rattle.fields.specs.Place.{is_inside};
+ghost use Rattle.std.specs.Prelude.{◌≡◌, true, false, MatchOption};
+ghost use Rattle.fields.specs.Place.{is_inside, bytes_at};
 
-// The answer to a number field: its value, or refusal 5.
-#[derive(Clone, Copy)]
-pub enum Number {
-    Refused,
-    Value(i32),
-}
-
-// The answer to a name or a blank field: well formed, or refusal 5. Its value is its bytes.
-#[derive(Clone, Copy)]
-pub enum Text {
-    Refused,
-    WellFormed,
-}
-
-// A writer's answer: written, or refusal 20 with the buffer as it was.
-#[derive(Clone, Copy)]
-pub enum Writing {
-    Refused,
-    Done,
-}
+// Refusal 20: what does not fit, with the buffer as it was. A writer's answer is a `Result` with it.
+#[derive(Clone, Copy, Debug, PartialEq, Eq)]
+pub struct Unfit;
 
 // What is still to be written, column by column from the right: a number's digits and then its
 // minus sign, if it has one; the minus sign alone; or spaces.
@@ -49,28 +34,16 @@ pub enum Left {
 pub fn inside(s: &[u8], column: usize, width: usize) -> bool
     ensures { result ≡ is_inside s.now column width }
 {
-    if column == 0 {
-        return false;
-    }
-    if s.len() < column - 1 {
-        return false;
-    }
-    if s.len() - (column - 1) < width {
-        return false;
-    }
-    true
+    1 <= column && column - 1 <= s.len() && width <= s.len() - (column - 1)
 }
 
-// Whether a byte is a digit.
-pub fn digit(b: u8) -> bool
-    ensures { result ≡ is_digit b }
+// The bytes of those columns, or none where they do not lie within `s`.
+pub fn bytes_at(s: &[u8], column: usize, width: usize) -> Option<&[u8]>
+    ensures { MatchOption result (is_inside s.now column width ≡ false) (λ f. (is_inside s.now column width ≡ true) × (f.now ≡ bytes_at s.now column width)) }
 {
-    (b'0' <= b) & (b <= b'9')
-}
-
-// A digit's byte as a number.
-pub fn wide(b: u8) -> u32
-    ensures { result ≡ b }
-{
-    b as u32
+    if !inside(s, column, width) {
+        return None;
+    }
+    let at = column - 1;
+    Some(&s[at..at + width])
 }
