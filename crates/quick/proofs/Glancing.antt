@@ -12,9 +12,9 @@ use lib.Seq.{get_or-set_same}
 use borrow.Author.Tests.{le-leb, leb-true, eq-eqb, ne_eqb}
 use Rattle.fields.specs.Number.{number_at}
 use Rattle.fields.specs.Text.{is_blanks, text_at}
-use Rattle.fields.specs.declared.Number.{Number}
-use Rattle.fields.specs.declared.Number.TheVariants.{Value, Refused}
-use Rattle.fields.specs.declared.Text.TheVariants as text
+use Rattle.std.specs.Prelude.{Option, Some, None, Result, Ok, Err, ⊤}
+use Rattle.asks.specs.declared.Fault.{Fault}
+use Rattle.asks.specs.declared.Fault.TheVariants.{NotPermitted}
 use Rattle.records.specs.Layout.{layout_of}
 use Rattle.records.specs.Reading.{zeros}
 use Rattle.records.proofs.Layouts.{coordinate_laid}
@@ -52,9 +52,13 @@ point_broken true (negsuc n) h = refl
 point_broken false (pos n) h = ne_eqb n 0 (λ e. h n refl (omega arith))
 point_broken false (negsuc n) h = ne_eqb (suc n) 0 (λ e. omega arith)
 
+-- what is asked of a number: whether it may be what it is
+abbrev point_answer : Bool → Result ⊤ Fault
+point_answer b = cond b (Ok tt) (Err NotPermitted)
+
 -- that is all that is asked of number i
 number_asked : (left i : ℕ) (t : List ℕ) (ns : List ℤ) {v : ℤ} {b : Bool} → i < 14 → at ns i ≡ v
-    → is_point (ltb (i / 2) left) v ≡ b → cond b 0 6 ≡ first_asked (asked_of (Coordinates left) t i ns)
+    → is_point (ltb (i / 2) left) v ≡ b → point_answer b ≡ first_asked (asked_of (Coordinates left) t i ns)
 unfolding asked_of asks_of coordinate_asks first_asked
 number_asked left i t ns l e h =
     let q = ap (is_point (ltb (i / 2) left)) e ∙ h in
@@ -62,33 +66,33 @@ number_asked left i t ns l e h =
 
 module _ {left i : ℕ} {t : List ℕ} (g : Glancing left t i) (l : i < 14) where
   -- number i, with the value v that stands there
-  asked : (v : ℤ) {b : Bool} → is_point (ltb (i / 2) left) v ≡ b → cond b 0 6 ≡ first_asked (asked_of (Coordinates left) t i (set g.numbers i v))
+  asked : (v : ℤ) {b : Bool} → is_point (ltb (i / 2) left) v ≡ b → point_answer b ≡ first_asked (asked_of (Coordinates left) t i (set g.numbers i v))
   asked v h =
       let w : i < length g.numbers = rw (g.going 0).many (omega arith) in
       number_asked left i t (set g.numbers i v) l (get_or-set_same g.numbers i v (pos 0) w) h
 
   -- it may be what it is
-  pub number_glanced : {n : ℕ} → number_at t (1 + 5 * i) 5 ≡ Value (pos n) → n ≤ cond (ltb (i / 2) left) 10000 0 → Glancing left t (i + 1)
+  pub number_glanced : {n : ℕ} → number_at t (1 + 5 * i) 5 ≡ Some (pos n) → n ≤ cond (ltb (i / 2) left) 10000 0 → Glancing left t (i + 1)
   unfolding layout_of
   number_glanced {n} e h =
       let k = asked (pos n) (point_kept (ltb (i / 2) left) n h) in
-      record { numbers = set g.numbers i (pos n); going = λ row. number_next (g.going row) (1 + 5 * i) 5 (coordinate_laid i l) refl (pos n) e k refl }
+      record { numbers = set g.numbers i (pos n); going = λ row. number_next (g.going row) (1 + 5 * i) 5 (coordinate_laid i l) refl (pos n) e k }
 
   -- it is none, or none that may be: the record is broken there
-  stopped_by : (x : Number) → number_at t (1 + 5 * i) 5 ≡ x → ((n : ℕ) → x ≡ Value (pos n) → n ≤ cond (ltb (i / 2) left) 10000 0 → ⊥)
+  stopped_by : (x : Option ℤ) → number_at t (1 + 5 * i) 5 ≡ x → ((n : ℕ) → x ≡ Some (pos n) → n ≤ cond (ltb (i / 2) left) 10000 0 → ⊥)
       → (row : ℕ) → false ≡ is_fine (first_broken (block 2 row (checks_of (Coordinates left) t)))
   unfolding layout_of
-  stopped_by Refused e h row = ap is_fine (number_ill (g.going row) (1 + 5 * i) 5 (coordinate_laid i l) refl e)
-  stopped_by (Value v) e h row =
-      let k = asked v (point_broken (ltb (i / 2) left) v (λ n q. h n (ap Value q))) in
-      ap is_fine (number_broken (g.going row) (1 + 5 * i) 5 (coordinate_laid i l) refl v e k (λ z. omega arith))
+  stopped_by None e h row = ap is_fine (number_ill (g.going row) (1 + 5 * i) 5 (coordinate_laid i l) refl e)
+  stopped_by (Some v) e h row =
+      let k = asked v (point_broken (ltb (i / 2) left) v (λ n q. h n (ap Some q))) in
+      ap is_fine (number_broken (g.going row) (1 + 5 * i) 5 (coordinate_laid i l) refl v e k)
 
   -- a glance is sure of a number above what it may be; or it is sure of none
-  pub number_above : {n : ℕ} → number_at t (1 + 5 * i) 5 ≡ Value (pos n) → cond (ltb (i / 2) left) 10000 0 < n
+  pub number_above : {n : ℕ} → number_at t (1 + 5 * i) 5 ≡ Some (pos n) → cond (ltb (i / 2) left) 10000 0 < n
       → (row : ℕ) → false ≡ is_fine (first_broken (block 2 row (checks_of (Coordinates left) t)))
-  number_above {n} e h = stopped_by (Value (pos n)) e (λ m q k. let z : n ≡ m = cc in omega arith)
+  number_above {n} e h = stopped_by (Some (pos n)) e (λ m q k. let z : n ≡ m = cc in omega arith)
 
-  pub number_none : ((n : ℕ) → number_at t (1 + 5 * i) 5 ≡ Value (pos n) → 100000 ≤ n)
+  pub number_none : ((n : ℕ) → number_at t (1 + 5 * i) 5 ≡ Some (pos n) → 100000 ≤ n)
       → (row : ℕ) → false ≡ is_fine (first_broken (block 2 row (checks_of (Coordinates left) t)))
   number_none h = stopped_by (number_at t (1 + 5 * i) 5) refl (λ n q k. small (ltb (i / 2) left) n k (h n q))
     where
@@ -98,10 +102,10 @@ module _ {left i : ℕ} {t : List ℕ} (g : Glancing left t i) (l : i < 14) wher
 
 -- behind all of them the blank is left, and then the layout ends
 module _ {left : ℕ} {t : List ℕ} (g : Glancing left t 14) where
-  pub all_glanced : text_at is_blanks t 71 2 ≡ text.WellFormed → (row : ℕ) → true ≡ is_fine (first_broken (block 2 row (checks_of (Coordinates left) t)))
+  pub all_glanced : text_at is_blanks t 71 2 ≡ true → (row : ℕ) → true ≡ is_fine (first_broken (block 2 row (checks_of (Coordinates left) t)))
   unfolding layout_of
   all_glanced e row = ap is_fine (ends (blank_next (g.going row) 71 2 refl refl e) refl)
 
-  pub blank_broken : text_at is_blanks t 71 2 ≡ text.Refused → (row : ℕ) → false ≡ is_fine (first_broken (block 2 row (checks_of (Coordinates left) t)))
+  pub blank_broken : text_at is_blanks t 71 2 ≡ false → (row : ℕ) → false ≡ is_fine (first_broken (block 2 row (checks_of (Coordinates left) t)))
   unfolding layout_of
   blank_broken e row = ap is_fine (blank_ill (g.going row) 71 2 refl refl e)

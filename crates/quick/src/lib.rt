@@ -10,17 +10,11 @@ ghost use Rattle.verdict.specs.Rules.{first_broken, is_fine, block};
 ghost use Rattle.rules.specs.Checks.{checks_of};
 ghost use Rattle.rules.specs.declared.Due.TheVariants.{Coordinates};
 
-use fields::Text;
-use glances::Glance;
-
 // What a number of a coordinate record may be at most: 10000 within the count, 0 past it.
 fn most_at(i: usize, left: usize) -> u32
     ensures { result ≡ cond (ltb (i / 2) left) 10000 0 }
 {
-    if i / 2 < left {
-        return 10000;
-    }
-    0
+    if i / 2 < left { 10000 } else { 0 }
 }
 
 // Whether a coordinate record keeps all rules of stage 2, where `left` points of its line are left. It
@@ -28,20 +22,13 @@ fn most_at(i: usize, left: usize) -> u32
 pub fn fine_coordinates(s: &[u8], left: usize) -> bool
     ensures { (row : ℕ) → result ≡ is_fine (first_broken (block 2 row (checks_of (Coordinates left) s.now))) }
 {
-    let mut i: usize = 0;
-    while i < 14 {
-        let g = glances::glance_number(s, 1 + 5 * i);
-        let Glance::Sure(n) = g else {
+    for i in 0..14 {
+        let Some(n) = glances::glance_number(s, 1 + 5 * i) else {
             return false;
         };
         if most_at(i, left) < n {
             return false;
         }
-        i += 1;
     }
-    let answer = texts::read_blank(s, 71, 2);
-    let Text::WellFormed = answer else {
-        return false;
-    };
-    true
+    texts::read_blank(s, 71, 2)
 }

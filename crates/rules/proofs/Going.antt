@@ -10,48 +10,40 @@ use lib.IntN.{ℤ}
 use lib.ListN.{length, get_or, drop, set, length-set, drop_of_length-le}
 use Rattle.fields.specs.Number.{number_at}
 use Rattle.fields.specs.Text.{is_blanks, is_name, text_at}
+use Rattle.std.specs.Prelude.{Option, Some, None, Ok, Err}
 use Rattle.codes.specs.declared.Code as codes
-use Rattle.codes.specs.declared.Code.TheVariants as code
-use Rattle.fields.specs.declared.Number as numbers
-use Rattle.fields.specs.declared.Number.TheVariants as number
-use Rattle.fields.specs.declared.Text as texts
-use Rattle.fields.specs.declared.Text.TheVariants as text
 use Rattle.records.specs.Layout.{layout_of, start_of, numbers_of, total}
-use Rattle.records.specs.Reading.{letters_fault, letters_in, code_in, fault_of, zeros}
+use Rattle.records.specs.Reading.{letters_right, letters_in, code_in, fault_of, zeros}
 use Rattle.records.specs.declared.Field.{Field}
 use Rattle.records.specs.declared.Field.TheVariants.{End, Letters, Number, Code, Name, Blank}
 use Rattle.records.proofs.Layouts.{is_field, on_layout, off_layout, split, total_split, fitting, start_small}
 use Rattle.verdict.specs.Rules.{Fine, Broken, Check, check, first_broken, block}
 use Rattle.verdict.proofs.Parts.{check_none, check_kept, check_broken}
 use Rattle.rules.specs.declared.Due.{Due}
-use Rattle.asks.specs.Asks.{Ask, permitted, in_step, first_asked}
+use Rattle.asks.specs.declared.Fault.{Fault}
+use Rattle.asks.specs.declared.Fault.TheVariants.{NotPermitted, OutOfStep}
+use Rattle.asks.specs.Asks.{Ask, permitted, in_step, fault_number, first_asked}
 use Rattle.rules.specs.Checks.{asks_of, asked_of, kind_of, form_checks, value_checks, along, checks_of}
 
 -- ---- one field's checks, in front of others
 
 -- the first of the asks that is not kept is the first broken check
 module _ (r c : ℕ) (cs : List Check) where
-  pub values_kept : (l : List Ask) → first_asked l ≡ 0 → first_broken (block 2 r (value_checks c l ++ cs)) ≡ first_broken (block 2 r cs)
+  pub values_kept : (l : List Ask) → first_asked l ≡ Ok tt → first_broken (block 2 r (value_checks c l ++ cs)) ≡ first_broken (block 2 r cs)
   unfolding first_asked value_checks
   values_kept [] e = refl
   values_kept (permitted true ∷ l) e = check_kept 2 r c 6 true (value_checks c l ++ cs) refl ∙ values_kept l e
-  values_kept (permitted false ∷ l) e = absurd (omega arith)
+  values_kept (permitted false ∷ l) e = let z : ◌≡◌ {A = ℕ} 0 1 = cc in absurd (omega arith)
   values_kept (in_step true ∷ l) e = check_kept 2 r c 8 true (value_checks c l ++ cs) refl ∙ values_kept l e
-  values_kept (in_step false ∷ l) e = absurd (omega arith)
+  values_kept (in_step false ∷ l) e = let z : ◌≡◌ {A = ℕ} 0 1 = cc in absurd (omega arith)
 
-  pub values_broken : (l : List Ask) (n : ℕ) → first_asked l ≡ n → (n ≡ 0 → ⊥) → first_broken (block 2 r (value_checks c l ++ cs)) ≡ Broken n r c
+  pub values_broken : (l : List Ask) (f : Fault) → first_asked l ≡ Err f → first_broken (block 2 r (value_checks c l ++ cs)) ≡ Broken (fault_number f) r c
   unfolding first_asked value_checks
-  values_broken [] n e h = absurd (h (sym e))
-  values_broken (permitted true ∷ l) n e h = check_kept 2 r c 6 true (value_checks c l ++ cs) refl ∙ values_broken l n e h
-  values_broken (permitted false ∷ l) n e h = rw (← e) (check_broken 2 r c 6 false (value_checks c l ++ cs) refl)
-  values_broken (in_step true ∷ l) n e h = check_kept 2 r c 8 true (value_checks c l ++ cs) refl ∙ values_broken l n e h
-  values_broken (in_step false ∷ l) n e h = rw (← e) (check_broken 2 r c 8 false (value_checks c l ++ cs) refl)
-
--- type letters give 3 or nothing
-letters_three : (p : Bool) → (◌≡◌ {A = ℕ} (cond p 0 3) 0 → ⊥) → (cs : List Check) (r : ℕ)
-    → first_broken (block 2 r (check 1 3 (not (eqb (cond p 0 3) 3)) ∷ cs)) ≡ Broken (cond p 0 3) r 1
-letters_three true h cs r = absurd (h refl)
-letters_three false h cs r = check_broken 2 r 1 3 false cs refl
+  values_broken [] f e = let z : ◌≡◌ {A = ℕ} 0 1 = cc in absurd (omega arith)
+  values_broken (permitted true ∷ l) f e = check_kept 2 r c 6 true (value_checks c l ++ cs) refl ∙ values_broken l f e
+  values_broken (permitted false ∷ l) f e = let z : NotPermitted ≡ f = cc in rw (← z) (check_broken 2 r c 6 false (value_checks c l ++ cs) refl)
+  values_broken (in_step true ∷ l) f e = check_kept 2 r c 8 true (value_checks c l ++ cs) refl ∙ values_broken l f e
+  values_broken (in_step false ∷ l) f e = let z : OutOfStep ≡ f = cc in rw (← z) (check_broken 2 r c 8 false (value_checks c l ++ cs) refl)
 
 -- what is asked of a number of the record t, by the record's own letters
 pub asked_by : (d : Due) (t : List ℕ) {own : ℕ} → own ≡ letters_in (kind_of d) t → (i : ℕ) (ns : List ℤ) → get_or (asks_of d own ns) i [] ≡ asked_of d t i ns
@@ -102,13 +94,12 @@ module _ {d : Due} {t : List ℕ} {r : ℕ} {ns : List ℤ} {n j : ℕ} (g : Goi
     next_room : (n' : ℕ) → n' ≡ n + numbers_of f → n' + total numbers_of (drop (j + 1) (layout_of (kind_of d))) ≤ 16
     next_room n' p = omega (arith, total_split (layout_of (kind_of d)) j f e i numbers_of, g.room)
 
-  module _ (a b c : ℕ) (e : Letters a b c ≡ get_or (layout_of (kind_of d)) j End) {m : ℕ} (q : m ≡ letters_fault a b c (get_or t 0 0) (get_or t 1 0)) where
-    pub letters_broken : (m ≡ 0 → ⊥) → Broken m r 1 ≡ first_broken (block 2 r (checks_of d t))
+  module _ (a b c : ℕ) (e : Letters a b c ≡ get_or (layout_of (kind_of d)) j End) {m : Bool} (q : m ≡ letters_right a b c (get_or t 0 0) (get_or t 1 0)) where
+    pub letters_broken : m ≡ false → Broken 3 r 1 ≡ first_broken (block 2 r (checks_of d t))
     unfolding along form_checks fault_of
-    letters_broken h =
-        rw q (sym (letters_three (eqb (get_or t 0 0) a && (eqb (get_or t 1 0) b || eqb (get_or t 1 0) c)) (rw q at h) _ r)) ∙ step (Letters a b c) e refl
+    letters_broken z = sym (check_broken 2 r 1 3 _ _ (rw (← q, z))) ∙ step (Letters a b c) e refl
 
-    pub letters_next : m ≡ 0 → Going d t r ns n (j + 1)
+    pub letters_next : m ≡ true → Going d t r ns n (j + 1)
     unfolding along form_checks fault_of
     letters_next z = record {
       many = g.many;
@@ -123,55 +114,55 @@ module _ {d : Due} {t : List ℕ} {r : ℕ} {ns : List ℤ} {n j : ℕ} (g : Goi
       ≡ first_broken (block 2 r (checks_of d t))
 
   module _ (f : Field) (e : f ≡ get_or (layout_of (kind_of d)) j End) (i : is_field f ≡ true) (one : numbers_of f ≡ 1) (v : ℤ)
-      (a : Next (start_of f) v) {k : ℕ} (p : k ≡ first_asked (asked_of d t n (set ns n v))) where
-    value_broken : (k ≡ 0 → ⊥) → Broken k r (start_of f) ≡ first_broken (block 2 r (checks_of d t))
-    value_broken h = sym (values_broken r (start_of f) _ (asked_of d t n (set ns n v)) k (sym p) h) ∙ a
+      (a : Next (start_of f) v) where
+    value_broken : {x : Fault} → Err x ≡ first_asked (asked_of d t n (set ns n v)) → Broken (fault_number x) r (start_of f) ≡ first_broken (block 2 r (checks_of d t))
+    value_broken p = sym (values_broken r (start_of f) _ (asked_of d t n (set ns n v)) _ (sym p)) ∙ a
 
-    value_next : k ≡ 0 → Going d t r (set ns n v) (n + 1) (j + 1)
-    value_next h = record {
+    value_next : Ok tt ≡ first_asked (asked_of d t n (set ns n v)) → Going d t r (set ns n v) (n + 1) (j + 1)
+    value_next p = record {
       many = rw length-set g.many;
       room = next_room f e i (n + 1) (rw one);
-      answer = rw (add-one n) (sym (values_kept r (start_of f) _ (asked_of d t n (set ns n v)) (sym p ∙ h)) ∙ a);
+      answer = rw (add-one n) (sym (values_kept r (start_of f) _ (asked_of d t n (set ns n v)) (sym p)) ∙ a);
     }
 
-  module _ (c w : ℕ) (e : Number c w ≡ get_or (layout_of (kind_of d)) j End) {m : numbers.Number} (q : m ≡ number_at t c w) where
-    pub number_ill : m ≡ number.Refused → Broken 5 r c ≡ first_broken (block 2 r (checks_of d t))
+  module _ (c w : ℕ) (e : Number c w ≡ get_or (layout_of (kind_of d)) j End) {m : Option ℤ} (q : m ≡ number_at t c w) where
+    pub number_ill : m ≡ None → Broken 5 r c ≡ first_broken (block 2 r (checks_of d t))
     unfolding along form_checks fault_of
     number_ill z = sym (check_broken 2 r c 5 _ _ (rw (← q, z))) ∙ step (Number c w) e refl
 
-    module _ (v : ℤ) (z : m ≡ number.Value v) where
+    module _ (v : ℤ) (z : m ≡ Some v) where
       number_asked : Next c v
       unfolding along form_checks fault_of
       number_asked = rw (← q, z) at (sym (check_kept 2 r c 5 _ _ (rw (← q, z))) ∙ step (Number c w) e refl)
 
-      pub number_broken : {k : ℕ} → k ≡ first_asked (asked_of d t n (set ns n v)) → (k ≡ 0 → ⊥) → Broken k r c ≡ first_broken (block 2 r (checks_of d t))
-      number_broken p h = value_broken (Number c w) e refl refl v number_asked p h
+      pub number_broken : {x : Fault} → Err x ≡ first_asked (asked_of d t n (set ns n v)) → Broken (fault_number x) r c ≡ first_broken (block 2 r (checks_of d t))
+      number_broken p = value_broken (Number c w) e refl refl v number_asked p
 
-      pub number_next : {k : ℕ} → k ≡ first_asked (asked_of d t n (set ns n v)) → k ≡ 0 → Going d t r (set ns n v) (n + 1) (j + 1)
-      number_next p h = value_next (Number c w) e refl refl v number_asked p h
+      pub number_next : Ok tt ≡ first_asked (asked_of d t n (set ns n v)) → Going d t r (set ns n v) (n + 1) (j + 1)
+      number_next p = value_next (Number c w) e refl refl v number_asked p
 
-  module _ (c w : ℕ) (e : Code c w ≡ get_or (layout_of (kind_of d)) j End) {m : codes.Code} (q : m ≡ code_in t c w) where
-    pub code_ill : m ≡ code.Refused → Broken 5 r c ≡ first_broken (block 2 r (checks_of d t))
+  module _ (c w : ℕ) (e : Code c w ≡ get_or (layout_of (kind_of d)) j End) {m : Option codes.Code} (q : m ≡ code_in t c w) where
+    pub code_ill : m ≡ None → Broken 5 r c ≡ first_broken (block 2 r (checks_of d t))
     unfolding along form_checks fault_of
     code_ill z = sym (check_broken 2 r c 5 _ _ (rw (← q, z))) ∙ step (Code c w) e refl
 
-    module _ (v : ℤ) (x : ℕ) (z : m ≡ code.Value v x) where
-      code_asked : Next c v
+    module _ (k : codes.Code) (z : m ≡ Some k) where
+      code_asked : Next c k.value
       unfolding along form_checks fault_of
       code_asked = rw (← q, z) at (sym (check_kept 2 r c 5 _ _ (rw (← q, z))) ∙ step (Code c w) e refl)
 
-      pub code_broken : {k : ℕ} → k ≡ first_asked (asked_of d t n (set ns n v)) → (k ≡ 0 → ⊥) → Broken k r c ≡ first_broken (block 2 r (checks_of d t))
-      code_broken p h = value_broken (Code c w) e refl refl v code_asked p h
+      pub code_broken : {x : Fault} → Err x ≡ first_asked (asked_of d t n (set ns n k.value)) → Broken (fault_number x) r c ≡ first_broken (block 2 r (checks_of d t))
+      code_broken p = value_broken (Code c w) e refl refl k.value code_asked p
 
-      pub code_next : {k : ℕ} → k ≡ first_asked (asked_of d t n (set ns n v)) → k ≡ 0 → Going d t r (set ns n v) (n + 1) (j + 1)
-      code_next p h = value_next (Code c w) e refl refl v code_asked p h
+      pub code_next : Ok tt ≡ first_asked (asked_of d t n (set ns n k.value)) → Going d t r (set ns n k.value) (n + 1) (j + 1)
+      code_next p = value_next (Code c w) e refl refl k.value code_asked p
 
-  module _ (c w : ℕ) (e : Name c w ≡ get_or (layout_of (kind_of d)) j End) {m : texts.Text} (q : m ≡ text_at is_name t c w) where
-    pub name_ill : m ≡ text.Refused → Broken 5 r c ≡ first_broken (block 2 r (checks_of d t))
+  module _ (c w : ℕ) (e : Name c w ≡ get_or (layout_of (kind_of d)) j End) {m : Bool} (q : m ≡ text_at is_name t c w) where
+    pub name_ill : m ≡ false → Broken 5 r c ≡ first_broken (block 2 r (checks_of d t))
     unfolding along form_checks fault_of
     name_ill z = sym (check_broken 2 r c 5 _ _ (rw (← q, z))) ∙ step (Name c w) e refl
 
-    pub name_next : m ≡ text.WellFormed → Going d t r ns n (j + 1)
+    pub name_next : m ≡ true → Going d t r ns n (j + 1)
     unfolding along form_checks fault_of
     name_next z = record {
       many = g.many;
@@ -179,12 +170,12 @@ module _ {d : Due} {t : List ℕ} {r : ℕ} {ns : List ℤ} {n j : ℕ} (g : Goi
       answer = sym (check_kept 2 r c 5 _ _ (rw (← q, z))) ∙ step (Name c w) e refl;
     }
 
-  module _ (c w : ℕ) (e : Blank c w ≡ get_or (layout_of (kind_of d)) j End) {m : texts.Text} (q : m ≡ text_at is_blanks t c w) where
-    pub blank_ill : m ≡ text.Refused → Broken 5 r c ≡ first_broken (block 2 r (checks_of d t))
+  module _ (c w : ℕ) (e : Blank c w ≡ get_or (layout_of (kind_of d)) j End) {m : Bool} (q : m ≡ text_at is_blanks t c w) where
+    pub blank_ill : m ≡ false → Broken 5 r c ≡ first_broken (block 2 r (checks_of d t))
     unfolding along form_checks fault_of
     blank_ill z = sym (check_broken 2 r c 5 _ _ (rw (← q, z))) ∙ step (Blank c w) e refl
 
-    pub blank_next : m ≡ text.WellFormed → Going d t r ns n (j + 1)
+    pub blank_next : m ≡ true → Going d t r ns n (j + 1)
     unfolding along form_checks fault_of
     blank_next z = record {
       many = g.many;

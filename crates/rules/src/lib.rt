@@ -5,13 +5,12 @@
 // each number stands in `asks`, and what a permitted value is in `permitted`.
 #![tactic(auto)]
 
-ghost use Rattle.std.specs.Prelude.{◌≡◌, [], ◌≤◌, get_or};
+ghost use Rattle.std.specs.Prelude.{◌≡◌, [], ◌≤◌, get_or, Err};
 ghost use Rattle.verdict.specs.Rules.{Broken, first_broken, block};
 ghost use Rattle.asks.specs.Asks.{first_asked};
 ghost use Rattle.rules.specs.Checks.{kind_of, asks_of, checks_of};
 
-use codes::Code;
-use fields::{Number, Text};
+use asks::Fault;
 use records::{Field, Kind};
 use verdict::{Refusal, Verdict};
 
@@ -27,9 +26,8 @@ pub enum Due {
     Loop(usize, usize, usize), // how many loops were begun, the last one's line count, and its entries left
 }
 
-// What is asked of number `i` of a record with these letters, the numbers up to it being read: 0 where it
-// is kept, else 6 or 8.
-fn value_fault(due: Due, letters: u32, i: usize, ns: &[i32]) -> u32
+// What is asked of number `i` of a record with these letters, the numbers up to it being read.
+fn judge_value(due: Due, letters: u32, i: usize, ns: &[i32]) -> Result<(), Fault>
     ensures { result ≡ first_asked (get_or (asks_of due letters ns.now) i []) }
 {
     match due {
@@ -62,22 +60,19 @@ pub fn kind_of(due: Due) -> Kind
 pub fn byte_at(s: &[u8], i: usize) -> u8
     ensures { result ≡ get_or s.now i 0 }
 {
-    if i < s.len() {
-        return s[i];
-    }
-    0
+    s.get(i).copied().unwrap_or(0)
 }
 
 // A refusal at a column.
-fn broken(number: u32, row: u32, column: usize) -> Verdict
+fn refusal(number: u32, row: u32, column: usize) -> Refusal
     requires { column ≤ 73 }
-    ensures { result ≡ Broken number row column }
+    ensures { Err result ≡ Broken number row column }
 {
-    Err(Refusal {
+    Refusal {
         number,
         place: row,
         column: column as u32,
-    })
+    }
 }
 
 // Stage 2 on one record: along its layout, each field's form and then what is asked of its value. `row`
@@ -91,54 +86,44 @@ pub fn judge_record(due: Due, s: &[u8], row: u32) -> Verdict
     let mut n: usize = 0;
     let mut j: usize = 0;
     loop {
-        let f = records::field_of(kind, j);
-        match f {
-            Field::End => {
-                return Ok(());
-            }
+        match records::field_of(kind, j) {
+            Field::End => return Ok(()),
             Field::Letters(a, b, c) => {
-                let fault = records::letters_fault(a, b, c, byte_at(s, 0), byte_at(s, 1));
-                if fault != 0 {
-                    return broken(fault, row, 1);
+                if !records::letters_right(a, b, c, byte_at(s, 0), byte_at(s, 1)) {
+                    return Err(refusal(3, row, 1));
                 }
                 j += 1;
             }
             Field::Number(c, w) => {
-                let answer = numerals::read_number(s, c, w);
-                let Number::Value(v) = answer else {
-                    return broken(5, row, c);
+                let Some(v) = numerals::read_number(s, c, w) else {
+                    return Err(refusal(5, row, c));
                 };
                 numbers[n] = v;
-                let fault = value_fault(due, letters, n, &numbers);
-                if fault != 0 {
-                    return broken(fault, row, c);
+                if let Err(fault) = judge_value(due, letters, n, &numbers) {
+                    return Err(refusal(fault.number(), row, c));
                 }
                 n += 1;
                 j += 1;
             }
             Field::Name(c, w) => {
-                let answer = texts::read_name(s, c, w);
-                let Text::WellFormed = answer else {
-                    return broken(5, row, c);
-                };
+                if !texts::read_name(s, c, w) {
+                    return Err(refusal(5, row, c));
+                }
                 j += 1;
             }
             Field::Blank(c, w) => {
-                let answer = texts::read_blank(s, c, w);
-                let Text::WellFormed = answer else {
-                    return broken(5, row, c);
-                };
+                if !texts::read_blank(s, c, w) {
+                    return Err(refusal(5, row, c));
+                }
                 j += 1;
             }
             Field::Code(c, w) => {
-                let answer = records::read_code(s, c, w);
-                let Code::Value(v, _) = answer else {
-                    return broken(5, row, c);
+                let Some(code) = records::read_code(s, c, w) else {
+                    return Err(refusal(5, row, c));
                 };
-                numbers[n] = v;
-                let fault = value_fault(due, letters, n, &numbers);
-                if fault != 0 {
-                    return broken(fault, row, c);
+                numbers[n] = code.value;
+                if let Err(fault) = judge_value(due, letters, n, &numbers) {
+                    return Err(refusal(fault.number(), row, c));
                 }
                 n += 1;
                 j += 1;

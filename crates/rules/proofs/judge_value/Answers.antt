@@ -1,6 +1,6 @@
--- `rules::value_fault` meets its contract: each kind's function answers for its list. Assumes nothing.
+-- `rules::judge_value` meets its contract: each kind's function answers for its list. Assumes nothing.
 use Rattle.rules.specs.Checks.{asks_of}
-use Rattle.rules.proofs.value_fault.Goals as goal
+use Rattle.rules.proofs.judge_value.Goals as goal
 
 pub returns-in-Mesh : goal.returns-in-Mesh
 unfolding asks_of
