@@ -10,18 +10,16 @@ use lib.Dec.{eqb}
 use lib.IntN.{ℤ, pos, negsuc}
 use lib.ListN.{length, get_or}
 use borrow.Author.Tests.{eq-eqb, eqb-true}
+use Rattle.std.specs.Prelude.{Option, Some, None}
 use Rattle.fields.specs.Answer.{value_of}
 use Rattle.fields.specs.Number.{number_of, number_at, signed_of, plain_of, after_blanks}
 use Rattle.fields.specs.Place.{is_inside, bytes_at, put}
-use Rattle.fields.specs.declared.Number.TheVariants as number
-use Rattle.fields.specs.declared.Number.{Number}
 use Rattle.fields.proofs.Columns.{spell_length}
 use Rattle.fields.proofs.FieldLaws.{number_says, number_read}
 use Rattle.fields.proofs.Places.{both, bytes_length, put_inside, put_bytes, put_same}
-use Rattle.codes.specs.Code.{land_text, is_land, land_at, coded, code_at, code_refusal, code_value, code_mark}
+use Rattle.codes.specs.Code.{land_text, is_land, land_at, code, coded, code_at, code_refusal, code_value, code_mark}
 use Rattle.codes.specs.Code.{land_holds, code_holds, spell_code, CodeSays, code_fits}
 use Rattle.codes.specs.declared.Code.{Code}
-use Rattle.codes.specs.declared.Code.TheVariants.{Value, Refused}
 
 -- ---- the text of land
 
@@ -46,7 +44,7 @@ land_text_lem f h =
     five (x ∷ y ∷ z ∷ u ∷ v ∷ w ∷ f) n p q r s t = absurd (omega arith)
 
 -- and it is no number
-land_number : number_of land_text ≡ number.Refused
+land_number : number_of land_text ≡ None
 unfolding number_of signed_of plain_of after_blanks
 land_number = refl
 
@@ -56,27 +54,27 @@ land_is = refl
 
 -- ---- what a field says
 
-says_by : (s : List ℕ) (c w : ℕ) (v : ℤ) (m : ℕ) (r : Number) (land : Bool) → number_at s c w ≡ r → land_at s c w ≡ land
-    → coded r land ≡ Value v m → CodeSays s c w v m
+says_by : (s : List ℕ) (c w : ℕ) (v : ℤ) (m : ℕ) (r : Option ℤ) (land : Bool) → number_at s c w ≡ r → land_at s c w ≡ land
+    → coded r land ≡ Some (code v m) → CodeSays s c w v m
 unfolding land_at code_holds spell_code
-says_by s c w v m (number.Value u) land e l q =
-    let p : u ≡ v = cc in
-    let z : 0 ≡ m = cc in
+says_by s c w v m (Some u) land e l q =
+    let p : u ≡ v = ap code_value q in
+    let z : 0 ≡ m = ap code_mark q in
     let h = number_says s c w u e in
     rw (← p, ← z) (record { there = h.there; held = h.held; spelled = h.spelled })
-says_by s c w v m number.Refused true e l q =
-    let p : pos 0 ≡ v = cc in
-    let z : 1 ≡ m = cc in
+says_by s c w v m None true e l q =
+    let p : pos 0 ≡ v = ap code_value q in
+    let z : 1 ≡ m = ap code_mark q in
     let b = both (is_inside s c w) (is_land (bytes_at s c w)) l in
     let t = land_text_lem (bytes_at s c w) b.1 in
     let n : w ≡ 5 = sym (bytes_length s c w b.0) ∙ ap length t in
     rw (← p, ← z) (record { there = b.0; held = rw (eq-eqb w 5 n); spelled = t })
-says_by s c w v m number.Refused false e l q =
+says_by s c w v m None false e l q =
     let z : ◌≡◌ {A = ℕ} 0 1 = cc in
     absurd (omega arith)
 
 -- a value with its mark is read only where the field says it ..
-pub code_says : (s : List ℕ) (c w : ℕ) (v : ℤ) (m : ℕ) → code_at s c w ≡ Value v m → CodeSays s c w v m
+pub code_says : (s : List ℕ) (c w : ℕ) (v : ℤ) (m : ℕ) → code_at s c w ≡ Some (code v m) → CodeSays s c w v m
 unfolding code_at
 code_says s c w v m e = says_by s c w v m (number_at s c w) (land_at s c w) refl refl e
 
@@ -89,16 +87,16 @@ land_holds_lem w (negsuc n) h =
     let z : ◌≡◌ {A = ℕ} 0 1 = cc in
     absurd (omega arith)
 
-no_number : (s : List ℕ) (c w : ℕ) → is_inside s c w ≡ true → bytes_at s c w ≡ land_text → number_at s c w ≡ number.Refused
+no_number : (s : List ℕ) (c w : ℕ) → is_inside s c w ≡ true → bytes_at s c w ≡ land_text → number_at s c w ≡ None
 unfolding number_at
 no_number s c w i t = rw (i, t, land_number)
 
-pub code_read : (s : List ℕ) (c w : ℕ) (v : ℤ) (m : ℕ) → CodeSays s c w v m → code_at s c w ≡ Value v m
+pub code_read : (s : List ℕ) (c w : ℕ) (v : ℤ) (m : ℕ) → CodeSays s c w v m → code_at s c w ≡ Some (code v m)
 unfolding code_at land_at code_holds spell_code
 code_read s c w v zero h = rw (number_read s c w v (record { there = h.there; held = h.held; spelled = h.spelled }))
 code_read s c w v (suc zero) h =
     let p = land_holds_lem w v h.held in
-    let n : number_at s c w ≡ number.Refused = no_number s c w h.there h.spelled in
+    let n : number_at s c w ≡ None = no_number s c w h.there h.spelled in
     rw (n, h.there, h.spelled, land_is, p.1)
 code_read s c w v (suc (suc m)) h =
     let f = h.held in
@@ -106,7 +104,7 @@ code_read s c w v (suc (suc m)) h =
     absurd (omega arith)
 
 -- a code with a mark is 0
-pub marked_zero : (s : List ℕ) (c w : ℕ) (v : ℤ) (m : ℕ) → code_at s c w ≡ Value v (suc m) → v ≡ pos 0
+pub marked_zero : (s : List ℕ) (c w : ℕ) (v : ℤ) (m : ℕ) → code_at s c w ≡ Some (code v (suc m)) → v ≡ pos 0
 unfolding code_holds
 marked_zero s c w v zero e = (land_holds_lem w v (code_says s c w v 1 e).held).1
 marked_zero s c w v (suc m) e =
@@ -115,12 +113,12 @@ marked_zero s c w v (suc m) e =
     absurd (omega arith)
 
 -- the answer by refusal number (RULES 6.2): 0 with the value and the mark that the field says, or 5 where it says none
-answer_by : (s : List ℕ) (c w : ℕ) (r : Code) → code_at s c w ≡ r
+answer_by : (s : List ℕ) (c w : ℕ) (r : Option Code) → code_at s c w ≡ r
     → ((code_refusal r ≡ 0) × CodeSays s c w (code_value r) (code_mark r)) ⊎ ((code_refusal r ≡ 5) × ((v : ℤ) (m : ℕ) → CodeSays s c w v m → ⊥))
-answer_by s c w (Value v m) e = inl (refl, code_says s c w v m e)
-answer_by s c w Refused e = inr (refl, λ v m h. refuses (sym e ∙ code_read s c w v m h))
+answer_by s c w (Some k) e = inl (refl, code_says s c w k.value k.mark e)
+answer_by s c w None e = inr (refl, λ v m h. refuses (sym e ∙ code_read s c w v m h))
   where
-    refuses : {v : ℤ} {m : ℕ} → Refused ≡ Value v m → ⊥
+    refuses : {v : ℤ} {m : ℕ} → None ≡ Some (code v m) → ⊥
     refuses q =
         let z : ◌≡◌ {A = ℕ} 0 1 = cc in
         omega arith
@@ -132,16 +130,16 @@ code_answer s c w = answer_by s c w (code_at s c w) refl
 
 -- a value with its mark has at most one spelling
 pub code_one_spelling : (s : List ℕ) (c : ℕ) (t : List ℕ) (d w : ℕ) (v : ℤ) (m : ℕ)
-    → code_at s c w ≡ Value v m → code_at t d w ≡ Value v m → bytes_at s c w ≡ bytes_at t d w
+    → code_at s c w ≡ Some (code v m) → code_at t d w ≡ Some (code v m) → bytes_at s c w ≡ bytes_at t d w
 code_one_spelling s c t d w v m p q = (code_says s c w v m p).spelled ∙ sym (code_says t d w v m q).spelled
 
 -- ---- codes and numbers
 
 -- THE VALUE OF A CODE is what the columns say as a number, and land is 0 there too: whoever looks at values alone may read a number
-value_by : (r : Number) (land : Bool) → code_value (coded r land) ≡ value_of r
-value_by (number.Value v) land = refl
-value_by number.Refused true = refl
-value_by number.Refused false = refl
+value_by : (r : Option ℤ) (land : Bool) → code_value (coded r land) ≡ value_of r
+value_by (Some v) land = refl
+value_by None true = refl
+value_by None false = refl
 
 pub code_value_lem : (s : List ℕ) (c w : ℕ) → code_value (code_at s c w) ≡ value_of (number_at s c w)
 unfolding code_at
@@ -159,7 +157,7 @@ spell_code_length w v (suc (suc m)) h =
     absurd (omega arith)
 
 -- reading what was written gives the value and the mark
-pub code_written_read : (s : List ℕ) (c w : ℕ) (v : ℤ) (m : ℕ) → code_fits s c w v m ≡ true → code_at (put s c (spell_code w v m)) c w ≡ Value v m
+pub code_written_read : (s : List ℕ) (c w : ℕ) (v : ℤ) (m : ℕ) → code_fits s c w v m ≡ true → code_at (put s c (spell_code w v m)) c w ≡ Some (code v m)
 unfolding code_fits
 code_written_read s c w v m f =
     let b = both (is_inside s c w) (code_holds w v m) f in
@@ -168,7 +166,7 @@ code_written_read s c w v m f =
     (record { there = put_inside s c w (spell_code w v m) b.0 l; held = b.1; spelled = put_bytes s c w (spell_code w v m) b.0 l })
 
 -- writing what was read gives the bytes: it fits, and the buffer stays as it was
-pub code_read_written : (s : List ℕ) (c w : ℕ) (v : ℤ) (m : ℕ) → code_at s c w ≡ Value v m → (code_fits s c w v m ≡ true) × (put s c (spell_code w v m) ≡ s)
+pub code_read_written : (s : List ℕ) (c w : ℕ) (v : ℤ) (m : ℕ) → code_at s c w ≡ Some (code v m) → (code_fits s c w v m ≡ true) × (put s c (spell_code w v m) ≡ s)
 unfolding code_fits
 code_read_written s c w v m e =
     let h = code_says s c w v m e in

@@ -1,18 +1,16 @@
 -- A code field (RULES 3.6): a number with one more spelling, and the mark that tells the two apart. Assumes nothing.
 --   land_text            " 0000"
---   code_at s c w         the answer to the w columns of s from column c on: a value with its mark, or a refusal
+--   code v m             the value v with the mark m
+--   code_at s c w        the answer to the w columns of s from column c on: a value with its mark, or a refusal
 --   code_refusal, code_value, code_mark  what the answer stands for: 5 or 0; its value; its mark
 --   code_holds w v m     w columns hold the value v with the mark m
 --   spell_code w v m     its columns
 --   CodeSays s c w v m   the w columns of s from column c on say v with the mark m
-use Rattle.std.specs.Prelude.{◌≡◌, Bool, true, false, cond, ◌&&◌, List, [], ◌∷◌, ℕ, zero, suc, eqb, ℤ, pos, negsuc, length, get_or}
+use Rattle.std.specs.Prelude.{◌≡◌, Bool, true, false, cond, ◌&&◌, List, [], ◌∷◌, ℕ, zero, suc, eqb, ℤ, pos, negsuc, length, get_or, Option, Some, None}
 use Rattle.fields.specs.Place.{is_inside, bytes_at}
 use Rattle.fields.specs.Number.{number_at, holds}
 use Rattle.fields.specs.Spelling.{spell}
-use Rattle.fields.specs.declared.Number.{Number}
-use Rattle.fields.specs.declared.Number.TheVariants as number
 use Rattle.codes.specs.declared.Code.{Code}
-use Rattle.codes.specs.declared.Code.TheVariants.{Value, Refused}
 
 -- RULES 3.6: land as one supplier prints it: a space and four zeros
 abbrev pub land_text : List ℕ
@@ -26,26 +24,30 @@ is_land f =
 unfoldable pub land_at : List ℕ → ℕ → ℕ → Bool
 land_at s c w = is_inside s c w && is_land (bytes_at s c w)
 
--- RULES 3.6: a number has mark 0; what is no number is land, 0 with mark 1, or ill formed
-abbrev pub coded : Number → Bool → Code
-coded (number.Value v) land = Value v 0
-coded number.Refused land = cond land (Value (pos 0) 1) Refused
+-- a value with its mark
+abbrev pub code : ℤ → ℕ → Code
+code v m = record { value = v; mark = m }
 
-unfoldable pub code_at : List ℕ → ℕ → ℕ → Code
+-- RULES 3.6: a number has mark 0; what is no number is land, 0 with mark 1, or ill formed
+abbrev pub coded : Option ℤ → Bool → Option Code
+coded (Some v) land = Some (code v 0)
+coded None land = cond land (Some (code (pos 0) 1)) None
+
+unfoldable pub code_at : List ℕ → ℕ → ℕ → Option Code
 code_at s c w = coded (number_at s c w) (land_at s c w)
 
 -- RULES 3.5: an ill-formed field is refusal 5; its value and its mark are then 0
-abbrev pub code_refusal : Code → ℕ
-code_refusal (Value v m) = 0
-code_refusal Refused = 5
+abbrev pub code_refusal : Option Code → ℕ
+code_refusal (Some k) = 0
+code_refusal None = 5
 
-abbrev pub code_value : Code → ℤ
-code_value (Value v m) = v
-code_value Refused = pos 0
+abbrev pub code_value : Option Code → ℤ
+code_value (Some k) = k.value
+code_value None = pos 0
 
-abbrev pub code_mark : Code → ℕ
-code_mark (Value v m) = m
-code_mark Refused = 0
+abbrev pub code_mark : Option Code → ℕ
+code_mark (Some k) = k.mark
+code_mark None = 0
 
 -- RULES 3.6: land is 0, in five columns
 abbrev pub land_holds : ℕ → ℤ → Bool

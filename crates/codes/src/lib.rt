@@ -10,13 +10,14 @@ ghost use Rattle.std.specs.Prelude.{◌≡◌};
 ghost use Rattle.fields.specs.Answer.{Wrote};
 ghost use Rattle.codes.specs.Code.{is_land, land_at, code_at, code_fits, spell_code};
 
-use fields::{Number, Writing};
+use fields::Unfit;
 
-// The answer to a code field: its value and its mark, or refusal 5.
-#[derive(Clone, Copy)]
-pub enum Code {
-    Refused,
-    Value(i32, u32),
+// A code: its value, and its mark, which is 1 for land and else 0. The answer to a code field is an `Option`
+// with it, and none for refusal 5.
+#[derive(Clone, Copy, Debug, PartialEq, Eq)]
+pub struct Code {
+    pub value: i32,
+    pub mark: u32,
 }
 
 // Whether a whole field is a space and four zeros.
@@ -42,39 +43,38 @@ fn land_at(s: &[u8], column: usize, width: usize) -> bool
 
 // Reads the code field of `width` columns from `column` on: a number, or else land. Refused: what is
 // neither.
-pub fn read_code(s: &[u8], column: usize, width: usize) -> Code
+pub fn read_code(s: &[u8], column: usize, width: usize) -> Option<Code>
     ensures { result ≡ code_at s.now column width }
 {
-    let answer = numerals::read_number(s, column, width);
-    let Number::Value(v) = answer else {
-        if land_at(s, column, width) {
-            return Code::Value(0, 1);
-        }
-        return Code::Refused;
-    };
-    Code::Value(v, 0)
+    if let Some(value) = numerals::read_number(s, column, width) {
+        return Some(Code { value, mark: 0 });
+    }
+    if land_at(s, column, width) {
+        return Some(Code { value: 0, mark: 1 });
+    }
+    None
 }
 
 // Writes `value` into the code field of `width` columns from `column` on, spelled as `mark` says. Refused,
 // with `buf` as it was: a field that is not in `buf`, a mark that is neither 0 nor 1, and a value that the
 // field does not hold with that mark: " 0000" is 0 in five columns.
-pub fn write_code(buf: &mut [u8], column: usize, width: usize, value: i32, mark: u32) -> Writing
+pub fn write_code(buf: &mut [u8], column: usize, width: usize, value: i32, mark: u32) -> Result<(), Unfit>
     ensures { Wrote (code_fits buf.old column width value mark) buf.old column (spell_code width value mark) result buf.new }
 {
     if mark == 0 {
         return writers::write_number(buf, column, width, value);
     }
     if mark != 1 {
-        return Writing::Refused;
+        return Err(Unfit);
     }
     if width != 5 {
-        return Writing::Refused;
+        return Err(Unfit);
     }
     if value != 0 {
-        return Writing::Refused;
+        return Err(Unfit);
     }
     if !fields::inside(buf, column, width) {
-        return Writing::Refused;
+        return Err(Unfit);
     }
     let at = column - 1;
     buf[at] = 32;
@@ -82,5 +82,5 @@ pub fn write_code(buf: &mut [u8], column: usize, width: usize, value: i32, mark:
     buf[at + 2] = 48;
     buf[at + 3] = 48;
     buf[at + 4] = 48;
-    Writing::Done
+    Ok(())
 }

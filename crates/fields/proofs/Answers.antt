@@ -4,14 +4,14 @@ use mathlib.Core.List.{List}
 use mathlib.Core.Path.{◌≡◌}
 use Prim.Native.Nat.{ℕ, ◌+◌, ◌-◌}
 use lib.ListN.{take, drop}
+use Rattle.std.specs.Prelude.{None}
 use Rattle.fields.specs.Number.{number_of, number_at}
 use Rattle.fields.specs.Place.{is_inside}
-use Rattle.fields.specs.declared.Number.TheVariants.{Refused}
 use Rattle.fields.proofs.Places.{part_is}
 
 -- t is the answer to whether the field lies inside
 module _ (s : List ℕ) (c w : ℕ) {t : Bool} (e : t ≡ is_inside s c w) where
-  pub number_outside : t ≡ false → Refused ≡ number_at s c w
+  pub number_outside : t ≡ false → None ≡ number_at s c w
   unfolding number_at
   number_outside n = rw (← e, n)
 

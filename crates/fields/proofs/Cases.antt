@@ -3,10 +3,9 @@
 use mathlib.Core.List.{List, [], ◌∷◌, map}
 use mathlib.Core.Path.{◌≡◌, refl}
 use Prim.Native.Nat.{ℕ}
-use lib.IntN.{pos, negsuc}
+use lib.IntN.{ℤ, pos, negsuc}
+use Rattle.std.specs.Prelude.{Option, Some, None}
 use Rattle.fields.specs.Number.{number_of, signed_of, plain_of, digits_of, after_blanks}
-use Rattle.fields.specs.declared.Number.TheVariants.{Value, Refused}
-use Rattle.fields.specs.declared.Number.{Number}
 
 unfoldable pub cases : List (List ℕ)
 cases =
@@ -21,9 +20,9 @@ cases =
     ∷ []
 
 -- RULES 11.2: "   -1" is -1; "00001", "   -0" and five spaces are 5. Beside it: "0" and "9" are 0 and 9, "-" is 5, "-9" is -9
-unfoldable pub answers : List Number
+unfoldable pub answers : List (Option ℤ)
 answers =
-    Value (negsuc 0) ∷ Refused ∷ Refused ∷ Refused ∷ Value (pos 0) ∷ Value (pos 9) ∷ Refused ∷ Value (negsuc 8) ∷ []
+    Some (negsuc 0) ∷ None ∷ None ∷ None ∷ Some (pos 0) ∷ Some (pos 9) ∷ None ∷ Some (negsuc 8) ∷ []
 
 pub worked : map number_of cases ≡ answers
 unfolding cases answers number_of signed_of plain_of digits_of after_blanks

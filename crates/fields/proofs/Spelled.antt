@@ -9,16 +9,15 @@ use native.Mathlib.Omega.{arith}
 use lib.Dec.{leb}
 use lib.IntN.{ℤ, pos, negsuc}
 use borrow.Author.Tests.{ne_eqb, le-leb, leb-true, leb-false}
+use Rattle.std.specs.Prelude.{Option, Some}
 use Rattle.fields.specs.Number.{after_blanks, digits_of, plain_of, minus, signed_of, number_of, holds}
 use Rattle.fields.specs.Spelling.{columns, spell}
 use Rattle.fields.specs.declared.Left.TheVariants.{Blanks, Minus, Digits}
-use Rattle.fields.specs.declared.Number.TheVariants.{Value}
-use Rattle.fields.specs.declared.Number.{Number}
 use Rattle.fields.proofs.Columns.{columns_suc, spell_length}
 use Rattle.fields.proofs.Range.{holds_width, holds_size, holds_minus}
 
 -- what a field says, whatever its width
-abbrev said : List ℕ → Number
+abbrev said : List ℕ → Option ℤ
 said f = signed_of (after_blanks f)
 
 past_blanks : (w : ℕ) (ys : List ℕ) → after_blanks (columns w Blanks ++ ys) ≡ after_blanks ys
@@ -57,7 +56,7 @@ unfolding signed_of after_blanks
 minus_first ys = refl
 
 -- a number with its sign, where m says whether it has one, and how many columns it takes with e digits
-abbrev pub signed : Bool → Number → Number
+abbrev pub signed : Bool → Option ℤ → Option ℤ
 signed m r = cond m (minus r) r
 
 abbrev wide : Bool → ℕ → ℕ
@@ -96,15 +95,15 @@ spelled m (suc e) n p h ys =
     (spelled_by m e n p h ys (λ k a b zs. spelled m e k a b zs) (leb 10 n) refl)
 
 -- with nothing behind them
-spelled_whole : (m : Bool) (e n : ℕ) → 0 < n → n < 10 ^ e → said (columns (wide m e) (Digits n m)) ≡ signed m (Value (pos n))
+spelled_whole : (m : Bool) (e n : ℕ) → 0 < n → n < 10 ^ e → said (columns (wide m e) (Digits n m)) ≡ signed m (Some (pos n))
 unfolding digits_of
 spelled_whole m e n p h = rw (← append-nil (columns (wide m e) (Digits n m))) (spelled m e n p h [])
 
-zero_read : (w : ℕ) → said (columns (suc w) (Digits 0 false)) ≡ Value (pos 0)
+zero_read : (w : ℕ) → said (columns (suc w) (Digits 0 false)) ≡ Some (pos 0)
 unfolding columns after_blanks signed_of plain_of
 zero_read w = ap signed_of (past_blanks w (48 ∷ []))
 
-said_spelled : (w : ℕ) (v : ℤ) → holds (suc w) v ≡ true → said (spell (suc w) v) ≡ Value v
+said_spelled : (w : ℕ) (v : ℤ) → holds (suc w) v ≡ true → said (spell (suc w) v) ≡ Some v
 unfolding spell
 said_spelled w (pos zero) h = zero_read w
 said_spelled w (pos (suc n)) h = spelled_whole false (suc w) (suc n) (omega arith) (holds_size (suc w) (suc n) h)
@@ -112,7 +111,7 @@ said_spelled w (negsuc n) h =
     let e : suc w - 1 ≡ w = omega arith in
     spelled_whole true w (suc n) (omega arith) (rw e at (holds_minus (suc w) n h))
 
-pub read_spelled : (w : ℕ) (v : ℤ) → holds w v ≡ true → number_of (spell w v) ≡ Value v
+pub read_spelled : (w : ℕ) (v : ℤ) → holds w v ≡ true → number_of (spell w v) ≡ Some v
 unfolding number_of
 read_spelled zero v h = absurd (omega (arith, (holds_width zero v h).0))
 read_spelled (suc w) v h =

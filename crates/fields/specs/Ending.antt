@@ -1,15 +1,14 @@
 -- What the reader's own steps say of a field that they go through from the right. It serves the code and is no part of a promise.
 -- Assumes nothing.
-use Rattle.std.specs.Prelude.{◌≡◌, false, List, ℕ, ◌+◌, ◌-◌, ◌*◌, ◌^◌, ◌<◌, ◌≤◌, pos, length, get_or, drop}
+use Rattle.std.specs.Prelude.{◌≡◌, false, List, ℕ, ◌+◌, ◌-◌, ◌*◌, ◌^◌, ◌<◌, ◌≤◌, pos, length, get_or, drop, Some}
 use Rattle.fields.specs.Number.{is_digit, digits_of}
-use Rattle.fields.specs.declared.Number.TheVariants.{Value}
 
 -- from index i on f has digits alone, and they say n
 pub record DigitsFrom (f : List ℕ) (i n : ℕ) : Type 0 where
   pub inside : i ≤ length f
   pub start : i < length f → 48 ≤ get_or f i 0
   pub small : n < 10 ^ (length f - i)
-  pub said : (a : ℕ) → digits_of a (drop i f) ≡ Value (pos (a * 10 ^ (length f - i) + n))
+  pub said : (a : ℕ) → digits_of a (drop i f) ≡ Some (pos (a * 10 ^ (length f - i) + n))
 
 -- and no digit stands before them
 pub record EndsIn (f : List ℕ) (i n : ℕ) : Type 0 where

@@ -1,11 +1,9 @@
 -- The other fields (RULES 3.3, 3.4): a name is two-byte characters of Shift JIS, a blank is spaces. Assumes nothing.
 --   is_name f        the bytes f are two-byte characters
 --   is_blanks f      the bytes f are spaces
---   text_at p s c w  the answer to the w columns of s from column c on, where p says what is well formed
+--   text_at p s c w  whether the w columns of s from column c on are well formed, as p says
 use Rattle.std.specs.Prelude.{Bool, true, false, cond, ◌&&◌, ◌||◌, List, [], ◌∷◌, ℕ, leb, eqb}
 use Rattle.fields.specs.Place.{is_inside, bytes_at}
-use Rattle.fields.specs.declared.Text.{Text}
-use Rattle.fields.specs.declared.Text.TheVariants.{WellFormed, Refused}
 
 abbrev pub byte_within : ℕ → ℕ → ℕ → Bool
 byte_within low high b = leb low b && leb b high
@@ -25,5 +23,5 @@ unfoldable pub is_blanks : List ℕ → Bool
 is_blanks [] = true
 is_blanks (b ∷ bs) = cond (eqb b 32) (is_blanks bs) false
 
-unfoldable pub text_at : (List ℕ → Bool) → List ℕ → ℕ → ℕ → Text
-text_at p s c w = cond (is_inside s c w && p (bytes_at s c w)) WellFormed Refused
+unfoldable pub text_at : (List ℕ → Bool) → List ℕ → ℕ → ℕ → Bool
+text_at p s c w = is_inside s c w && p (bytes_at s c w)

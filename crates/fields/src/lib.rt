@@ -2,6 +2,9 @@
 // stands in, its first column, counted from 1, and its width. Every function takes every buffer,
 // column and width.
 //
+// The answer to a number field is an `Option`: its value, or none for refusal 5. The answer to a name or a
+// blank field is a `bool`: whether it is well formed, and refusal 5 if not.
+//
 // `specs/` has the definitions: `Number` and `Spelling` say what a number field is, `Text` what the
 // other two are, `Answer` which refusal number an answer stands for. `proofs/FieldLaws` has the laws.
 //
@@ -12,29 +15,11 @@
 #![tactic(auto)]
 
 ghost use Rattle.std.specs.Prelude.{◌≡◌};
-ghost use Rattle.fields.specs.Number.{is_digit};
 ghost use Rattle.fields.specs.Place.{is_inside};
 
-// The answer to a number field: its value, or refusal 5.
-#[derive(Clone, Copy)]
-pub enum Number {
-    Refused,
-    Value(i32),
-}
-
-// The answer to a name or a blank field: well formed, or refusal 5. Its value is its bytes.
-#[derive(Clone, Copy)]
-pub enum Text {
-    Refused,
-    WellFormed,
-}
-
-// A writer's answer: written, or refusal 20 with the buffer as it was.
-#[derive(Clone, Copy)]
-pub enum Writing {
-    Refused,
-    Done,
-}
+// Refusal 20: what does not fit, with the buffer as it was. A writer's answer is a `Result` with it.
+#[derive(Clone, Copy, Debug, PartialEq, Eq)]
+pub struct Unfit;
 
 // What is still to be written, column by column from the right: a number's digits and then its
 // minus sign, if it has one; the minus sign alone; or spaces.
@@ -59,18 +44,4 @@ pub fn inside(s: &[u8], column: usize, width: usize) -> bool
         return false;
     }
     true
-}
-
-// Whether a byte is a digit.
-pub fn digit(b: u8) -> bool
-    ensures { result ≡ is_digit b }
-{
-    (b'0' <= b) & (b <= b'9')
-}
-
-// A digit's byte as a number.
-pub fn wide(b: u8) -> u32
-    ensures { result ≡ b }
-{
-    b as u32
 }

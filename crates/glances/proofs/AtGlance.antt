@@ -7,49 +7,46 @@ use Prim.Native.Nat.{ℕ, zero, suc, ◌+◌, ◌-◌, ◌*◌, ◌^◌, ◌≤�
 use native.Mathlib.Nat.{sub_self, pow-suc, add-mul, mul_assoc, mul_comm, pow-le-pow_right}
 use native.Mathlib.Omega.{arith}
 use lib.Dec.{leb, ltb, eqb, lit<, lit≤}
-use lib.IntN.{pos, negsuc}
+use lib.IntN.{ℤ, pos, negsuc}
 use lib.ListN.{length, get_or, take, drop, replicate, length-append, length-replicate, length-drop, drop_of_length-le}
 use lib.Seq.{drop-cons}
 use borrow.Author.Tests.{ltb-true, ltb-false, lt-ltb, le-ltb, le-leb, leb-true, leb-false, eqb-true, eqb-false, eq-eqb, ne_eqb, not-false}
+use Rattle.std.specs.Prelude.{Option, Some, None}
 use Rattle.fields.specs.Answer.{value_of}
 use Rattle.fields.specs.Ending.{DigitsFrom, EndsIn, Plain}
 use Rattle.glances.specs.Glimpse.{glimpse_of, is_lone_zero}
 use Rattle.fields.specs.Number.{is_digit, is_minus, is_width, number_of, signed_of, plain_of, zero_then, digits_of, minus, after_blanks}
 use Rattle.fields.specs.Text.{is_blanks}
-use Rattle.glances.specs.declared.Glance.{Glance}
-use Rattle.glances.specs.declared.Glance.TheVariants.{Unsure, Sure}
-use Rattle.fields.specs.declared.Number.{Number}
-use Rattle.fields.specs.declared.Number.TheVariants.{Value, Refused}
 use Rattle.fields.proofs.FromRight.{digits_none, digits_more, too_wide, taken, taken_plain, taken_minus}
 use Rattle.fields.proofs.FromRight.{refused_endless, refused_zero, refused_minus, refused_other}
 use Rattle.fields.proofs.Places.{both}
 
-not_sure : {X : Type 0} {v : ℕ} → Unsure ≡ Sure v → X
+not_sure : {X : Type 0} {v : ℕ} → None ≡ Some v → X
 not_sure e =
     let z : ◌≡◌ {A = ℕ} 0 1 = cc in
     absurd (omega arith)
 
 -- what a sure glance says of the answer n
-sure_by : {v : ℕ} (n : Number) → glimpse_of n ≡ Sure v → (n ≡ Value (pos v)) × (v < 100000)
-sure_by {v} (Value (pos m)) e = by (ltb m 100000) refl e
+sure_by : {v : ℕ} (n : Option ℤ) → glimpse_of n ≡ Some v → (n ≡ Some (pos v)) × (v < 100000)
+sure_by {v} (Some (pos m)) e = by (ltb m 100000) refl e
   where
-    by : (t : Bool) → ltb m 100000 ≡ t → cond t (Sure m) Unsure ≡ Sure v → (Value (pos m) ≡ Value (pos v)) × (v < 100000)
+    by : (t : Bool) → ltb m 100000 ≡ t → cond t (Some m) None ≡ Some v → (Some (pos m) ≡ Some (pos v)) × (v < 100000)
     by true l e =
         let q : m ≡ v = cc in
         let s : m < 100000 = ltb-true _ _ l in
         (rw q, rw q at s)
     by false l e = not_sure e
-sure_by (Value (negsuc m)) e = not_sure e
-sure_by Refused e = not_sure e
+sure_by (Some (negsuc m)) e = not_sure e
+sure_by None e = not_sure e
 
-pub sure_says : {n : Number} {v : ℕ} (g : Glance) → g ≡ Sure v → g ≡ glimpse_of n → (n ≡ Value (pos v)) × (v < 100000)
+pub sure_says : {n : Option ℤ} {v : ℕ} (g : Option ℕ) → g ≡ Some v → g ≡ glimpse_of n → (n ≡ Some (pos v)) × (v < 100000)
 sure_says {n} g e h = sure_by n (sym h ∙ e)
 
 -- and an unsure one
-pub unsure_says : {n : Number} {v : ℕ} (g : Glance) → g ≡ Unsure → g ≡ glimpse_of n → n ≡ Value (pos v) → 100000 ≤ v
+pub unsure_says : {n : Option ℤ} {v : ℕ} (g : Option ℕ) → g ≡ None → g ≡ glimpse_of n → n ≡ Some (pos v) → 100000 ≤ v
 unsure_says {n} {v} g e h q = by (ltb v 100000) refl (sym (ap glimpse_of q) ∙ sym h ∙ e)
   where
-    by : (t : Bool) → ltb v 100000 ≡ t → cond t (Sure v) Unsure ≡ Unsure → 100000 ≤ v
+    by : (t : Bool) → ltb v 100000 ≡ t → cond t (Some v) None ≡ None → 100000 ≤ v
     by true l e = not_sure (sym e)
     by false l e = ltb-false _ _ l
 
@@ -85,15 +82,15 @@ next_digit f i n u p e s h = (digits_more f i n u p e s h.low h.high).0
 
 -- ---- what the digits at the end of a field say at a glance
 
-glimpse_small : (n : ℕ) → n < 100000 → glimpse_of (Value (pos n)) ≡ Sure n
+glimpse_small : (n : ℕ) → n < 100000 → glimpse_of (Some (pos n)) ≡ Some n
 glimpse_small n l = rw (lt-ltb _ _ l)
 
 -- nothing, where a "-" stands before them
-glimpse_minus : (x : Number) → glimpse_of (minus x) ≡ Unsure
-glimpse_minus (Value (pos zero)) = refl
-glimpse_minus (Value (pos (suc n))) = refl
-glimpse_minus (Value (negsuc n)) = refl
-glimpse_minus Refused = refl
+glimpse_minus : (x : Option ℤ) → glimpse_of (minus x) ≡ None
+glimpse_minus (Some (pos zero)) = refl
+glimpse_minus (Some (pos (suc n))) = refl
+glimpse_minus (Some (negsuc n)) = refl
+glimpse_minus None = refl
 
 some_before : (f : List ℕ) (i : ℕ) → is_blanks (take i f) ≡ false → 0 < i
 unfolding is_blanks
@@ -105,12 +102,12 @@ some_before f (suc i) e = omega arith
 module _ {f : List ℕ} {i n : ℕ} (g : Plain f i n) where
   -- nothing too, where anything but spaces does
   glimpse_behind : (p : 0 < i) → is_blanks (take i f) ≡ false → (t b : Bool) → eqb (get_or f (i - 1) 0) 45 ≡ t → is_blanks (take (i - 1) f) ≡ b
-      → glimpse_of (number_of f) ≡ Unsure
-  glimpse_behind p s true true t b = ap glimpse_of (taken_minus g p (eqb-true _ _ t) b) ∙ glimpse_minus (Value (pos n))
+      → glimpse_of (number_of f) ≡ None
+  glimpse_behind p s true true t b = ap glimpse_of (taken_minus g p (eqb-true _ _ t) b) ∙ glimpse_minus (Some (pos n))
   glimpse_behind p s true false t b = ap glimpse_of (refused_minus g p b)
   glimpse_behind p s false _ t b = ap glimpse_of (refused_other g p (eqb-false _ _ t) s)
 
-  glimpse_plain : length f ≤ 5 → (b : Bool) → is_blanks (take i f) ≡ b → cond b (Sure n) Unsure ≡ glimpse_of (number_of f)
+  glimpse_plain : length f ≤ 5 → (b : Bool) → is_blanks (take i f) ≡ b → cond b (Some n) None ≡ glimpse_of (number_of f)
   glimpse_plain w true b =
       let u : 10 ^ (length f - i) ≤ 10 ^ 5 = pow-le-pow_right (lit< tt) {i = length f - i} {j = 5} (omega arith) in
       sym (ap glimpse_of (taken_plain g b) ∙ glimpse_small n (omega (arith, g.ends.digits.small)))
@@ -122,17 +119,17 @@ is_sure f i = (eqb (i + 1) (length f) || not (eqb (get_or f i 0) 48)) && is_blan
 
 module _ {f : List ℕ} {i n : ℕ} (e : EndsIn f i n) (l : i < length f) (w : length f ≤ 5) where
   glimpse_by : (a z : Bool) → eqb (i + 1) (length f) ≡ a → eqb (get_or f i 0) 48 ≡ z
-      → cond ((a || not z) && is_blanks (take i f)) (Sure n) Unsure ≡ glimpse_of (number_of f)
+      → cond ((a || not z) && is_blanks (take i f)) (Some n) None ≡ glimpse_of (number_of f)
   glimpse_by true z a q = glimpse_plain (record { ends = e; some = l; narrow = omega arith; alone = λ _. eqb-true _ _ a }) w (is_blanks (take i f)) refl
   glimpse_by false false a q =
       glimpse_plain (record { ends = e; some = l; narrow = omega arith; alone = λ y. absurd (eqb-false _ _ q y) }) w (is_blanks (take i f)) refl
   glimpse_by false true a q = sym (ap glimpse_of (refused_zero e l (eqb-true _ _ q) (eqb-false _ _ a)))
 
-  pub glimpse : (t : Bool) → t ≡ is_sure f i → cond t (Sure n) Unsure ≡ glimpse_of (number_of f)
+  pub glimpse : (t : Bool) → t ≡ is_sure f i → cond t (Some n) None ≡ glimpse_of (number_of f)
   glimpse t q = rw q (glimpse_by (eqb (i + 1) (length f)) (eqb (get_or f i 0) 48) refl refl)
 
 -- no digit at the end
-pub glimpse_endless : (a b c d e : ℕ) → is_digit e ≡ false → Unsure ≡ glimpse_of (number_of (bytes a b c d e))
+pub glimpse_endless : (a b c d e : ℕ) → is_digit e ≡ false → None ≡ glimpse_of (number_of (bytes a b c d e))
 glimpse_endless a b c d e h =
     let g : EndsIn (bytes a b c d e) 5 0 = record { digits = digits_none (bytes a b c d e); all = λ q. h } in
     sym (ap glimpse_of (refused_endless g (lit≤ tt)))
@@ -159,23 +156,23 @@ two_tests false q s = sym (and-false s)
 -- each place where the digits of five bytes may begin, with the code's test
 module _ {a b c d e n : ℕ} where
   pub from_4 : EndsIn (bytes a b c d e) 4 n → (t : Bool) → ((eqb a 32 && eqb b 32) && eqb c 32) && eqb d 32 ≡ t
-      → cond t (Sure n) Unsure ≡ glimpse_of (number_of (bytes a b c d e))
+      → cond t (Some n) None ≡ glimpse_of (number_of (bytes a b c d e))
   unfolding is_blanks
   from_4 g t q = glimpse g (lit< tt) (lit≤ tt) t (sym q ∙ four_tests (eqb a 32) (eqb b 32) (eqb c 32) (eqb d 32))
 
   pub from_3 : EndsIn (bytes a b c d e) 3 n → (t : Bool) → ((eqb a 32 && eqb b 32) && eqb c 32) && not (eqb d 48) ≡ t
-      → cond t (Sure n) Unsure ≡ glimpse_of (number_of (bytes a b c d e))
+      → cond t (Some n) None ≡ glimpse_of (number_of (bytes a b c d e))
   unfolding is_blanks
   from_3 g t q = glimpse g (lit< tt) (lit≤ tt) t (sym q ∙ three_tests (eqb a 32) (eqb b 32) (eqb c 32) (not (eqb d 48)))
 
   pub from_2 : EndsIn (bytes a b c d e) 2 n → (t : Bool) → (eqb a 32 && eqb b 32) && not (eqb c 48) ≡ t
-      → cond t (Sure n) Unsure ≡ glimpse_of (number_of (bytes a b c d e))
+      → cond t (Some n) None ≡ glimpse_of (number_of (bytes a b c d e))
   unfolding is_blanks
   from_2 g t q = glimpse g (lit< tt) (lit≤ tt) t (sym q ∙ two_tests (eqb a 32) (eqb b 32) (not (eqb c 48)))
 
   -- a digit b behind a byte a that is none
   from_1_by : EndsIn (bytes a b c d e) 1 n → (s z : Bool) → eqb a 32 ≡ s → eqb b 48 ≡ z
-      → cond (not z && s) (Sure n) Unsure ≡ glimpse_of (number_of (bytes a b c d e))
+      → cond (not z && s) (Some n) None ≡ glimpse_of (number_of (bytes a b c d e))
   unfolding is_blanks
   from_1_by g s z p q = glimpse g (lit< tt) (lit≤ tt) (not z && s) (rw (p, q) (ap (λ x. not z && x) (same s)))
     where
@@ -183,11 +180,11 @@ module _ {a b c d e n : ℕ} where
       same true = refl
       same false = refl
 
-  pub from_1 : DigitsFrom (bytes a b c d e) 1 n → a ≡ 32 → (z : Bool) → eqb b 48 ≡ z → cond (not z) (Sure n) Unsure ≡ glimpse_of (number_of (bytes a b c d e))
+  pub from_1 : DigitsFrom (bytes a b c d e) 1 n → a ≡ 32 → (z : Bool) → eqb b 48 ≡ z → cond (not z) (Some n) None ≡ glimpse_of (number_of (bytes a b c d e))
   from_1 s p z q = rw and-true at (from_1_by (record { digits = s; all = λ y. rw p }) true z (eq-eqb _ _ p) q)
 
   pub from_0 : DigitsFrom (bytes a b c d e) 1 n → Digit a → (z : Bool) → eqb a 48 ≡ z
-      → cond (not z) (Sure (n + (a - 48) * 10000)) Unsure ≡ glimpse_of (number_of (bytes a b c d e))
+      → cond (not z) (Some (n + (a - 48) * 10000)) None ≡ glimpse_of (number_of (bytes a b c d e))
   unfolding is_blanks
   from_0 s h z q =
       let g : EndsIn (bytes a b c d e) 0 (n + (a - 48) * 10000) = record {
@@ -198,7 +195,7 @@ module _ {a b c d e n : ℕ} where
 
   -- neither a space nor a first digit stands before the other four; r is whether it is a digit
   pub from_none : DigitsFrom (bytes a b c d e) 1 n → (a ≡ 32 → ⊥) → (r : Bool) → r ≡ is_digit a → r && not (eqb a 48) ≡ false
-      → Unsure ≡ glimpse_of (number_of (bytes a b c d e))
+      → None ≡ glimpse_of (number_of (bytes a b c d e))
   from_none s p true r h = from_0 s (is_digit_lem a (sym r)) true (not-false _ h)
   from_none s p false r h = rw and-false at (from_1_by (record { digits = s; all = λ q. sym r }) false (eqb b 48) (ne_eqb _ _ p) refl)
 
@@ -246,7 +243,7 @@ long_is f w b =
 -- ---- a field of six bytes, none of them a space
 
 -- digits behind a, which say at least what a is worth there
-glimpse_large : (ds : List ℕ) (a : ℕ) → 100000 ≤ a * 10 ^ length ds → glimpse_of (digits_of a ds) ≡ Unsure
+glimpse_large : (ds : List ℕ) (a : ℕ) → 100000 ≤ a * 10 ^ length ds → glimpse_of (digits_of a ds) ≡ None
 unfolding digits_of
 glimpse_large [] a h = rw (le-ltb a 100000 (omega arith))
 glimpse_large (b ∷ ds) a h = by (is_digit b) (glimpse_large ds (a * 10 + (b - 48)) (omega (arith, more)))
@@ -254,12 +251,12 @@ glimpse_large (b ∷ ds) a h = by (is_digit b) (glimpse_large ds (a * 10 + (b - 
     more : a * 10 ^ suc (length ds) ≤ (a * 10 + (b - 48)) * 10 ^ length ds
     more = rw (pow-suc, add-mul, mul_assoc, mul_comm 10 (10 ^ length ds)) (omega arith)
 
-    by : (t : Bool) → glimpse_of (digits_of (a * 10 + (b - 48)) ds) ≡ Unsure → glimpse_of (cond t (digits_of (a * 10 + (b - 48)) ds) Refused) ≡ Unsure
+    by : (t : Bool) → glimpse_of (digits_of (a * 10 + (b - 48)) ds) ≡ None → glimpse_of (cond t (digits_of (a * 10 + (b - 48)) ds) None) ≡ None
     by true k = k
     by false k = refl
 
 six_digits : (b : ℕ) (bs : List ℕ) → length bs ≡ 5 → (b ≡ 48 → ⊥) → (t : Bool) → is_digit b ≡ t
-    → glimpse_of (cond t (digits_of (0 * 10 + (b - 48)) bs) Refused) ≡ Unsure
+    → glimpse_of (cond t (digits_of (0 * 10 + (b - 48)) bs) None) ≡ None
 six_digits b bs w z true t =
     let d = is_digit_lem b t in
     let p : 1 ≤ b - 48 = omega (arith, d.low) in
@@ -268,25 +265,25 @@ six_digits b bs w z false t = refl
 
 -- by the first of them: "-", "0" or another
 six_by : (b : ℕ) (bs : List ℕ) → length bs ≡ 5 → (m z : Bool) → eqb b 48 ≡ z
-    → glimpse_of (cond m (minus (plain_of bs)) (cond z (zero_then bs) (digits_of 0 (b ∷ bs)))) ≡ Unsure
+    → glimpse_of (cond m (minus (plain_of bs)) (cond z (zero_then bs) (digits_of 0 (b ∷ bs)))) ≡ None
 unfolding digits_of
 six_by b bs w true z q = glimpse_minus (plain_of bs)
 six_by b bs w false false q = six_digits b bs w (eqb-false _ _ q) (is_digit b) refl
 six_by b (x ∷ bs) w false true q = refl
 six_by b [] w false true q = absurd (omega arith)
 
-six_first : (b : ℕ) (bs : List ℕ) → length bs ≡ 5 → (b ≡ 32 → ⊥) → glimpse_of (signed_of (after_blanks (b ∷ bs))) ≡ Unsure
+six_first : (b : ℕ) (bs : List ℕ) → length bs ≡ 5 → (b ≡ 32 → ⊥) → glimpse_of (signed_of (after_blanks (b ∷ bs))) ≡ None
 unfolding signed_of after_blanks plain_of
 six_first b bs w n =
     let e : after_blanks (b ∷ bs) ≡ b ∷ bs = rw (ne_eqb _ _ n) in
     ap (λ f. glimpse_of (signed_of f)) e ∙ (six_by b bs w (is_minus b) (eqb b 48) refl)
 
-pub glimpse_six : (f : List ℕ) → length f ≡ 6 → (get_or f 0 0 ≡ 32 → ⊥) → Unsure ≡ glimpse_of (number_of f)
+pub glimpse_six : (f : List ℕ) → length f ≡ 6 → (get_or f 0 0 ≡ 32 → ⊥) → None ≡ glimpse_of (number_of f)
 glimpse_six [] w n = absurd (omega arith)
 glimpse_six (b ∷ bs) w n = sym (ap glimpse_of (taken (b ∷ bs) (omega arith) (omega arith)) ∙ six_first b bs (omega arith) n)
 
 -- a field without a byte, or of more than six
-pub glimpse_other : (f : List ℕ) → is_width (length f) ≡ false → Unsure ≡ glimpse_of (number_of f)
+pub glimpse_other : (f : List ℕ) → is_width (length f) ≡ false → None ≡ glimpse_of (number_of f)
 unfolding number_of
 glimpse_other f n = rw n
 

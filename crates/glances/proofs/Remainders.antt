@@ -10,12 +10,12 @@ use lib.Dec.{leb, lit≤}
 use lib.IntN.{pos}
 use lib.ListN.{length, get_or, take, drop}
 use borrow.Author.Tests.{leb-true, leb-false}
+use Rattle.std.specs.Prelude.{Some}
 use Rattle.glances.specs.Glimpse.{remainders, remainders_at}
 use Rattle.fields.specs.Number.{number_at}
 use Rattle.fields.specs.Place.{is_inside, bytes_at}
 use Rattle.fields.specs.Spelling.{rest_of, columns, spell}
 use Rattle.fields.specs.declared.Left.TheVariants.{Blanks, Digits}
-use Rattle.fields.specs.declared.Number.TheVariants.{Value}
 use Rattle.glances.proofs.AtGlance.{entries, entries_are}
 use Rattle.fields.proofs.FieldLaws.{number_says}
 use Rattle.fields.proofs.Places.{part_is, bytes_length}
@@ -69,7 +69,7 @@ module _ (s : List ℕ) (c w : ℕ) where
   no_sum i = rw i
 
   -- A FIELD THAT SAYS A NUMBER FROM 0 ON HAS IT AS ITS SUM
-  pub sum_said : (n : ℕ) → number_at s c w ≡ Value (pos n) → remainders_at s c w ≡ n
+  pub sum_said : (n : ℕ) → number_at s c w ≡ Some (pos n) → remainders_at s c w ≡ n
   unfolding remainders_at spell
   sum_said n e =
       let h = number_says s c w (pos n) e in

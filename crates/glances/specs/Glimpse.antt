@@ -1,18 +1,14 @@
 -- What a glance at a field says of the answer to it: the value, where that is one from 0 to 99999, and else nothing; a sum that is the
 -- value of a field that is known to be well formed; and the end of a field that says 0. It serves the code's speed and is no part of a
 -- promise. Assumes nothing.
-use Rattle.std.specs.Prelude.{Bool, cond, ◌&&◌, List, [], ◌∷◌, ℕ, ◌+◌, ◌-◌, ◌*◌, ◌%◌, ltb, leb, eqb, pos, negsuc, length, get_or}
+use Rattle.std.specs.Prelude.{Bool, cond, ◌&&◌, List, [], ◌∷◌, ℕ, ◌+◌, ◌-◌, ◌*◌, ◌%◌, ltb, leb, eqb, ℤ, pos, negsuc, length, get_or, Option, Some, None}
 use Rattle.fields.specs.Place.{is_inside, bytes_at}
-use Rattle.fields.specs.declared.Number.{Number}
-use Rattle.fields.specs.declared.Number.TheVariants.{Value, Refused}
-use Rattle.glances.specs.declared.Glance.{Glance}
-use Rattle.glances.specs.declared.Glance.TheVariants.{Unsure, Sure}
 
 -- a glance is sure of the numbers from 0 to 99999, and of nothing else
-abbrev pub glimpse_of : Number → Glance
-glimpse_of (Value (pos v)) = cond (ltb v 100000) (Sure v) Unsure
-glimpse_of (Value (negsuc v)) = Unsure
-glimpse_of Refused = Unsure
+abbrev pub glimpse_of : Option ℤ → Option ℕ
+glimpse_of (Some (pos v)) = cond (ltb v 100000) (Some v) None
+glimpse_of (Some (negsuc v)) = None
+glimpse_of None = None
 
 -- the remainders by 16 of a field's bytes, added up at the powers of ten; those before came to n
 unfoldable pub remainders : ℕ → List ℕ → ℕ

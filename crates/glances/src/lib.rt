@@ -7,69 +7,55 @@
 #![tactic(auto)]
 
 ghost use Rattle.std.specs.Prelude.{◌≡◌, [], ◌∷◌, length};
-ghost use Rattle.fields.specs.Number.{is_digit, number_of, number_at};
+ghost use Rattle.fields.specs.Number.{number_of, number_at};
 ghost use Rattle.glances.specs.Glimpse.{glimpse_of, remainders, remainders_at, is_lone_zero};
-
-// What a field says at a glance: a number, or nothing.
-#[derive(Clone, Copy)]
-pub enum Glance {
-    Unsure,
-    Sure(u32),
-}
-
-// Whether a byte is a digit.
-fn digit(b: u8) -> bool
-    ensures { result ≡ is_digit b }
-{
-    (48 <= b) & (b <= 57)
-}
 
 // The number that five bytes say where they are spaces and then digits without a leading zero, as
 // nearly every field of width 5 is. It is unsure of everything else, and that says no number from 0 to
 // 99999.
-fn glance_at(a: u8, b: u8, c: u8, d: u8, e: u8) -> Glance
+fn glance_at(a: u8, b: u8, c: u8, d: u8, e: u8) -> Option<u32>
     ensures { result ≡ glimpse_of (number_of (a ∷ b ∷ c ∷ d ∷ e ∷ [])) }
 {
-    if !digit(e) {
-        return Glance::Unsure;
+    if !e.is_ascii_digit() {
+        return None;
     }
-    let one = fields::wide(e - 48);
-    if !digit(d) {
+    let one = u32::from(e - b'0');
+    if !d.is_ascii_digit() {
         if (a == 32) & (b == 32) & (c == 32) & (d == 32) {
-            return Glance::Sure(one);
+            return Some(one);
         }
-        return Glance::Unsure;
+        return None;
     }
-    let two = one + fields::wide(d - 48) * 10;
-    if !digit(c) {
+    let two = one + u32::from(d - b'0') * 10;
+    if !c.is_ascii_digit() {
         if (a == 32) & (b == 32) & (c == 32) & (d != 48) {
-            return Glance::Sure(two);
+            return Some(two);
         }
-        return Glance::Unsure;
+        return None;
     }
-    let three = two + fields::wide(c - 48) * 100;
-    if !digit(b) {
+    let three = two + u32::from(c - b'0') * 100;
+    if !b.is_ascii_digit() {
         if (a == 32) & (b == 32) & (c != 48) {
-            return Glance::Sure(three);
+            return Some(three);
         }
-        return Glance::Unsure;
+        return None;
     }
-    let four = three + fields::wide(b - 48) * 1000;
+    let four = three + u32::from(b - b'0') * 1000;
     if a == 32 {
         if b != 48 {
-            return Glance::Sure(four);
+            return Some(four);
         }
-        return Glance::Unsure;
+        return None;
     }
-    if digit(a) & (a != 48) {
-        return Glance::Sure(four + fields::wide(a - 48) * 10000);
+    if a.is_ascii_digit() & (a != 48) {
+        return Some(four + u32::from(a - b'0') * 10000);
     }
-    Glance::Unsure
+    None
 }
 
 // The same of a field of up to five columns: the columns that it lacks count as spaces. Of six the
 // first has to be one.
-pub fn glance_in(f: &[u8]) -> Glance
+pub fn glance_in(f: &[u8]) -> Option<u32>
     ensures { result ≡ glimpse_of (number_of f.now) }
 {
     match f.len() {
@@ -80,20 +66,20 @@ pub fn glance_in(f: &[u8]) -> Glance
         5 => glance_at(f[0], f[1], f[2], f[3], f[4]),
         6 => {
             if f[0] != 32 {
-                return Glance::Unsure;
+                return None;
             }
             glance_at(f[1], f[2], f[3], f[4], f[5])
         }
-        _ => Glance::Unsure,
+        _ => None,
     }
 }
 
 // What the five columns from `column` on say at a glance: the number from 0 on that they say, or nothing.
-pub fn glance_number(s: &[u8], column: usize) -> Glance
+pub fn glance_number(s: &[u8], column: usize) -> Option<u32>
     ensures { result ≡ glimpse_of (number_at s.now column 5) }
 {
     if !fields::inside(s, column, 5) {
-        return Glance::Unsure;
+        return None;
     }
     let at = column - 1;
     glance_in(&s[at..at + 5])
@@ -104,11 +90,11 @@ fn remainders_of(f: &[u8]) -> u32
     requires { length f.now ≡ 5 }
     ensures { result ≡ remainders 0 f.now }
 {
-    fields::wide(f[0] % 16) * 10000
-        + fields::wide(f[1] % 16) * 1000
-        + fields::wide(f[2] % 16) * 100
-        + fields::wide(f[3] % 16) * 10
-        + fields::wide(f[4] % 16)
+    u32::from(f[0] % 16) * 10000
+        + u32::from(f[1] % 16) * 1000
+        + u32::from(f[2] % 16) * 100
+        + u32::from(f[3] % 16) * 10
+        + u32::from(f[4] % 16)
 }
 
 // The same of the five columns from `column` on, 166665 at most: the field's number where that is one from

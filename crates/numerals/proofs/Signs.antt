@@ -9,8 +9,8 @@ use lib.ListN.{length, drop, length-drop}
 use mir.Facts.{to_z-of_z, to_z_pos}
 use mir.Syntax.{w32}
 use mir.Val.{SFits, to_z, of_z}
+use Rattle.std.specs.Prelude.{Some, None}
 use Rattle.fields.specs.Number.{minus, plain_of}
-use Rattle.fields.specs.declared.Number.TheVariants.{Value, Refused}
 use Rattle.fields.proofs.Unspelled.{plain_size}
 use Rattle.numerals.proofs.Steps.{sum_below}
 
@@ -25,7 +25,7 @@ minus_fits : (n : ℕ) → n < 1000000 → SFits w32 (neg_ℤ (pos n))
 minus_fits zero h = record { sfits = lit< tt }
 minus_fits (suc n) h = record { sfits = omega arith }
 
-minus_said : (n : ℕ) → (n ≡ 0 → ⊥) → Value (neg_ℤ (pos n)) ≡ minus (Value (pos n))
+minus_said : (n : ℕ) → (n ≡ 0 → ⊥) → Some (neg_ℤ (pos n)) ≡ minus (Some (pos n))
 minus_said zero z = absurd (z refl)
 minus_said (suc n) z = refl
 
@@ -33,7 +33,7 @@ minus_said (suc n) z = refl
 abbrev pub Small : ℤ → Type 0
 Small v = (n : ℕ) × (v ≡ pos n) × (n < 1000000)
 
-pub digits_small : (f : List ℕ) (i : ℕ) (v : ℤ) → length f ≤ 6 → plain_of (drop i f) ≡ Value v → Small v
+pub digits_small : (f : List ℕ) (i : ℕ) (v : ℤ) → length f ≤ 6 → plain_of (drop i f) ≡ Some v → Small v
 digits_small f i v l e =
     let p = plain_size (drop i f) v e in
     let k : length (drop i f) ≤ 6 = rw length-drop (omega arith) in
@@ -43,28 +43,28 @@ module _ {v : ℤ} (s : Small v) where
   held : to_z w32 (of_z w32 v) ≡ pos s.0
   held = ap (λ x. to_z w32 (of_z w32 x)) s.1 ∙ to_z-of_z (size_fits s.0 s.2)
 
-  pub value_held : Value (to_z w32 (of_z w32 v)) ≡ Value v
-  value_held = ap Value (held ∙ sym s.1)
+  pub value_held : Some (to_z w32 (of_z w32 v)) ≡ Some v
+  value_held = ap Some (held ∙ sym s.1)
 
   -- with a minus sign: 0 has none
-  pub minus_none : of_z w32 v ≡ 0 → Refused ≡ minus (Value v)
+  pub minus_none : of_z w32 v ≡ 0 → None ≡ minus (Some v)
   minus_none z =
       let q : pos s.0 ≡ pos 0 = sym held ∙ ap (to_z w32) z in
-      sym (ap (λ x. minus (Value x)) (s.1 ∙ q))
+      sym (ap (λ x. minus (Some x)) (s.1 ∙ q))
 
   pub minus_held_fits : SFits w32 (pos 0 -ℤ to_z w32 (of_z w32 v))
   minus_held_fits = rw (held, +ℤ_idl (neg_ℤ (pos s.0))) (minus_fits s.0 s.2)
 
-  pub minus_held : (of_z w32 v ≡ 0 → ⊥) → Value (to_z w32 (of_z w32 (pos 0 -ℤ to_z w32 (of_z w32 v)))) ≡ minus (Value v)
+  pub minus_held : (of_z w32 v ≡ 0 → ⊥) → Some (to_z w32 (of_z w32 (pos 0 -ℤ to_z w32 (of_z w32 v)))) ≡ minus (Some v)
   minus_held n =
-      ap Value (to_z-of_z minus_held_fits ∙ ap (λ x. pos 0 -ℤ x) held ∙ +ℤ_idl (neg_ℤ (pos s.0)))
+      ap Some (to_z-of_z minus_held_fits ∙ ap (λ x. pos 0 -ℤ x) held ∙ +ℤ_idl (neg_ℤ (pos s.0)))
       ∙ minus_said s.0 (λ z. n (ap (of_z w32) (s.1 ∙ ap pos z)))
-      ∙ sym (ap (λ x. minus (Value x)) s.1)
+      ∙ sym (ap (λ x. minus (Some x)) s.1)
 
 -- the same of a size, as the reader from the right has it
 pub size_minus_fits : (n : ℕ) → n < 1000000 → SFits w32 (pos 0 -ℤ to_z w32 n)
 size_minus_fits n h = rw (size_is n h, +ℤ_idl (neg_ℤ (pos n))) (minus_fits n h)
 
-pub size_minus : (n : ℕ) → n < 1000000 → (n ≡ 0 → ⊥) → Value (to_z w32 (of_z w32 (pos 0 -ℤ to_z w32 n))) ≡ minus (Value (pos n))
+pub size_minus : (n : ℕ) → n < 1000000 → (n ≡ 0 → ⊥) → Some (to_z w32 (of_z w32 (pos 0 -ℤ to_z w32 n))) ≡ minus (Some (pos n))
 size_minus zero h z = absurd (z refl)
-size_minus (suc n) h z = rw (to_z-of_z (size_minus_fits (suc n) h), size_is (suc n) h) (ap Value (+ℤ_idl (negsuc n)))
+size_minus (suc n) h z = rw (to_z-of_z (size_minus_fits (suc n) h), size_is (suc n) h) (ap Some (+ℤ_idl (negsuc n)))

@@ -8,13 +8,12 @@ use native.Mathlib.Nat.{pow-suc, pow-le-pow_right}
 use native.Mathlib.Numerals.{add-one}
 use native.Mathlib.Omega.{arith}
 use lib.Dec.{leb, eqb, lit<, lit≤}
-use lib.IntN.{pos}
+use lib.IntN.{ℤ, pos}
 use lib.ListN.{length, get_or, take, drop, drop_of_length-le}
 use lib.Seq.{drop-cons, take-length}
 use borrow.Author.Tests.{eq-eqb, ne_eqb, eqb-true, eqb-false, leb-true, not-true, not-false}
+use Rattle.std.specs.Prelude.{Option, Some, None}
 use Rattle.fields.specs.Number.{is_digit, after_blanks, digits_of, zero_then, plain_of, minus, signed_of, is_width, number_of, number_at}
-use Rattle.fields.specs.declared.Number.{Number}
-use Rattle.fields.specs.declared.Number.TheVariants.{Value, Refused}
 use Rattle.fields.specs.Place.{is_inside, bytes_at}
 use Rattle.fields.proofs.Spelled.{signed}
 use Rattle.fields.proofs.Unspelled.{digit_range}
@@ -29,7 +28,7 @@ module _ (s : List ℕ) (c w : ℕ) (i : is_inside s c w ≡ true) where
 
   -- r is the answer to whether number fields have that width
   module _ (r : Bool) (e : r ≡ is_width w) where
-    pub width_refused : not r ≡ true → Refused ≡ number_at s c w
+    pub width_refused : not r ≡ true → None ≡ number_at s c w
     unfolding number_at number_of
     width_refused t = rw (i, bytes_length s c w i, ← e, not-true r t)
 
@@ -47,14 +46,14 @@ whole_field f = rw (inside_fits f 1 (length f) (lit≤ tt) (omega arith), take-l
 
 -- ---- a number with its sign: m is the answer to whether there is a minus sign
 
-pub sign_refused : (m : Bool) → signed m Refused ≡ Refused
+pub sign_refused : (m : Bool) → signed m None ≡ None
 sign_refused true = refl
 sign_refused false = refl
 
-pub sign_off : (m : Bool) (r : Number) → not m ≡ true → signed m r ≡ r
+pub sign_off : (m : Bool) (r : Option ℤ) → not m ≡ true → signed m r ≡ r
 sign_off m r t = rw (not-true m t)
 
-pub sign_on : (m : Bool) (r : Number) → not m ≡ false → signed m r ≡ minus r
+pub sign_on : (m : Bool) (r : Option ℤ) → not m ≡ false → signed m r ≡ minus r
 sign_on m r t = rw (not-false m t)
 
 module _ (f : List ℕ) (i : ℕ) where
@@ -74,7 +73,7 @@ module _ (f : List ℕ) (i : ℕ) where
 
   -- ---- sign
 
-  pub sign_end : length f ≤ i → signed_of (drop i f) ≡ Refused
+  pub sign_end : length f ≤ i → signed_of (drop i f) ≡ None
   unfolding signed_of
   sign_end h = rw (drop_of_length-le f h)
 
@@ -89,12 +88,12 @@ module _ (f : List ℕ) (i : ℕ) where
 
   -- ---- digits
 
-  pub digits_none : length f ≤ i → plain_of (drop i f) ≡ Refused
+  pub digits_none : length f ≤ i → plain_of (drop i f) ≡ None
   unfolding plain_of
   digits_none h = rw (drop_of_length-le f h)
 
   -- by the code's test of a leading zero
-  pub zero_leads : i < length f → eqb (get_or f i 0) 48 && not (eqb (i + 1) (length f)) ≡ true → plain_of (drop i f) ≡ Refused
+  pub zero_leads : i < length f → eqb (get_or f i 0) 48 && not (eqb (i + 1) (length f)) ≡ true → plain_of (drop i f) ≡ None
   unfolding plain_of
   zero_leads h t =
       let d = both (eqb (get_or f i 0) 48) (not (eqb (i + 1) (length f))) t in
@@ -116,7 +115,7 @@ module _ (f : List ℕ) (i : ℕ) where
 
   -- where those before index i came to n; r is the answer to whether a digit stands there
   module _ (n : ℕ) where
-    pub digits_end : length f ≤ i → digits_of n (drop i f) ≡ Value (pos n)
+    pub digits_end : length f ≤ i → digits_of n (drop i f) ≡ Some (pos n)
     unfolding digits_of
     digits_end h = rw (drop_of_length-le f h)
 
@@ -125,7 +124,7 @@ module _ (f : List ℕ) (i : ℕ) where
     unfolding digits_of
     digits_more h r e t = rw (add-one, drop-cons f i 0 h, ← e, not-false r t)
 
-    pub digits_stop : i < length f → (r : Bool) → r ≡ is_digit (get_or f i 0) → not r ≡ true → digits_of n (drop i f) ≡ Refused
+    pub digits_stop : i < length f → (r : Bool) → r ≡ is_digit (get_or f i 0) → not r ≡ true → digits_of n (drop i f) ≡ None
     unfolding digits_of
     digits_stop h r e t = rw (drop-cons f i 0 h, ← e, not-true r t)
 

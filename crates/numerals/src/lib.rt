@@ -11,20 +11,17 @@ ghost use Rattle.fields.specs.Number.{is_width, after_blanks, plain_of, number_o
 ghost use Rattle.fields.specs.Answer.{value_of};
 ghost use Rattle.fields.specs.Ending.{EndsIn, Plain};
 
-use fields::Number;
-use glances::Glance;
-
 // Reads the number field of `width` columns from `column` on: its value, or refusal 5. `f[0]` is the field's
 // first column.
-pub fn read_number(s: &[u8], column: usize, width: usize) -> Number
+pub fn read_number(s: &[u8], column: usize, width: usize) -> Option<i32>
     ensures { result ≡ number_at s.now column width }
 {
     // The columns are there, and as many as a number field may have.
     if !fields::inside(s, column, width) {
-        return Number::Refused;
+        return None;
     }
     if !is_width(width) {
-        return Number::Refused;
+        return None;
     }
     let at = column - 1;
     let f = &s[at..at + width];
@@ -32,7 +29,7 @@ pub fn read_number(s: &[u8], column: usize, width: usize) -> Number
     // Blanks: spaces in front. A field of spaces alone is wrong.
     let mut i = behind_blanks(f);
     if i == width {
-        return Number::Refused;
+        return None;
     }
 
     // Sign: a minus sign stands directly before the digits.
@@ -43,16 +40,16 @@ pub fn read_number(s: &[u8], column: usize, width: usize) -> Number
 
     // Digits: at the right end. Zero is "0", never "-0".
     let answer = digits(f, i);
-    let Number::Value(n) = answer else {
-        return Number::Refused;
+    let Some(n) = answer else {
+        return None;
     };
     if !minus {
-        return Number::Value(n);
+        return Some(n);
     }
     if n == 0 {
-        return Number::Refused;
+        return None;
     }
-    Number::Value(-n)
+    Some(-n)
 }
 
 // Width: number fields are 1 to 6 columns wide.
@@ -78,27 +75,27 @@ fn behind_blanks(f: &[u8]) -> usize
 
 // Digits: from index `from` on nothing but digits up to the field's end, one at least. No leading zeros: a first
 // "0" stands alone.
-fn digits(f: &[u8], from: usize) -> Number
+fn digits(f: &[u8], from: usize) -> Option<i32>
     requires { length f.now ≤ 6 }
     ensures { result ≡ plain_of (drop from f.now) }
 {
     if f.len() <= from {
-        return Number::Refused;
+        return None;
     }
     if (f[from] == b'0') & (from + 1 != f.len()) {
-        return Number::Refused;
+        return None;
     }
     let mut n: u32 = 0;
     let mut i = from;
     while i < f.len() {
         let b = f[i];
-        if !fields::digit(b) {
-            return Number::Refused;
+        if !b.is_ascii_digit() {
+            return None;
         }
-        n = n * 10 + fields::wide(b - b'0');
+        n = n * 10 + u32::from(b - b'0');
         i += 1;
     }
-    Number::Value(n as i32)
+    Some(n as i32)
 }
 
 // What follows serves speed alone: `value_of` reads a whole field that is mostly known to be well formed, with a
@@ -128,7 +125,7 @@ fn digits_at_end(f: &[u8]) -> Ending
         if 57 < b {
             return Ending { from: i, size };
         }
-        size = size + fields::wide(b - 48) * unit;
+        size = size + u32::from(b - 48) * unit;
         unit = unit * 10;
         i -= 1;
     }
@@ -137,44 +134,44 @@ fn digits_at_end(f: &[u8]) -> Ending
 
 // The value of a field whose digits start at `from`, by what stands before them: spaces, and a "-"
 // directly before the digits, which are then not "0".
-fn signed(f: &[u8], from: usize, size: u32) -> Number
+fn signed(f: &[u8], from: usize, size: u32) -> Option<i32>
     requires { Plain f.now from size }
     ensures { result ≡ number_of f.now }
 {
     if from == 0 {
-        return Number::Value(size as i32);
+        return Some(size as i32);
     }
     if f[from - 1] == 45 {
         if !texts::blanks(&f[..from - 1]) {
-            return Number::Refused;
+            return None;
         }
         if size == 0 {
-            return Number::Refused;
+            return None;
         }
-        return Number::Value(-(size as i32));
+        return Some(-(size as i32));
     }
     if !texts::blanks(&f[..from]) {
-        return Number::Refused;
+        return None;
     }
-    Number::Value(size as i32)
+    Some(size as i32)
 }
 
 // The value of a whole field: at most six columns, digits at the end, no leading zero among them.
-fn number_of(f: &[u8]) -> Number
+fn number_of(f: &[u8]) -> Option<i32>
     ensures { result ≡ number_of f.now }
 {
     let n = f.len();
     if 6 < n {
-        return Number::Refused;
+        return None;
     }
     let e = digits_at_end(f);
     let from = e.from;
     let size = e.size;
     if from == n {
-        return Number::Refused;
+        return None;
     }
     if (f[from] == 48) & (from + 1 != n) {
-        return Number::Refused;
+        return None;
     }
     signed(f, from, size)
 }
@@ -187,9 +184,9 @@ pub fn value_of(f: &[u8]) -> i32
         return 0;
     }
     let g = glances::glance_in(f);
-    let Glance::Sure(n) = g else {
+    let Some(n) = g else {
         let answer = number_of(f);
-        let Number::Value(v) = answer else {
+        let Some(v) = answer else {
             return 0;
         };
         return v;

@@ -7,8 +7,6 @@
 ghost use Rattle.std.specs.Prelude.{◌≡◌};
 ghost use Rattle.fields.specs.Text.{is_pair, is_name, is_blanks, text_at};
 
-use fields::Text;
-
 // Whether a field is spaces alone.
 pub fn blanks(f: &[u8]) -> bool
     ensures { result ≡ is_blanks f.now }
@@ -52,30 +50,24 @@ pub fn pairs(f: &[u8]) -> bool
 
 // Judges the name field of `width` columns from `column` on. Refused: a field that is not in `s`,
 // and one that is not two-byte characters.
-pub fn read_name(s: &[u8], column: usize, width: usize) -> Text
+pub fn read_name(s: &[u8], column: usize, width: usize) -> bool
     ensures { result ≡ text_at is_name s.now column width }
 {
     if !fields::inside(s, column, width) {
-        return Text::Refused;
+        return false;
     }
     let at = column - 1;
-    if !pairs(&s[at..at + width]) {
-        return Text::Refused;
-    }
-    Text::WellFormed
+    pairs(&s[at..at + width])
 }
 
 // Judges the blank field of `width` columns from `column` on. Refused: a field that is not in `s`,
 // and one with another byte than a space.
-pub fn read_blank(s: &[u8], column: usize, width: usize) -> Text
+pub fn read_blank(s: &[u8], column: usize, width: usize) -> bool
     ensures { result ≡ text_at is_blanks s.now column width }
 {
     if !fields::inside(s, column, width) {
-        return Text::Refused;
+        return false;
     }
     let at = column - 1;
-    if !blanks(&s[at..at + width]) {
-        return Text::Refused;
-    }
-    Text::WellFormed
+    blanks(&s[at..at + width])
 }

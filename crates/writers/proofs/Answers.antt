@@ -6,11 +6,10 @@ use Prim.Native.Nat.{ℕ, ◌+◌, ◌-◌}
 use lib.IntN.{ℤ}
 use lib.ListN.{length, take, drop}
 use borrow.Author.Tests.{eq-eqb, ne_eqb}
-use Rattle.fields.specs.Answer.{number_fits, name_fits, Wrote}
+use Rattle.fields.specs.Answer.{done, unfit, number_fits, name_fits, Wrote}
 use Rattle.fields.specs.Number.{holds}
 use Rattle.fields.specs.Place.{is_inside, put}
 use Rattle.fields.specs.Text.{is_name}
-use Rattle.fields.specs.declared.Writing.TheVariants as writing
 
 -- t is the answer to whether the field lies inside
 module _ (s : List ℕ) (c w : ℕ) {t : Bool} (e : t ≡ is_inside s c w) where
@@ -37,10 +36,10 @@ module _ (s : List ℕ) (c w : ℕ) {t : Bool} (e : t ≡ is_inside s c w) where
     name_fit y l q = rw (← e, y, eq-eqb _ _ l, ← q)
 
 module _ (fits : Bool) (before : List ℕ) (c : ℕ) (t : List ℕ) where
-  pub wrote_nothing : fits ≡ false → Wrote fits before c t writing.Refused before
+  pub wrote_nothing : fits ≡ false → Wrote fits before c t unfit before
   wrote_nothing n = record { answer = rw n; buffer = rw n }
 
   pub wrote_all : fits ≡ true → (after : List ℕ) (w : ℕ) → length t ≡ w → after ≡ take (c - 1) before ++ (t ++ drop (c - 1 + w) before)
-      → Wrote fits before c t writing.Done after
+      → Wrote fits before c t done after
   unfolding put
   wrote_all y after w l q = record { answer = rw y; buffer = rw (y, l) q }

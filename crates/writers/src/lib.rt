@@ -10,7 +10,7 @@ ghost use Rattle.fields.specs.Number.{holds};
 ghost use Rattle.fields.specs.Spelling.{last_of, rest_of, columns, left_of, spell};
 ghost use Rattle.fields.specs.Answer.{number_fits, name_fits, Wrote};
 
-use fields::{Left, Writing};
+use fields::{Left, Unfit};
 
 // The byte of the last column.
 fn last_of(l: Left) -> u8
@@ -86,17 +86,17 @@ fn left_of(value: i32) -> Left
 
 // Writes `value` into the number field of `width` columns from `column` on. Refused, with `buf` as
 // it was: a field that is not in `buf`, and a value that the width does not hold.
-pub fn write_number(buf: &mut [u8], column: usize, width: usize, value: i32) -> Writing
+pub fn write_number(buf: &mut [u8], column: usize, width: usize, value: i32) -> Result<(), Unfit>
     ensures { Wrote (number_fits buf.old column width value) buf.old column (spell width value) result buf.new }
 {
     if !fields::inside(buf, column, width) {
-        return Writing::Refused;
+        return Err(Unfit);
     }
     if !in_range(width, value) {
-        return Writing::Refused;
+        return Err(Unfit);
     }
     fill(buf, column - 1, width, left_of(value));
-    Writing::Done
+    Ok(())
 }
 
 // Copies `bytes` into `buf` from index `at` on.
@@ -113,30 +113,30 @@ fn copy(buf: &mut [u8], at: usize, bytes: &[u8])
 
 // Writes `name` into the name field of `width` columns from `column` on. Refused, with `buf` as it
 // was: a field that is not in `buf`, and a name that is not two-byte characters or not as long.
-pub fn write_name(buf: &mut [u8], column: usize, width: usize, name: &[u8]) -> Writing
+pub fn write_name(buf: &mut [u8], column: usize, width: usize, name: &[u8]) -> Result<(), Unfit>
     ensures { Wrote (name_fits buf.old column width name.now) buf.old column name.now result buf.new }
 {
     if !fields::inside(buf, column, width) {
-        return Writing::Refused;
+        return Err(Unfit);
     }
     if name.len() != width {
-        return Writing::Refused;
+        return Err(Unfit);
     }
     if !texts::pairs(name) {
-        return Writing::Refused;
+        return Err(Unfit);
     }
     copy(buf, column - 1, name);
-    Writing::Done
+    Ok(())
 }
 
 // Writes spaces into the blank field of `width` columns from `column` on. Refused, with `buf` as it
 // was: a field that is not in `buf`.
-pub fn write_blank(buf: &mut [u8], column: usize, width: usize) -> Writing
+pub fn write_blank(buf: &mut [u8], column: usize, width: usize) -> Result<(), Unfit>
     ensures { Wrote (is_inside buf.old column width) buf.old column (replicate width 32) result buf.new }
 {
     if !fields::inside(buf, column, width) {
-        return Writing::Refused;
+        return Err(Unfit);
     }
     fill(buf, column - 1, width, Left::Blanks);
-    Writing::Done
+    Ok(())
 }

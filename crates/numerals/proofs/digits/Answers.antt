@@ -4,7 +4,7 @@ use native.Mathlib.Nat.{one-le-pow}
 use native.Mathlib.Omega.{arith}
 use lib.Dec.{lit<}
 use borrow.Author.Rules.{rules}
-use Rattle.fields.specs.declared.Number.TheVariants.{Value}
+use Rattle.std.specs.Prelude.{Some}
 use Rattle.numerals.proofs.Signs.{size_fits, size_is}
 use Rattle.numerals.proofs.Steps.{digits_none, zero_leads, digits_lead, digits_end, digits_more, digits_stop}
 use Rattle.numerals.proofs.Steps.{digit_least, digit_most, sum_more, sum_below}
@@ -60,4 +60,4 @@ pub overflow_cast-result : goal.overflow_cast-result
 overflow_cast-result c = size_fits _ (whole (goal.at.overflow_cast-result c).After-loop-i)
 
 pub returns : goal.returns
-returns c = ap Value (size_is _ (whole (goal.at.returns c).After-loop-i)) ∙ sym (c.loop-i.invariant.2 ∙ digits_end _ _ _ c.loop-i-test.false)
+returns c = ap Some (size_is _ (whole (goal.at.returns c).After-loop-i)) ∙ sym (c.loop-i.invariant.2 ∙ digits_end _ _ _ c.loop-i-test.false)

@@ -8,17 +8,16 @@ use lib.Dec.{eqb}
 use lib.IntN.{ℤ}
 use lib.ListN.{length, get_or, take, drop}
 use borrow.Author.Tests.{eq-eqb, ne_eqb}
+use Rattle.std.specs.Prelude.{Option, None}
 use Rattle.fields.specs.Number.{number_at, after_blanks, minus, plain_of, signed_of, is_width}
 use Rattle.fields.specs.Place.{is_inside}
-use Rattle.fields.specs.declared.Number.{Number}
-use Rattle.fields.specs.declared.Number.TheVariants.{Value, Refused}
 use Rattle.fields.proofs.Answers.{number_outside}
 use Rattle.fields.proofs.Spelled.{signed}
 use Rattle.fields.proofs.Places.{passed}
 use Rattle.numerals.proofs.Steps.{part_length, width_refused, width_taken, width_most, sign_refused, sign_off, sign_on, sign_end, sign_minus, sign_none}
 use Rattle.numerals.proofs.Signs.{Small, digits_small, value_held, minus_none, minus_held_fits, minus_held}
 use Rattle.numerals.proofs.read_number.Goals as goal
-use Rattle.numerals.proofs.read_number.Goals.{Else-not-inside, Joined-minus, In-Value, then-minus, else-minus}
+use Rattle.numerals.proofs.read_number.Goals.{Else-not-inside, Joined-minus, In-Some, then-minus, else-minus}
 
 -- the bytes that the code cuts out
 abbrev part : List ℕ → ℕ → ℕ → List ℕ
@@ -34,21 +33,21 @@ module _ (s : List ℕ) (c w : ℕ) (i : is_inside s c w ≡ true) {r : Bool} (e
     said : number_at s c w ≡ signed_of (drop k (part s c w))
     said = sym (width_taken s c w i _ e (ap not t)) ∙ ap signed_of a
 
-    spaces : k ≡ w → Refused ≡ number_at s c w
+    spaces : k ≡ w → None ≡ number_at s c w
     spaces z = sym (said ∙ sign_end (part s c w) k (omega (arith, part_length s c w i)))
 
 -- what a number field says where the byte b stands behind its spaces and the digits there say d
-record Told (n : Number) (b : ℕ) (d : Number) : Type 0 where
+record Told (n : Option ℤ) (b : ℕ) (d : Option ℤ) : Type 0 where
   is : n ≡ signed (eqb b 45) d
 
-module _ {n d : Number} {b : ℕ} (h : Told n b d) where
-  told_refused : d ≡ Refused → Refused ≡ n
+module _ {n d : Option ℤ} {b : ℕ} (h : Told n b d) where
+  told_refused : d ≡ None → None ≡ n
   told_refused e = sym (h.is ∙ ap (signed (eqb b 45)) e ∙ sign_refused (eqb b 45))
 
-  told_plain : {v : ℤ} → d ≡ Value v → (b ≡ 45 → ⊥) → Value v ≡ n
+  told_plain : {v : ℤ} → d ≡ Some v → (b ≡ 45 → ⊥) → Some v ≡ n
   told_plain e t = sym (h.is ∙ sign_off (eqb b 45) d (ap not (ne_eqb _ _ t)) ∙ e)
 
-  told_minus : {v : ℤ} → d ≡ Value v → b ≡ 45 → minus (Value v) ≡ n
+  told_minus : {v : ℤ} → d ≡ Some v → b ≡ 45 → minus (Some v) ≡ n
   told_minus e t = sym (h.is ∙ sign_on (eqb b 45) d (ap not (eq-eqb _ _ t)) ∙ ap minus e)
 
 -- past the first test the field lies inside
@@ -98,25 +97,25 @@ pub returns-in_default : goal.returns-in_default
 returns-in_default c =
     told_refused (told (goal.at.returns-in_default c).Joined-minus) (sym c.digits-answer.ensures ∙ c.in_default.is)
 
-small : (c : In-Value) → Small c.in-Value.n
+small : (c : In-Some) → Small c.in-Value.n
 small c =
     digits_small _ _ _ (narrow _ _ _ (sym c.inside.ensures ∙ c.if-not-inside.false) c.is_width.ensures c.if-not-is_width.false)
     (sym c.digits-answer.ensures ∙ c.in-Value.is)
 
 pub returns-then-not-minus : goal.returns-then-not-minus
 returns-then-not-minus c =
-    value_held (small (goal.at.returns-then-not-minus c).In-Value)
+    value_held (small (goal.at.returns-then-not-minus c).In-Some)
     ∙ told_plain (told (goal.at.returns-then-not-minus c).Joined-minus) (sym c.digits-answer.ensures ∙ c.in-Value.is) c.if-not-minus.true
 
 pub returns-then-n-eq0 : goal.returns-then-n-eq0
 returns-then-n-eq0 c =
-    minus_none (small (goal.at.returns-then-n-eq0 c).In-Value) c.if-n-eq0.true
+    minus_none (small (goal.at.returns-then-n-eq0 c).In-Some) c.if-n-eq0.true
     ∙ told_minus (told (goal.at.returns-then-n-eq0 c).Joined-minus) (sym c.digits-answer.ensures ∙ c.in-Value.is) c.if-not-minus.false
 
 pub overflow_sub-result : goal.overflow_sub-result
-overflow_sub-result c = minus_held_fits (small (goal.at.overflow_sub-result c).In-Value)
+overflow_sub-result c = minus_held_fits (small (goal.at.overflow_sub-result c).In-Some)
 
 pub returns : goal.returns
 returns c =
-    minus_held (small (goal.at.returns c).In-Value) c.if-n-eq0.false
+    minus_held (small (goal.at.returns c).In-Some) c.if-n-eq0.false
     ∙ told_minus (told (goal.at.returns c).Joined-minus) (sym c.digits-answer.ensures ∙ c.in-Value.is) c.if-not-minus.false

@@ -6,8 +6,8 @@ use native.Mathlib.Omega.{arith}
 use lib.IntN.{pos}
 use lib.Seq.{length-take-le}
 use borrow.Author.Tests.{not-true, not-false}
+use Rattle.std.specs.Prelude.{Some}
 use Rattle.fields.specs.Number.{number_of, minus}
-use Rattle.fields.specs.declared.Number.TheVariants.{Value}
 use Rattle.fields.proofs.FromRight.{plain_small, taken_whole, taken_plain, taken_minus, minus_none, refused_minus, refused_other}
 use Rattle.numerals.proofs.Signs.{size_fits, size_is, size_minus_fits, size_minus}
 use Rattle.numerals.proofs.signed.Goals as goal
@@ -19,7 +19,7 @@ small c = plain_small c.requires
 -- a "-" behind spaces
 minus_said : (c : Else-not-blanks)
     → number_of c.args.f.now
-    ≡ minus (Value (pos c.args.size))
+    ≡ minus (Some (pos c.args.size))
 minus_said c =
     taken_minus c.requires (omega arith) c.if-f-from-eq45.true (sym c.blanks.ensures ∙ not-false _ c.if-not-blanks.false-raw)
 
@@ -27,7 +27,7 @@ pub overflow_cast-result : goal.overflow_cast-result
 overflow_cast-result c = size_fits _ (small (goal.at.overflow_cast-result c).Start)
 
 pub returns-then-from-eq0 : goal.returns-then-from-eq0
-returns-then-from-eq0 c = ap Value (size_is _ (small (goal.at.returns-then-from-eq0 c).Start)) ∙ sym (taken_whole c.requires c.if-from-eq0.true)
+returns-then-from-eq0 c = ap Some (size_is _ (small (goal.at.returns-then-from-eq0 c).Start)) ∙ sym (taken_whole c.requires c.if-from-eq0.true)
 
 pub bounds-f-from : goal.bounds-f-from
 bounds-f-from c = omega (arith, c.requires.some)
@@ -64,4 +64,4 @@ overflow_cast-result-2 c = size_fits _ (small (goal.at.overflow_cast-result-2 c)
 
 pub returns : goal.returns
 returns c =
-    ap Value (size_is _ (small (goal.at.returns c).Start)) ∙ sym (taken_plain c.requires (sym c.blanks-2.ensures ∙ not-false _ c.if-not-blanks-2.false-raw))
+    ap Some (size_is _ (small (goal.at.returns c).Start)) ∙ sym (taken_plain c.requires (sym c.blanks-2.ensures ∙ not-false _ c.if-not-blanks-2.false-raw))
