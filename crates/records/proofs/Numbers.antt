@@ -4,14 +4,14 @@ use mathlib.Core.List.{List, [], ◌∷◌}
 use mathlib.Core.Path.{◌≡◌, refl, ◌∙◌}
 use Prim.Native.Nat.{ℕ, zero, suc, ◌+◌, ◌-◌, ◌*◌, ◌/◌, ◌≤◌, ◌<◌}
 use native.Mathlib.Omega.{arith}
-use lib.IntN.{pos}
+use lib.IntN.{ℤ, pos}
 use lib.ListN.{length, take, drop, length-drop}
 use lib.Seq.{take-nil, drop-nil, take-take, drop-drop, length-take-le}
 use borrow.Author.Tests.{le-leb, lt-leb}
 use Rattle.fields.specs.Answer.{value_of}
 use Rattle.fields.specs.Number.{number_of, number_at}
 use Rattle.fields.specs.Place.{is_inside, bytes_at}
-use Rattle.fields.specs.declared.Number.TheVariants.{Refused}
+use Rattle.std.specs.Prelude.{Option, None}
 use Rattle.fields.proofs.Places.{inside_none, inside_short, inside_fits}
 use Rattle.records.specs.View.{record_of, number_in}
 
@@ -29,13 +29,13 @@ module _ (file : List ℕ) (k : ℕ) where
       rw (le-leb 1 k p, lt-leb _ _ l)
 
 -- no bytes, no number
-empty_refused : (c w : ℕ) → number_at [] c w ≡ Refused
+empty_by : (t : Bool) → ◌≡◌ {A = Option ℤ} (cond t None None) None
+empty_by true = refl
+empty_by false = refl
+
+empty_refused : (c w : ℕ) → number_at [] c w ≡ None
 unfolding number_at bytes_at number_of
-empty_refused c w = rw (drop-nil, take-nil) (by (is_inside [] c w))
-  where
-    by : (t : Bool) → cond t Refused Refused ≡ Refused
-    by true = refl
-    by false = refl
+empty_refused c w = rw (drop-nil, take-nil) (empty_by (is_inside [] c w))
 
 module _ (file : List ℕ) (k c w : ℕ) where
   pub number_none : record_of file k ≡ [] → number_in file k c w ≡ pos 0

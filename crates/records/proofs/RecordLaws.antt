@@ -21,13 +21,9 @@ use Rattle.records.specs.declared.Kind.TheVariants.{Mesh, Layer, Node, Line, Coo
 use Rattle.fields.specs.Answer.{value_of, number_refusal, text_refusal}
 use Rattle.fields.specs.Number.{number_at}
 use Rattle.fields.specs.Text.{is_name, is_blanks, text_at}
-use Rattle.fields.specs.declared.Number as numbers
-use Rattle.fields.specs.declared.Number.TheVariants as number
-use Rattle.fields.specs.declared.Text as texts
-use Rattle.fields.specs.declared.Text.TheVariants as text
+use Rattle.std.specs.Prelude.{Option, Some, None}
 use Rattle.codes.specs.Code.{code_refusal}
 use Rattle.codes.specs.declared.Code as codes-code
-use Rattle.codes.specs.declared.Code.TheVariants as code
 use Rattle.records.specs.declared.Field.{Field}
 use Rattle.records.specs.declared.Field.TheVariants.{End, Letters, Number, Code, Name, Blank}
 use Rattle.records.specs.declared.Reading.{Reading}
@@ -270,17 +266,17 @@ letters_one : (t : Bool) → (◌≡◌ {A = ℕ} (cond t 0 3) 0) ⊎ (◌≡◌
 letters_one true = inl refl
 letters_one false = inr refl
 
-number_one : (r : numbers.Number) → (number_refusal r ≡ 0) ⊎ (number_refusal r ≡ 5)
-number_one (number.Value v) = inl refl
-number_one number.Refused = inr refl
+number_one : (r : Option ℤ) → (number_refusal r ≡ 0) ⊎ (number_refusal r ≡ 5)
+number_one (Some v) = inl refl
+number_one None = inr refl
 
-code_one : (r : codes-code.Code) → (code_refusal r ≡ 0) ⊎ (code_refusal r ≡ 5)
-code_one (code.Value v m) = inl refl
-code_one code.Refused = inr refl
+code_one : (r : Option codes-code.Code) → (code_refusal r ≡ 0) ⊎ (code_refusal r ≡ 5)
+code_one (Some k) = inl refl
+code_one None = inr refl
 
-text_one : (r : texts.Text) → (text_refusal r ≡ 0) ⊎ (text_refusal r ≡ 5)
-text_one text.WellFormed = inl refl
-text_one text.Refused = inr refl
+text_one : (r : Bool) → (text_refusal r ≡ 0) ⊎ (text_refusal r ≡ 5)
+text_one true = inl refl
+text_one false = inr refl
 
 fault_one : (f : Field) (s : List ℕ) → (fault_of f s ≡ 0) ⊎ (fault_of f s ≡ refusal_of f)
 unfolding fault_of

@@ -18,17 +18,13 @@ use Rattle.fields.specs.Number.{number_at, holds}
 use Rattle.fields.specs.Place.{is_inside, bytes_at}
 use Rattle.fields.specs.Spelling.{spell, Says}
 use Rattle.fields.specs.Text.{is_name, is_blanks, text_at}
-use Rattle.codes.specs.Code.{code_at, code_refusal, code_value, code_mark, code_holds, spell_code, CodeSays}
+use Rattle.std.specs.Prelude.{Option, Some, None}
+use Rattle.codes.specs.Code.{code, code_at, code_refusal, code_value, code_mark, code_holds, spell_code, CodeSays}
 use Rattle.codes.specs.declared.Code as codes-code
-use Rattle.codes.specs.declared.Code.TheVariants as code
-use Rattle.fields.specs.declared.Number as fields-number
-use Rattle.fields.specs.declared.Number.TheVariants as number
-use Rattle.fields.specs.declared.Text as fields-text
-use Rattle.fields.specs.declared.Text.TheVariants as text
 use Rattle.records.specs.Layout.{start_of, width_of, numbers_of, bytes_of, marks_of, total}
-use Rattle.records.specs.Reading.{letters_fault, in_layer_five, landed, code_in, fault_of, numbers_in, name_in, marks_in, over}
+use Rattle.records.specs.Reading.{letters_fault, in_layer_five, mark_fits, landed, code_in, fault_of, numbers_in, name_in, marks_in, over}
 use Rattle.records.specs.Reading.{Fault, no_fault, fault_at, first_fault}
-use Rattle.records.specs.Writing.{every, second_letter, field_text, mark_fits, field_fits, text_of, no_numbers, no_bytes, fits}
+use Rattle.records.specs.Writing.{every, second_letter, field_text, field_fits, text_of, no_numbers, no_bytes, fits}
 use Rattle.permitted.specs.Permitted.{is_zero}
 use Rattle.records.specs.declared.Field.TheVariants.{End, Letters, Number, Code, Name, Blank}
 use Rattle.records.specs.declared.Field.{Field}
@@ -96,7 +92,7 @@ record Good (f : Field) (ns : List ℤ) (nm ms s : List ℕ) : Type 0 where
 
 -- a code that a record's columns say is read, where its mark may stand
 landed_read : (s : List ℕ) (c w : ℕ) (v : ℤ) (m : ℕ) (five : Bool) → in_layer_five s ≡ five → CodeSays s c w v m → mark_fits five m ≡ true
-    → code_in s c w ≡ code.Value v m
+    → code_in s c w ≡ Some (code v m)
 unfolding code_in
 landed_read s c w v zero five y h a = rw (code_read s c w v 0 h)
 landed_read s c w v (suc m) five y h a = rw (code_read s c w v (suc m) h, y, a)
@@ -112,23 +108,23 @@ good d five (Code c w) ns nm ms h p z e y =
     let m = get_or ms 0 0 in
     let q = code_fit five c w ns nm ms h in
     let i = placed p (spell_code w v m) z c w e (spell_code_length w v m q.held) in
-    let r : code_in (p ++ (spell_code w v m ++ z)) c w ≡ code.Value v m =
+    let r : code_in (p ++ (spell_code w v m ++ z)) c w ≡ Some (code v m) =
     landed_read _ c w v m five y (record { there = i.0; held = q.held; spelled = i.1 }) q.allowed in
     record { sound = rw r; numbers = rw r (first_of (pos 0) ns q.some); name = refl; marks = rw r (first_of 0 ms q.marked) }
 good d five (Number c w) ns nm ms h p z e y =
     let v = get_or ns 0 (pos 0) in
     let q = both (leb 1 (length ns)) (holds w v) h in
     let i = placed p (spell w v) z c w e (spell_length w v) in
-    let r : number_at (p ++ (spell w v ++ z)) c w ≡ number.Value v = number_read _ c w v (record { there = i.0; held = q.1; spelled = i.1 }) in
+    let r : number_at (p ++ (spell w v ++ z)) c w ≡ Some v = number_read _ c w v (record { there = i.0; held = q.1; spelled = i.1 }) in
     record { sound = rw r; numbers = rw r (first_of (pos 0) ns (leb-true _ _ q.0)); name = refl; marks = refl }
 good d five (Name c w) ns nm ms h p z e y =
     let i = placed p (take w nm) z c w e (field_length d five (Name c w) ns nm ms h) in
-    let r : text_at is_name (p ++ (take w nm ++ z)) c w ≡ text.WellFormed =
+    let r : text_at is_name (p ++ (take w nm ++ z)) c w ≡ true =
     text_read is_name _ c w i.0 (rw i.1 (both (leb w (length nm)) (is_name (take w nm)) h).1) in
     record { sound = rw r; numbers = refl; name = i.1; marks = refl }
 good d five (Blank c w) ns nm ms h p z e y =
     let i = placed p (replicate w 32) z c w e (length-replicate w 32) in
-    let r : text_at is_blanks (p ++ (replicate w 32 ++ z)) c w ≡ text.WellFormed = text_read is_blanks _ c w i.0 (rw i.1 (spaces_blank w)) in
+    let r : text_at is_blanks (p ++ (replicate w 32 ++ z)) c w ≡ true = text_read is_blanks _ c w i.0 (rw i.1 (spaces_blank w)) in
     record { sound = rw r; numbers = refl; name = refl; marks = refl }
 
 -- ---- any layout: reading what was written
@@ -225,21 +221,26 @@ two [] l = absurd (omega arith)
 two (x ∷ []) l = absurd (omega arith)
 two (x ∷ y ∷ s) l = refl
 
-number_by : (s : List ℕ) (c w : ℕ) (r : fields-number.Number) → number_at s c w ≡ r → number_refusal r ≡ 0 → Says s c w (value_of r)
-number_by s c w (number.Value v) e q = number_says s c w v e
-number_by s c w number.Refused e q = absurd (omega arith)
+number_by : (s : List ℕ) (c w : ℕ) (r : Option ℤ) → number_at s c w ≡ r → number_refusal r ≡ 0 → Says s c w (value_of r)
+number_by s c w (Some v) e q = number_says s c w v e
+number_by s c w None e q = absurd (omega arith)
 
-text_by : (r : fields-text.Text) → text_refusal r ≡ 0 → r ≡ text.WellFormed
-text_by text.WellFormed q = refl
-text_by text.Refused q = absurd (omega arith)
+text_by : (r : Bool) → text_refusal r ≡ 0 → r ≡ true
+text_by true q = refl
+text_by false q = absurd (omega arith)
 
 -- a code without fault says what is read, and its mark may stand
-code_by : (s : List ℕ) (c w : ℕ) (five : Bool) (r : codes-code.Code) → code_at s c w ≡ r → code_refusal (landed five r) ≡ 0
-    → CodeSays s c w (code_value (landed five r)) (code_mark (landed five r)) × (mark_fits five (code_mark (landed five r)) ≡ true)
-code_by s c w five (code.Value v zero) e q = (code_says s c w v 0 e, refl)
-code_by s c w true (code.Value v (suc m)) e q = (code_says s c w v (suc m) e, refl)
-code_by s c w false (code.Value v (suc m)) e q = absurd (omega arith)
-code_by s c w five code.Refused e q = absurd (omega arith)
+abbrev Landed : List ℕ → ℕ → ℕ → Bool → Option codes-code.Code → Type 0
+Landed s c w five r = CodeSays s c w (code_value r) (code_mark r) × (mark_fits five (code_mark r) ≡ true)
+
+code_by : (s : List ℕ) (c w : ℕ) (five : Bool) (r : Option codes-code.Code) → code_at s c w ≡ r → code_refusal (landed five r) ≡ 0
+    → Landed s c w five (landed five r)
+code_by s c w five (Some k) e q = by five (mark_fits five k.mark) refl q
+  where
+    by : (five t : Bool) → mark_fits five k.mark ≡ t → code_refusal (cond t (Some k) None) ≡ 0 → Landed s c w five (cond t (Some k) None)
+    by five true f q = (code_says s c w k.value k.mark e, f)
+    by five false f q = absurd (omega arith)
+code_by s c w five None e q = absurd (omega arith)
 
 -- a field without fault, read and written with any numbers ns, name bytes nm and marks ms behind its own
 record Kept (d : ℕ) (f : Field) (s : List ℕ) (ns : List ℤ) (nm ms : List ℕ) : Type 0 where
@@ -382,7 +383,7 @@ module _ (a b : Bool) where
 -- a layout that begins with letters and the layer code: what is written of it is of layer 5 exactly if its first number is 5
 pub layer_written : (d : ℕ) (five : Bool) (a b c : ℕ) (fs : List Field) (ns : List ℤ) (nm ms z : List ℕ)
     → fits five (Letters a b c ∷ Number 3 2 ∷ fs) ns nm ms ≡ true
-    → number_at (text_of d (Letters a b c ∷ Number 3 2 ∷ fs) ns nm ms ++ z) 3 2 ≡ number.Value (get_or ns 0 (pos 0))
+    → number_at (text_of d (Letters a b c ∷ Number 3 2 ∷ fs) ns nm ms ++ z) 3 2 ≡ Some (get_or ns 0 (pos 0))
 unfolding fits field_fits text_of field_text
 layer_written d five a b c fs ns nm ms z h =
     let v = get_or ns 0 (pos 0) in

@@ -6,6 +6,7 @@
 --   first_fault L s  the first refusal along the layout L, with its column
 --   reading_of k s    the answer to a record of kind k
 use Rattle.std.specs.Prelude.{Bool, true, false, cond, ◌&&◌, ◌||◌, List, [], ◌∷◌, ◌++◌, ℕ, zero, suc, eqb, ℤ, pos, length, get_or, replicate}
+use Rattle.std.specs.Prelude.{Option, Some, None}
 use Rattle.std.proofs.lemmas.List.Edits.{sets}
 use Rattle.fields.specs.Place.{bytes_at}
 use Rattle.fields.specs.Number.{number_at}
@@ -13,7 +14,6 @@ use Rattle.fields.specs.Text.{is_name, is_blanks, text_at}
 use Rattle.fields.specs.Answer.{number_refusal, value_of, text_refusal}
 use Rattle.codes.specs.Code.{code_at, code_refusal, code_value, code_mark}
 use Rattle.codes.specs.declared.Code as codes
-use Rattle.codes.specs.declared.Code.TheVariants as code
 use Rattle.permitted.specs.Permitted.{is}
 use Rattle.records.specs.declared.Kind.{Kind}
 use Rattle.records.specs.declared.Kind.TheVariants.{Mesh, Layer, Node, Line, Coordinates, Area, Loop}
@@ -25,9 +25,13 @@ use Rattle.records.specs.Layout.{layout_of, start_of}
 
 -- ---- one field
 
--- RULES 6.4: 3 for letters that are not those due. a and then b or c are due, and x, y stand there
+-- a and then b or c are due, and x, y stand there
+abbrev pub letters_right : ℕ → ℕ → ℕ → ℕ → ℕ → Bool
+letters_right a b c x y = eqb x a && (eqb y b || eqb y c)
+
+-- RULES 6.4: 3 for letters that are not those due
 abbrev pub letters_fault : ℕ → ℕ → ℕ → ℕ → ℕ → ℕ
-letters_fault a b c x y = cond (eqb x a && (eqb y b || eqb y c)) 0 3
+letters_fault a b c x y = cond (letters_right a b c x y) 0 3
 
 -- RULES 4.8: the letters of an H are 1 for H1 and 2 for H2
 unfoldable pub head_letters : List ℕ → ℕ
@@ -51,13 +55,16 @@ letters_in k s = cond (is_head k) (head_letters s) 0
 unfoldable pub in_layer_five : List ℕ → Bool
 in_layer_five s = is 5 (value_of (number_at s 3 2))
 
--- RULES 3.6: a mark stands in layer 5 alone
-abbrev pub landed : Bool → codes.Code → codes.Code
-landed five (code.Value v zero) = code.Value v 0
-landed five (code.Value v (suc m)) = cond five (code.Value v (suc m)) code.Refused
-landed five code.Refused = code.Refused
+-- RULES 3.6, 9.5: a mark stands in layer 5 alone
+abbrev pub mark_fits : Bool → ℕ → Bool
+mark_fits five zero = true
+mark_fits five (suc m) = five
 
-unfoldable pub code_in : List ℕ → ℕ → ℕ → codes.Code
+abbrev pub landed : Bool → Option codes.Code → Option codes.Code
+landed five (Some k) = cond (mark_fits five k.mark) (Some k) None
+landed five None = None
+
+unfoldable pub code_in : List ℕ → ℕ → ℕ → Option codes.Code
 code_in s c w = landed (in_layer_five s) (code_at s c w)
 
 -- RULES 3.5: an ill-formed field is 5

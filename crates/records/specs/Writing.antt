@@ -15,7 +15,7 @@ use Rattle.records.specs.declared.Field.{Field}
 use Rattle.records.specs.declared.Field.TheVariants.{End, Letters, Number, Code, Name, Blank}
 use Rattle.records.specs.declared.Record.{Record}
 use Rattle.records.specs.Layout.{layout_of, numbers_of, bytes_of, marks_of}
-use Rattle.records.specs.Reading.{is_head}
+use Rattle.records.specs.Reading.{is_head, mark_fits}
 
 -- ---- one field, of the numbers, the name bytes and the marks that are left
 
@@ -30,11 +30,6 @@ field_text letters (Number c w) ns nm ms = spell w (get_or ns 0 (pos 0))
 field_text letters (Code c w) ns nm ms = spell_code w (get_or ns 0 (pos 0)) (get_or ms 0 0)
 field_text letters (Name c w) ns nm ms = take w nm
 field_text letters (Blank c w) ns nm ms = replicate w 32
-
--- RULES 3.6, 9.5: a mark stands in layer 5 alone
-abbrev pub mark_fits : Bool → ℕ → Bool
-mark_fits five zero = true
-mark_fits five (suc m) = five
 
 -- RULES 9.5: a value fits its field, a name is two-byte characters
 unfoldable pub field_fits : Bool → Field → List ℤ → List ℕ → List ℕ → Bool

@@ -8,15 +8,14 @@
 
 ghost use Rattle.std.specs.Prelude.{◌≡◌, ◌≤◌, get_or};
 ghost use Rattle.records.specs.Layout.{mesh_layout, layer_layout, node_layout, line_layout, coordinates_layout, area_layout, loop_layout, layout_of};
-ghost use Rattle.records.specs.Reading.{letters_fault, head_letters, is_head, letters_in, in_layer_five, code_in};
+ghost use Rattle.records.specs.Reading.{letters_right, head_letters, is_head, letters_in, in_layer_five, code_in};
 ghost use Rattle.records.specs.View.{record_of, number_in};
 ghost use Rattle.records.specs.Columns.{slot_start, slot_in};
 
 use codes::Code;
-use fields::Number;
 
 // The seven kinds: M, H, N, L, coordinates, A and loop.
-#[derive(Clone, Copy)]
+#[derive(Clone, Copy, Debug, PartialEq, Eq)]
 pub enum Kind {
     Mesh,
     Layer,
@@ -29,7 +28,7 @@ pub enum Kind {
 
 // A field of a layout, with its first column and its width: a number, a code, a name, or blanks; or type
 // letters, the first and the two of which either may stand second; or no field.
-#[derive(Clone, Copy)]
+#[derive(Clone, Copy, Debug, PartialEq, Eq)]
 pub enum Field {
     End,
     Letters(u8, u8, u8),
@@ -289,52 +288,32 @@ pub fn field_of(kind: Kind, j: usize) -> Field
 
 // ---- type letters
 
-// Letter `a` and then `b` or `c` are due, and `x`, `y` stand there: 0 where they are right, else 3.
-pub fn letters_fault(a: u8, b: u8, c: u8, x: u8, y: u8) -> u32
-    ensures { result ≡ letters_fault a b c x y }
+// Letter `a` and then `b` or `c` are due, and `x`, `y` stand there: whether they are right.
+pub fn letters_right(a: u8, b: u8, c: u8, x: u8, y: u8) -> bool
+    ensures { result ≡ letters_right a b c x y }
 {
-    if (x == a) & ((y == b) | (y == c)) {
-        return 0;
-    }
-    3
+    x == a && (y == b || y == c)
 }
 
 // The letters of an H: 1 for H1, an unstructured layer, and 2 for any other.
 pub fn head_letters(s: &[u8]) -> u32
     ensures { result ≡ head_letters s.now }
 {
-    if s.len() < 2 {
-        return 2;
-    }
-    if s[1] == 49 {
-        return 1;
-    }
-    2
+    if s.get(1) == Some(&b'1') { 1 } else { 2 }
 }
 
 // Whether the kind is H, which has letters of two sorts.
 pub fn is_head(kind: Kind) -> bool
     ensures { result ≡ is_head kind }
 {
-    match kind {
-        Kind::Mesh => false,
-        Kind::Layer => true,
-        Kind::Node => false,
-        Kind::Line => false,
-        Kind::Coordinates => false,
-        Kind::Area => false,
-        Kind::Loop => false,
-    }
+    matches!(kind, Kind::Layer)
 }
 
 // The letters of a record of the kind: 1 or 2 of an H, 0 of any other.
 pub fn letters_in(kind: Kind, s: &[u8]) -> u32
     ensures { result ≡ letters_in kind s.now }
 {
-    if is_head(kind) {
-        return head_letters(s);
-    }
-    0
+    if is_head(kind) { head_letters(s) } else { 0 }
 }
 
 // ---- codes
@@ -343,8 +322,7 @@ pub fn letters_in(kind: Kind, s: &[u8]) -> u32
 fn in_layer_five(s: &[u8]) -> bool
     ensures { result ≡ in_layer_five s.now }
 {
-    let answer = numerals::read_number(s, 3, 2);
-    let Number::Value(v) = answer else {
+    let Some(v) = numerals::read_number(s, 3, 2) else {
         return false;
     };
     permitted::is(v, 5)
@@ -352,20 +330,14 @@ fn in_layer_five(s: &[u8]) -> bool
 
 // Reads the code of `width` columns from `column` on of a record. " 0000", which has a mark, is taken in
 // layer 5 and refused in any other.
-pub fn read_code(s: &[u8], column: usize, width: usize) -> Code
+pub fn read_code(s: &[u8], column: usize, width: usize) -> Option<Code>
     ensures { result ≡ code_in s.now column width }
 {
-    let answer = codes::read_code(s, column, width);
-    let Code::Value(v, mark) = answer else {
-        return Code::Refused;
-    };
-    if mark == 0 {
-        return Code::Value(v, mark);
+    let code = codes::read_code(s, column, width)?;
+    if code.mark != 0 && !in_layer_five(s) {
+        return None;
     }
-    if !in_layer_five(s) {
-        return Code::Refused;
-    }
-    Code::Value(v, mark)
+    Some(code)
 }
 
 // ---- a record of a file
@@ -375,15 +347,11 @@ pub fn read_code(s: &[u8], column: usize, width: usize) -> Code
 pub fn record_view(file: &[u8], k: usize) -> &[u8]
     ensures { result.now ≡ record_of file.now k }
 {
-    if k == 0 {
-        return &file[0..0];
-    }
-    if file.len() / 74 < k {
-        return &file[0..0];
+    if k == 0 || file.len() / 74 < k {
+        return &[];
     }
     let e = k * 74;
-    let a = e - 74;
-    &file[a..e]
+    &file[e - 74..e]
 }
 
 // The number in the `width` columns from `column` on of record `k` of a file, and 0 where there is
@@ -391,19 +359,10 @@ pub fn record_view(file: &[u8], k: usize) -> &[u8]
 fn number_at(file: &[u8], k: usize, column: usize, width: usize) -> i32
     ensures { result ≡ number_in file.now k column width }
 {
-    if k == 0 {
+    if k == 0 || file.len() / 74 < k {
         return 0;
     }
-    if file.len() / 74 < k {
-        return 0;
-    }
-    if column == 0 {
-        return 0;
-    }
-    if 74 < width {
-        return 0;
-    }
-    if 74 - width < column - 1 {
+    if column == 0 || 74 < width || 74 - width < column - 1 {
         return 0;
     }
     let at = k * 74 - 74 + (column - 1);
@@ -421,13 +380,10 @@ pub fn value_at(file: &[u8], k: usize, c: Columns) -> i32
 pub fn slot_column(row: Slots, i: usize) -> usize
     ensures { (result ≡ slot_start row.0 row.1 row.2 i) × (result ≤ 65280) }
 {
-    let start = row.0 as usize;
-    let step = row.1 as usize;
-    let count = row.2 as usize;
-    if count <= i {
+    if usize::from(row.2) <= i {
         return 0;
     }
-    start + step * i
+    usize::from(row.0) + usize::from(row.1) * i
 }
 
 // The number in slot `i` of a row of record `k` of a file, counted from 0, and 0 where there is none.
