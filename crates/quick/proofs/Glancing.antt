@@ -100,12 +100,9 @@ module _ {left i : ℕ} {t : List ℕ} (g : Glancing left t i) (l : i < 14) wher
       small true n k m = omega arith
       small false n k m = omega arith
 
--- behind all of them the blank is left, and then the layout ends
+-- behind all of them the blank is left, and then the layout ends: the blank decides
 module _ {left : ℕ} {t : List ℕ} (g : Glancing left t 14) where
-  pub all_glanced : text_at is_blanks t 71 2 ≡ true → (row : ℕ) → true ≡ is_fine (first_broken (block 2 row (checks_of (Coordinates left) t)))
+  pub last_glanced : {b : Bool} → b ≡ text_at is_blanks t 71 2 → (row : ℕ) → b ≡ is_fine (first_broken (block 2 row (checks_of (Coordinates left) t)))
   unfolding layout_of
-  all_glanced e row = ap is_fine (ends (blank_next (g.going row) 71 2 refl refl e) refl)
-
-  pub blank_broken : text_at is_blanks t 71 2 ≡ false → (row : ℕ) → false ≡ is_fine (first_broken (block 2 row (checks_of (Coordinates left) t)))
-  unfolding layout_of
-  blank_broken e row = ap is_fine (blank_ill (g.going row) 71 2 refl refl e)
+  last_glanced {true} e row = ap is_fine (ends (blank_next (g.going row) 71 2 refl e refl) refl)
+  last_glanced {false} e row = ap is_fine (blank_ill (g.going row) 71 2 refl e refl)

@@ -1,10 +1,6 @@
 -- `quick::fine_coordinates` meets its contract: the loop goes on as `Glancing` says, and where it leaves the record is broken. Assumes nothing.
-use Prim.Native.Nat.{◌-◌, ◌≤◌}
 use Rattle.quick.proofs.Glancing.{Glancing}
 use Rattle.quick.proofs.fine_coordinates.Given as goal
 
 abbrev pub invariant-loop-i : goal.invariant-loop-i
-invariant-loop-i l = (l.i ≤ 14) × Glancing l.left l.s l.i
-
-abbrev pub decreases-loop-i : goal.decreases-loop-i
-decreases-loop-i l = 14 - l.i
+invariant-loop-i l = Glancing l.left l.s l.i
