@@ -25,4 +25,4 @@ loop-i-preserved c =
 pub returns : goal.returns
 returns c =
     let z : c.loop-i.i ≡ 14 = omega (arith, c.loop-i.auto.i-end, c.loop-i-test.false) in
-    last_glanced (rw z at c.loop-i.invariant) c.read_blank.ensures
+    last_glanced (rw z at c.loop-i.invariant) _ c.read_blank.ensures
