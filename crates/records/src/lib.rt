@@ -296,6 +296,7 @@ pub fn letters_right(a: u8, b: u8, c: u8, x: u8, y: u8) -> bool
 }
 
 // The letters of an H: 1 for H1, an unstructured layer, and 2 for any other.
+#[tactic(auto, unfolding(crate::specs::Reading::head_letters))]
 pub fn head_letters(s: &[u8]) -> u32
     ensures { result ≡ head_letters s.now }
 {
@@ -319,6 +320,7 @@ pub fn letters_in(kind: Kind, s: &[u8]) -> u32
 // ---- codes
 
 // Whether a record's layer code, in columns 3-4, reads 5.
+#[tactic(auto, unfolding(crate::specs::Reading::in_layer_five))]
 fn in_layer_five(s: &[u8]) -> bool
     ensures { result ≡ in_layer_five s.now }
 {
@@ -330,6 +332,7 @@ fn in_layer_five(s: &[u8]) -> bool
 
 // Reads the code of `width` columns from `column` on of a record. " 0000", which has a mark, is taken in
 // layer 5 and refused in any other.
+#[tactic(auto, unfolding(crate::specs::Reading::code_in))]
 pub fn read_code(s: &[u8], column: usize, width: usize) -> Option<Code>
     ensures { result ≡ code_in s.now column width }
 {
