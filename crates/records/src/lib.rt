@@ -28,7 +28,7 @@ pub enum Kind {
 
 // A field of a layout, with its first column and its width: a number, a code, a name, or blanks; or type
 // letters, the first and the two of which either may stand second; or no field.
-#[derive(Clone, Copy, Debug, PartialEq, Eq)]
+#[derive(Clone, Copy)]
 pub enum Field {
     End,
     Letters(u8, u8, u8),
@@ -132,14 +132,11 @@ pub struct Record {
     pub letters: u32,
 }
 
-// What reading finds: a refusal's number with its place, record and column, or 0 at 0, 0; and the
-// value.
-#[derive(Clone, Copy)]
-pub struct Reading {
+// Why a record that is read alone is refused: the refusal's number, and the column (RULES 9.4).
+#[derive(Clone, Copy, Debug, PartialEq, Eq)]
+pub struct Misread {
     pub number: u32,
-    pub place: u32,
     pub column: usize,
-    pub value: Record,
 }
 
 // ---- the layouts, in column order
@@ -272,6 +269,7 @@ fn loop_field(j: usize) -> Field
 }
 
 // Field `j` of a record of the kind, counted from 0; `End` past the last.
+#[tactic(auto, unfolding(crate::specs::Layout::layout_of))]
 pub fn field_of(kind: Kind, j: usize) -> Field
     ensures { result ≡ get_or (layout_of kind) j Field.End }
 {
