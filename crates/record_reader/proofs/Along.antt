@@ -1,38 +1,40 @@
 -- Reading along a layout, one field at a time: what the loop of `read_fields` keeps, over any layout. Assumes nothing.
-use mathlib.Core.Bool.{true}
-use mathlib.Core.List.{List, [], ◌∷◌, ◌++◌}
+use mathlib.Core.Bool.{Bool, true, false}
+use mathlib.Core.List.{List, [], ◌++◌, append_assoc}
 use mathlib.Core.Path.{◌≡◌, refl, sym, ◌∙◌}
-use Prim.Native.Nat.{ℕ, zero, suc, ◌+◌, ◌-◌, ◌≤◌, ◌<◌}
-use native.Mathlib.Nat.{le_of_lt}
-use native.Mathlib.Numerals.{add-one}
+use Prim.Native.Nat.{ℕ, zero, suc, ◌+◌, ◌-◌, ◌≤◌}
 use native.Mathlib.Omega.{arith}
 use lib.IntN.{ℤ}
 use lib.ListN.{length, get_or, take, drop, set, drop_of_length-le, length-drop}
-use lib.Seq.{sets, take-suc, length-take-le}
+use lib.Seq.{sets, sets-eq, drop-drop, length-take-le}
 use Rattle.fields.specs.Number.{number_at}
 use Rattle.fields.specs.Place.{is_inside}
 use Rattle.fields.specs.Text.{is_blanks, is_name, text_at}
 use Rattle.codes.specs.declared.Code as codes
-use Rattle.codes.specs.declared.Code.TheVariants as code
-use Rattle.fields.specs.declared.Number as numbers
-use Rattle.fields.specs.declared.Number.TheVariants as number
-use Rattle.fields.specs.declared.Text as texts
-use Rattle.fields.specs.declared.Text.TheVariants as text
+use Rattle.std.specs.Prelude.{Option, Some, None, Ok}
+use borrow.Rule.Slice.PartMut.{put_mid}
 use Rattle.records.specs.Layout.{layout_of, start_of, numbers_of, bytes_of, marks_of}
-use Rattle.records.specs.Reading.{letters_fault, letters_in, code_in, fault_of, numbers_in, name_in, marks_in, over, Fault, no_fault}
-use Rattle.records.specs.Reading.{fault_at, first_fault, zeros, no_name, unmarked, accepted, refused_at, fields_of}
+use Rattle.records.specs.Reading.{letters_right, letters_in, code_in, fault_of, numbers_in, name_in, marks_in, over, Fault, no_fault}
+use Rattle.records.specs.Reading.{fault_at, first_fault, zeros, no_name, unmarked, refused_at, fields_of}
 use Rattle.records.specs.declared.Field.TheVariants.{End, Letters, Number, Code, Name, Blank}
 use Rattle.records.specs.declared.Field.{Field}
 use Rattle.records.specs.declared.Kind.{Kind}
 use Rattle.fields.proofs.FieldLaws.{text_formed}
-use Rattle.fields.proofs.Places.{part_is, bytes_length}
+use Rattle.fields.proofs.Places.{part_is, bytes_length, inside_bounds}
 use Rattle.records.proofs.Stores.{sets_append}
 use Rattle.records.proofs.Layouts.{Ahead, ahead, Room, split, room_ahead, next_ahead, is_field, off_layout}
 
--- ---- runs of stores
+-- ---- a name's bytes: the part of s that the code cuts out, and its copy
 
-pub sets_next : (l : List ℕ) (m : ℕ) (p : List ℕ) (i : ℕ) → i < length p → sets l m (take (i + 1) p) ≡ set (sets l m (take i p)) (m + i) (get_or p i 0)
-sets_next l m p i h = rw (add-one, take-suc p i 0 h) (sets_append l m (take i p) (get_or p i 0 ∷ []) ∙ rw (length-take-le i p (le_of_lt h)))
+part_length : (s : List ℕ) (c w : ℕ) → c - 1 + w ≤ length s → length (take (c - 1 + w - (c - 1)) (drop (c - 1) s)) ≡ w
+part_length s c w h =
+    let e : c - 1 + w - (c - 1) ≡ w = omega arith in
+    rw e (length-take-le w (drop (c - 1) s) (rw length-drop (omega arith)))
+
+pub sets_part : (l : List ℕ) (m e : ℕ) (p : List ℕ) → m ≤ e → e ≤ length l → length p ≡ e - m → put_mid m (e - m) l p ≡ sets l m p
+sets_part l m e p h k n =
+    let i : m + length p ≤ length l = omega arith in
+    sym (sets-eq p l m i ∙ rw (append_assoc, n, drop-drop))
 
 -- ---- one field
 
@@ -104,76 +106,81 @@ module _ {L : List Field} {s : List ℕ} {ns : List ℤ} {nm ms : List ℕ} {n m
 
 -- ---- the answers, by the sort of the field
 
-bad : (k : Kind) (s : List ℕ) (x c : ℕ) (p : Fault) → first_fault (layout_of k) s ≡ fault_at x c p → (x ≡ 0 → ⊥) → refused_at k x c ≡ fields_of k s
+bad : (k : Kind) (s : List ℕ) (x c : ℕ) (p : Fault) → first_fault (layout_of k) s ≡ fault_at x c p → (x ≡ 0 → ⊥) → refused_at x c ≡ fields_of k s
 unfolding fields_of
 bad k s zero c p e h = absurd (h refl)
 bad k s (suc x) c p e h = rw e
 
 module _ (k : Kind) {s : List ℕ} {ns : List ℤ} {nm ms : List ℕ} {n m i j : ℕ} (g : Going (layout_of k) s ns nm ms n m i j) where
-  refuse : (f : Field) → f ≡ get_or (layout_of k) j End → is_field f ≡ true → (x : ℕ) → fault_of f s ≡ x → (x ≡ 0 → ⊥) → refused_at k x (start_of f) ≡ fields_of k s
+  refuse : (f : Field) → f ≡ get_or (layout_of k) j End → is_field f ≡ true → (x : ℕ) → fault_of f s ≡ x → (x ≡ 0 → ⊥) → refused_at x (start_of f) ≡ fields_of k s
   unfolding first_fault
   refuse f e y x q h = bad k s x (start_of f) (first_fault (drop (j + 1) (layout_of k)) s) (g.fault ∙ rw (split (layout_of k) j f e y, q)) h
 
   -- the layout's end
   pub accept : End ≡ get_or (layout_of k) j End → {l : ℕ} → l ≡ letters_in k s
-      → accepted (record { kind = k; numbers = ns; name = nm; marks = ms; letters = l }) ≡ fields_of k s
+      → Ok (record { kind = k; numbers = ns; name = nm; marks = ms; letters = l }) ≡ fields_of k s
   unfolding fields_of
   accept e y =
       let d = all_read g e in
       rw (d.0, d.1, d.2, d.3, y)
 
-  module _ (a b c : ℕ) (e : Letters a b c ≡ get_or (layout_of k) j End) {r : ℕ} (q : r ≡ letters_fault a b c (get_or s 0 0) (get_or s 1 0)) where
-    pub letters_refused : (r ≡ 0 → ⊥) → refused_at k r 1 ≡ fields_of k s
+  module _ (a b c : ℕ) (e : Letters a b c ≡ get_or (layout_of k) j End) {r : Bool} (q : r ≡ letters_right a b c (get_or s 0 0) (get_or s 1 0)) where
+    pub letters_refused : r ≡ false → refused_at 3 1 ≡ fields_of k s
     unfolding fault_of
-    letters_refused h = refuse (Letters a b c) e refl r (sym q) h
+    letters_refused z = refuse (Letters a b c) e refl 3 (rw (← q, z)) (λ x. omega arith)
 
-    pub letters_next : r ≡ 0 → Going (layout_of k) s ns nm ms n m i (j + 1)
+    pub letters_next : r ≡ true → Going (layout_of k) s ns nm ms n m i (j + 1)
     unfolding fault_of numbers_in name_in marks_in
-    letters_next z = next g (Letters a b c) e refl n m i (omega arith) (omega arith) (omega arith) refl (sym q ∙ z)
+    letters_next z = next g (Letters a b c) e refl n m i (omega arith) (omega arith) (omega arith) refl (rw (← q, z))
 
-  module _ (c w : ℕ) (e : Number c w ≡ get_or (layout_of k) j End) {r : numbers.Number} (q : r ≡ number_at s c w) where
-    pub number_refused : r ≡ number.Refused → refused_at k 5 c ≡ fields_of k s
+  module _ (c w : ℕ) (e : Number c w ≡ get_or (layout_of k) j End) {r : Option ℤ} (q : r ≡ number_at s c w) where
+    pub number_refused : r ≡ None → refused_at 5 c ≡ fields_of k s
     unfolding fault_of
     number_refused z = refuse (Number c w) e refl 5 (rw (← q, z)) (λ x. omega arith)
 
-    pub number_next : (v : ℤ) → r ≡ number.Value v → Going (layout_of k) s (set ns n v) nm ms (n + 1) m i (j + 1)
+    pub number_next : (v : ℤ) → r ≡ Some v → Going (layout_of k) s (set ns n v) nm ms (n + 1) m i (j + 1)
     unfolding fault_of numbers_in name_in marks_in
     number_next v z = rw (← q, z) at (next g (Number c w) e refl (n + 1) m i refl (omega arith) (omega arith) refl (rw (← q, z)))
 
-  module _ (c w : ℕ) (e : Code c w ≡ get_or (layout_of k) j End) {r : codes.Code} (q : r ≡ code_in s c w) where
-    pub code_refused : r ≡ code.Refused → refused_at k 5 c ≡ fields_of k s
+  module _ (c w : ℕ) (e : Code c w ≡ get_or (layout_of k) j End) {r : Option codes.Code} (q : r ≡ code_in s c w) where
+    pub code_refused : r ≡ None → refused_at 5 c ≡ fields_of k s
     unfolding fault_of
     code_refused z = refuse (Code c w) e refl 5 (rw (← q, z)) (λ x. omega arith)
 
-    pub code_next : (v : ℤ) (x : ℕ) → r ≡ code.Value v x → Going (layout_of k) s (set ns n v) nm (set ms i x) (n + 1) m (i + 1) (j + 1)
+    pub code_next : (x : codes.Code) → r ≡ Some x → Going (layout_of k) s (set ns n x.value) nm (set ms i x.mark) (n + 1) m (i + 1) (j + 1)
     unfolding fault_of numbers_in name_in marks_in
-    code_next v x z = rw (← q, z) at (next g (Code c w) e refl (n + 1) m (i + 1) refl (omega arith) refl refl (rw (← q, z)))
+    code_next x z = rw (← q, z) at (next g (Code c w) e refl (n + 1) m (i + 1) refl (omega arith) refl refl (rw (← q, z)))
 
-  module _ (c w : ℕ) (e : Name c w ≡ get_or (layout_of k) j End) {r : texts.Text} (q : r ≡ text_at is_name s c w) where
-    pub name_refused : r ≡ text.Refused → refused_at k 5 c ≡ fields_of k s
+  module _ (c w : ℕ) (e : Name c w ≡ get_or (layout_of k) j End) {r : Bool} (q : r ≡ text_at is_name s c w) where
+    pub name_refused : r ≡ false → refused_at 5 c ≡ fields_of k s
     unfolding fault_of
     name_refused z = refuse (Name c w) e refl 5 (rw (← q, z)) (λ x. omega arith)
 
-    pub name_inside : r ≡ text.WellFormed → is_inside s c w ≡ true
+    name_inside : r ≡ true → is_inside s c w ≡ true
     name_inside z = (text_formed is_name s c w (sym q ∙ z)).0
 
-    pub name_next : r ≡ text.WellFormed → Going (layout_of k) s ns (sets nm m (take (c - 1 + w - (c - 1)) (drop (c - 1) s))) ms n (m + w) i (j + 1)
+    -- a well-formed name lies inside
+    pub name_bounds : r ≡ true → (1 ≤ c) × (c - 1 + w ≤ length s)
+    name_bounds z = inside_bounds s c w (name_inside z)
+
+    name_stored : r ≡ true → Going (layout_of k) s ns (sets nm m (take (c - 1 + w - (c - 1)) (drop (c - 1) s))) ms n (m + w) i (j + 1)
     unfolding fault_of numbers_in name_in marks_in
-    name_next z =
+    name_stored z =
         rw (part_is s c w)
         (next g (Name c w) e refl n (m + w) i (omega arith) refl (omega arith) (bytes_length s c w (name_inside z)) (rw (← q, z)))
 
-  module _ (c w : ℕ) (e : Blank c w ≡ get_or (layout_of k) j End) {r : texts.Text} (q : r ≡ text_at is_blanks s c w) where
-    pub blank_refused : r ≡ text.Refused → refused_at k 5 c ≡ fields_of k s
+    pub name_next : r ≡ true → length nm ≡ 40
+        → Going (layout_of k) s ns (put_mid m (m + w - m) nm (take (c - 1 + w - (c - 1)) (drop (c - 1) s))) ms n (m + w) i (j + 1)
+    name_next z h =
+        let p : length (take (c - 1 + w - (c - 1)) (drop (c - 1) s)) ≡ w = part_length s c w (name_bounds z).1 in
+        rw (sets_part nm m (m + w) (take (c - 1 + w - (c - 1)) (drop (c - 1) s)) (omega arith) (omega (arith, room g (Name c w) e refl)) (omega arith))
+        (name_stored z)
+
+  module _ (c w : ℕ) (e : Blank c w ≡ get_or (layout_of k) j End) {r : Bool} (q : r ≡ text_at is_blanks s c w) where
+    pub blank_refused : r ≡ false → refused_at 5 c ≡ fields_of k s
     unfolding fault_of
     blank_refused z = refuse (Blank c w) e refl 5 (rw (← q, z)) (λ x. omega arith)
 
-    pub blank_next : r ≡ text.WellFormed → Going (layout_of k) s ns nm ms n m i (j + 1)
+    pub blank_next : r ≡ true → Going (layout_of k) s ns nm ms n m i (j + 1)
     unfolding fault_of numbers_in name_in marks_in
     blank_next z = next g (Blank c w) e refl n m i (omega arith) (omega arith) (omega arith) refl (rw (← q, z))
-
--- the part that the code cuts out for a name
-pub part_length : (s : List ℕ) (c w : ℕ) → c - 1 + w ≤ length s → length (take (c - 1 + w - (c - 1)) (drop (c - 1) s)) ≡ w
-part_length s c w h =
-    let e : c - 1 + w - (c - 1) ≡ w = omega arith in
-    rw e (length-take-le w (drop (c - 1) s) (rw length-drop (omega arith)))

@@ -1,7 +1,7 @@
 -- A record's codes: what the steps of the code found, and what a code is to whoever looks at values alone. Assumes nothing.
 use mathlib.Core.Bool.{Bool, true, false}
 use mathlib.Core.List.{List}
-use mathlib.Core.Path.{◌≡◌, refl, sym, ap, ◌∙◌}
+use mathlib.Core.Path.{◌≡◌, refl, sym, ◌∙◌}
 use Prim.Native.Nat.{ℕ, zero, suc}
 use lib.IntN.{ℤ}
 use Rattle.fields.specs.Answer.{value_of}
@@ -10,7 +10,6 @@ use Rattle.std.specs.Prelude.{Option, Some, None}
 use Rattle.codes.specs.Code.{code_at, code_value, code}
 use Rattle.codes.specs.declared.Code.{Code}
 use Rattle.codes.proofs.CodeLaws.{code_value_lem, marked_zero}
-use Rattle.permitted.specs.Permitted.{is}
 use Rattle.records.specs.Reading.{in_layer_five, landed, code_in}
 use Rattle.records.specs.View.{number_in}
 use Rattle.records.specs.Columns.{Span, number_on, code_on}

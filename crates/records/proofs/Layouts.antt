@@ -9,7 +9,7 @@ use native.Mathlib.Numerals.{add-one}
 use native.Mathlib.Omega.{arith}
 use lib.Dec.{ltb, eqb}
 use lib.ListN.{length, get_or, drop, get_or-eq_default}
-use lib.Seq.{drop-cons, get_or-drop}
+use lib.Seq.{drop-cons}
 use borrow.Author.Tests.{ltb-true, ltb-false, eqb-true}
 use types.Run.{OneOf}
 use Rattle.records.specs.Layout.{row, coordinates_layout, layout_of, start_of, width_of, numbers_of, bytes_of, marks_of, total}
@@ -31,24 +31,12 @@ pub above : (n j : ℕ) → Passed n j → n ≤ j
 above zero j r = omega arith
 above (suc n) j r = beyond n j (above n j r.0) r.1
 
--- past the last field there is none
-pub past_end : (L : List Field) (j : ℕ) → length L ≤ j → End ≡ get_or L j End
-past_end L j h = sym (get_or-eq_default L End h)
-
 row_at : (c w n : ℕ) (fs : List Field) (i : ℕ) → i < n → get_or (row c w n ++ fs) i End ≡ Number (c + w * i) w
 row_at c w zero fs i h = absurd (omega arith)
 row_at c w (suc n) fs zero h = rw (mul-zero, add-zero)
 row_at c w (suc n) fs (suc i) h =
     let e : c + w + w * i ≡ c + (w * i + w) = omega arith in
     row_at (c + w) w n fs i (omega arith) ∙ rw (mul-suc, e)
-
--- a number of a row that starts behind the first d fields
-pub in_row : (L : List Field) (d c w n : ℕ) (fs : List Field) (j : ℕ)
-    → drop d L ≡ row c w n ++ fs → d ≤ j → j - d < n → Number (c + w * (j - d)) w ≡ get_or L j End
-in_row L d c w n fs j e l h =
-    let z : d + (j - d) ≡ j = omega arith in
-    let g : get_or (drop d L) (j - d) End ≡ get_or L j End = rw z at (get_or-drop d L (j - d) End) in
-    sym (sym g ∙ rw e (row_at c w n fs (j - d) h))
 
 -- number j of a coordinate record
 pub coordinate_laid : (j : ℕ) → j < 14 → Number (1 + 5 * j) 5 ≡ get_or coordinates_layout j End

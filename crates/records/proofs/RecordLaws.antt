@@ -13,7 +13,7 @@ use borrow.Author.Tests.{eq-eqb, eqb-true}
 use Rattle.records.specs.Layout.{layout_of, start_of, numbers_of, bytes_of, marks_of, total}
 use Rattle.records.specs.Reading.{letters_fault, head_letters, letters_in, in_layer_five, numbers_in, name_in, marks_in, over, first_fault}
 use Rattle.records.specs.Reading.{zeros, no_name, unmarked}
-use Rattle.records.specs.Reading.{Fault, code_in, fault_of, fault_at, accepted, refused_at, value_in, fields_by, fields_of, reading_of}
+use Rattle.records.specs.Reading.{Fault, code_in, fault_of, fault_at, refused_at, value_in, fields_by, fields_of, reading_of}
 use Rattle.records.specs.Writing.{second_letter, field_text, text_of, fits, record_bytes, of_layer_five, fields_fit, letters_fit, fits_all}
 use Rattle.permitted.specs.Permitted.{is_zero, is}
 use Rattle.records.specs.declared.Kind.{Kind}
@@ -21,12 +21,12 @@ use Rattle.records.specs.declared.Kind.TheVariants.{Mesh, Layer, Node, Line, Coo
 use Rattle.fields.specs.Answer.{value_of, number_refusal, text_refusal}
 use Rattle.fields.specs.Number.{number_at}
 use Rattle.fields.specs.Text.{is_name, is_blanks, text_at}
-use Rattle.std.specs.Prelude.{Option, Some, None}
+use Rattle.std.specs.Prelude.{Option, Some, None, Result, Ok, Err}
 use Rattle.codes.specs.Code.{code_refusal}
 use Rattle.codes.specs.declared.Code as codes-code
 use Rattle.records.specs.declared.Field.{Field}
 use Rattle.records.specs.declared.Field.TheVariants.{End, Letters, Number, Code, Name, Blank}
-use Rattle.records.specs.declared.Reading.{Reading}
+use Rattle.records.specs.declared.Misread.{Misread}
 use Rattle.records.specs.declared.Record.{Record}
 use Rattle.fields.proofs.Places.{both}
 use Rattle.records.proofs.Layouts.{tiled, tiles_width, fitting}
@@ -41,25 +41,15 @@ pub record Sized (r : Record) : Type 0 where
   pub marks : length r.marks ≡ 2
 
 -- the answer by its tests and by the number and the column of the first fault
-abbrev answer : Kind → List ℕ → Bool → Bool → Bool → ℕ → ℕ → Reading
-answer k s t u v n c = cond t (cond u (cond v (fields_by k s n c) (refused_at k 2 74)) (refused_at k 2 73)) (refused_at k 1 1)
+abbrev Answer : Type 0
+Answer = Result Record Misread
 
-sized_by : (k : Kind) (s : List ℕ) (t u v : Bool) (n c : ℕ) → Sized (answer k s t u v n c).value
-sized_by k s true true true zero c = record {
-  numbers = length-sets zeros 0 (over numbers_in (layout_of k) s);
-  name = length-sets no_name 0 (over name_in (layout_of k) s);
-  marks = length-sets unmarked 0 (over marks_in (layout_of k) s);
-}
-sized_by k s true true true (suc n) c = record { numbers = refl; name = refl; marks = refl }
-sized_by k s true true false n c = record { numbers = refl; name = refl; marks = refl }
-sized_by k s true false v n c = record { numbers = refl; name = refl; marks = refl }
-sized_by k s false u v n c = record { numbers = refl; name = refl; marks = refl }
+abbrev answer : Kind → List ℕ → Bool → Bool → Bool → ℕ → ℕ → Answer
+answer k s t u v n c = cond t (cond u (cond v (fields_by k s n c) (refused_at 2 74)) (refused_at 2 73)) (refused_at 1 1)
 
--- what is read has all its entries
-pub value_sized : (k : Kind) (s : List ℕ) → Sized (reading_of k s).value
-unfolding reading_of fields_of
-value_sized k s =
-    sized_by k s (eqb (length s) 74) (eqb (get_or s 72 0) 13) (eqb (get_or s 73 0) 10) (first_fault (layout_of k) s).number (first_fault (layout_of k) s).column
+-- a value is no refusal
+either : {m : Misread} {r : Record} → ◌≡◌ {A = Answer} (Err m) (Ok r) → ⊥
+either e = cc
 
 -- what fits is 72 columns
 pub columns_length : (d : ℕ) (five : Bool) (k : Kind) (ns : List ℤ) (nm ms : List ℕ) → fits five (layout_of k) ns nm ms ≡ true
@@ -154,7 +144,7 @@ lettered Loop s = tt
 -- of a record's parts
 read_back : (k : Kind) (ns : List ℤ) (nm ms : List ℕ) (d : ℕ) → length ns ≡ 16 → length nm ≡ 40 → length ms ≡ 2 → letters_fit k d ≡ true
     → fits (of_layer_five ns) (layout_of k) ns nm ms ≡ true
-    → reading_of k (text_of d (layout_of k) ns nm ms ++ (13 ∷ 10 ∷ [])) ≡ accepted (record { kind = k; numbers = ns; name = nm; marks = ms; letters = d })
+    → reading_of k (text_of d (layout_of k) ns nm ms ++ (13 ∷ 10 ∷ [])) ≡ Ok (record { kind = k; numbers = ns; name = nm; marks = ms; letters = d })
 unfolding reading_of fields_of
 read_back k ns nm ms d i j o y g =
     let t = text_of d (layout_of k) ns nm ms in
@@ -174,7 +164,7 @@ read_back k ns nm ms d i j o y g =
     rw (eq-eqb _ 74 n, eq-eqb _ 13 r, eq-eqb _ 10 f, b.sound, b.numbers, b.name, b.marks, u, v, w, written_letters d k ns nm ms (13 ∷ 10 ∷ []) y)
 
 -- WRITTEN THEN READ: a value that fits is read back from its bytes
-pub written_then_read : (r : Record) → Sized r → fits_all r ≡ true → reading_of r.kind (record_bytes r) ≡ accepted r
+pub written_then_read : (r : Record) → Sized r → fits_all r ≡ true → reading_of r.kind (record_bytes r) ≡ Ok r
 unfolding fits_all fields_fit record_bytes
 written_then_read r z h =
     let q = both (letters_fit r.kind r.letters) (fields_fit r) h in
@@ -187,14 +177,15 @@ record Accepted (k : Kind) (s : List ℕ) : Type 0 where
   feed : get_or s 73 0 ≡ 10
   sound : (first_fault (layout_of k) s).number ≡ 0
 
-accepted_by : (k : Kind) (s : List ℕ) (t u v : Bool) (n c : ℕ) → (answer k s t u v n c).number ≡ 0 → (t ≡ true) × (u ≡ true) × (v ≡ true) × (n ≡ 0)
+accepted_by : (k : Kind) (s : List ℕ) (t u v : Bool) (n c : ℕ) {r : Record} → answer k s t u v n c ≡ Ok r
+    → (t ≡ true) × (u ≡ true) × (v ≡ true) × (n ≡ 0)
 accepted_by k s true true true zero c e = (refl, refl, refl, refl)
-accepted_by k s true true true (suc n) c e = absurd (omega arith)
-accepted_by k s true true false n c e = absurd (omega arith)
-accepted_by k s true false v n c e = absurd (omega arith)
-accepted_by k s false u v n c e = absurd (omega arith)
+accepted_by k s true true true (suc n) c e = absurd (either e)
+accepted_by k s true true false n c e = absurd (either e)
+accepted_by k s true false v n c e = absurd (either e)
+accepted_by k s false u v n c e = absurd (either e)
 
-accepts : (k : Kind) (s : List ℕ) → (reading_of k s).number ≡ 0 → Accepted k s
+accepts : (k : Kind) (s : List ℕ) {r : Record} → reading_of k s ≡ Ok r → Accepted k s
 unfolding reading_of fields_of
 accepts k s e =
     let h =
@@ -203,9 +194,23 @@ accepts k s e =
     record { long = eqb-true _ _ h.0; return = eqb-true _ _ h.1; feed = eqb-true _ _ h.2; sound = h.3 }
 
 -- what is accepted is the value of the fields
-accepted_value : (k : Kind) (s : List ℕ) → Accepted k s → reading_of k s ≡ accepted (value_in k s)
+accepted_value : (k : Kind) (s : List ℕ) → Accepted k s → reading_of k s ≡ Ok (value_in k s)
 unfolding reading_of fields_of
 accepted_value k s a = rw (eq-eqb _ 74 a.long, eq-eqb _ 13 a.return, eq-eqb _ 10 a.feed, a.sound)
+
+value_is : (k : Kind) (s : List ℕ) {r : Record} → reading_of k s ≡ Ok r → r ≡ value_in k s
+value_is k s {r} e =
+    let q : ◌≡◌ {A = Answer} (Ok r) (Ok (value_in k s)) = sym e ∙ accepted_value k s (accepts k s e) in
+    cc
+
+-- what is read has all its entries
+pub value_sized : (k : Kind) (s : List ℕ) {r : Record} → reading_of k s ≡ Ok r → Sized r
+value_sized k s e =
+    rw (value_is k s e) (record {
+      numbers = length-sets zeros 0 (over numbers_in (layout_of k) s);
+      name = length-sets no_name 0 (over name_in (layout_of k) s);
+      marks = length-sets unmarked 0 (over marks_in (layout_of k) s);
+    })
 
 -- 72 columns and the two bytes behind them
 line_is : (s : List ℕ) → length s ≡ 74 → get_or s 72 0 ≡ 13 → get_or s 73 0 ≡ 10 → take 72 s ++ (13 ∷ 10 ∷ []) ≡ s
@@ -237,20 +242,19 @@ kept_value k s a =
     )
 
 -- READ THEN WRITTEN: the value that was read fits, is of the kind that was asked for, and is written as the bytes that were read
-pub read_then_written : (k : Kind) (s : List ℕ) → (reading_of k s).number ≡ 0
-    → (fits_all (reading_of k s).value ≡ true) × (record_bytes (reading_of k s).value ≡ s) × ((reading_of k s).value.kind ≡ k)
-read_then_written k s e =
-    let a = accepts k s e in
-    let v = kept_value k s a in
-    rw (accepted_value k s a) (v.0, v.1, refl)
+pub read_then_written : (k : Kind) (s : List ℕ) (r : Record) → reading_of k s ≡ Ok r → (fits_all r ≡ true) × (record_bytes r ≡ s) × (r.kind ≡ k)
+read_then_written k s r e =
+    let v = kept_value k s (accepts k s e) in
+    rw (value_is k s e) (v.0, v.1, refl)
 
 -- THE ONLY ANSWER: a value of the kind that fits and has these bytes is what is read ..
-pub reading_only : (k : Kind) (s : List ℕ) (r : Record) → Sized r → r.kind ≡ k → fits_all r ≡ true → record_bytes r ≡ s → reading_of k s ≡ accepted r
+pub reading_only : (k : Kind) (s : List ℕ) (r : Record) → Sized r → r.kind ≡ k → fits_all r ≡ true → record_bytes r ≡ s → reading_of k s ≡ Ok r
 reading_only k s r z q h e = rw (← q, ← e) (written_then_read r z h)
 
 -- .. so bytes that are refused are no value's
-pub reading_refused : (k : Kind) (s : List ℕ) (r : Record) → Sized r → r.kind ≡ k → fits_all r ≡ true → record_bytes r ≡ s → ((reading_of k s).number ≡ 0 → ⊥) → ⊥
-reading_refused k s r z q h e n = n (rw (reading_only k s r z q h e))
+pub reading_refused : (k : Kind) (s : List ℕ) (r : Record) → Sized r → r.kind ≡ k → fits_all r ≡ true → record_bytes r ≡ s
+    → (m : Misread) → reading_of k s ≡ Err m → ⊥
+reading_refused k s r z q h e m n = either (sym n ∙ reading_only k s r z q h e)
 
 -- ---- what a field gives: nothing, or the one refusal that it has, 3 of letters and 5 of any other
 
@@ -291,7 +295,7 @@ fault_one (Blank c w) s = text_one (text_at is_blanks s c w)
 pub fault_free : (f : Field) (s : List ℕ) → not (eqb (fault_of f s) (refusal_of f)) ≡ true → fault_of f s ≡ 0
 fault_free f s h = ⊎_elim (λ e. e) (λ e. absurd (false≢true (rw (eq-eqb (fault_of f s) (refusal_of f) e) at h))) (fault_one f s)
 
--- ---- the number 7
+-- ---- the numbers of refused readings
 
 refusal_small : (f : Field) → refusal_of f ≤ 5
 refusal_small End = omega arith
@@ -313,16 +317,31 @@ unfolding first_fault
 fault_not [] s e = omega arith
 fault_not (f ∷ fs) s e = first_not (fault_of f s) (start_of f) (first_fault fs s) (field_not f s) (fault_not fs s) e
 
-answer_not : (k : Kind) (s : List ℕ) (t u v : Bool) (n c : ℕ) → (n ≡ 7 → ⊥) → (answer k s t u v n c).number ≡ 7 → ⊥
-answer_not k s true true true zero c h e = omega arith
-answer_not k s true true true (suc n) c h e = h e
-answer_not k s true true false n c h e = omega arith
-answer_not k s true false v n c h e = omega arith
-answer_not k s false u v n c h e = omega arith
+number_is : {n c : ℕ} {m : Misread} → refused_at n c ≡ Err m → n ≡ m.number
+number_is {n} {c} {m} e =
+    let q : ◌≡◌ {A = Misread} (record { number = n; column = c }) m = cc in
+    ap (λ (y : Misread). y.number) q
 
--- RULES 6.2: it is never given
-pub reading_seven : (k : Kind) (s : List ℕ) → (reading_of k s).number ≡ 7 → ⊥
-unfolding reading_of fields_of
-reading_seven k s e =
-    answer_not k s (eqb (length s) 74) (eqb (get_or s 72 0) 13) (eqb (get_or s 73 0) 10)
-    (first_fault (layout_of k) s).number (first_fault (layout_of k) s).column (fault_not (layout_of k) s) e
+answer_not : (x : ℕ) → (1 ≡ x → ⊥) → (2 ≡ x → ⊥) → (k : Kind) (s : List ℕ) (t u v : Bool) (n c : ℕ) → (1 ≤ n → n ≡ x → ⊥)
+    → {m : Misread} → answer k s t u v n c ≡ Err m → m.number ≡ x → ⊥
+answer_not x p q k s true true true zero c h e z = either (sym e)
+answer_not x p q k s true true true (suc n) c h e z = h (omega arith) (number_is e ∙ z)
+answer_not x p q k s true true false n c h e z = q (number_is e ∙ z)
+answer_not x p q k s true false v n c h e z = q (number_is e ∙ z)
+answer_not x p q k s false u v n c h e z = p (number_is e ∙ z)
+
+module _ (k : Kind) (s : List ℕ) {m : Misread} (e : reading_of k s ≡ Err m) where
+  not_by : (x : ℕ) → (1 ≡ x → ⊥) → (2 ≡ x → ⊥) → (1 ≤ (first_fault (layout_of k) s).number → (first_fault (layout_of k) s).number ≡ x → ⊥)
+      → m.number ≡ x → ⊥
+  unfolding reading_of fields_of
+  not_by x p q h z =
+      answer_not x p q k s (eqb (length s) 74) (eqb (get_or s 72 0) 13) (eqb (get_or s 73 0) 10)
+      (first_fault (layout_of k) s).number (first_fault (layout_of k) s).column h e z
+
+  -- RULES 6.1: 0 is acceptance's
+  pub reading_nonzero : m.number ≡ 0 → ⊥
+  reading_nonzero z = not_by 0 (λ w. omega arith) (λ w. omega arith) (λ l w. omega arith) z
+
+  -- RULES 6.2: 7 is never given
+  pub reading_seven : m.number ≡ 7 → ⊥
+  reading_seven z = not_by 7 (λ w. omega arith) (λ w. omega arith) (λ l w. fault_not (layout_of k) s w) z

@@ -6,7 +6,7 @@
 --   first_fault L s  the first refusal along the layout L, with its column
 --   reading_of k s    the answer to a record of kind k
 use Rattle.std.specs.Prelude.{Bool, true, false, cond, ◌&&◌, ◌||◌, List, [], ◌∷◌, ◌++◌, ℕ, zero, suc, eqb, ℤ, pos, length, get_or, replicate}
-use Rattle.std.specs.Prelude.{Option, Some, None}
+use Rattle.std.specs.Prelude.{Option, Some, None, Result, Ok, Err}
 use Rattle.std.proofs.lemmas.List.Edits.{sets}
 use Rattle.fields.specs.Place.{bytes_at}
 use Rattle.fields.specs.Number.{number_at}
@@ -20,7 +20,7 @@ use Rattle.records.specs.declared.Kind.TheVariants.{Mesh, Layer, Node, Line, Coo
 use Rattle.records.specs.declared.Field.{Field}
 use Rattle.records.specs.declared.Field.TheVariants.{End, Letters, Number, Code, Name, Blank}
 use Rattle.records.specs.declared.Record.{Record}
-use Rattle.records.specs.declared.Reading.{Reading}
+use Rattle.records.specs.declared.Misread.{Misread}
 use Rattle.records.specs.Layout.{layout_of, start_of}
 
 -- ---- one field
@@ -137,18 +137,9 @@ no_name = replicate 40 0
 abbrev pub unmarked : List ℕ
 unmarked = replicate 2 0
 
--- RULES 6.1: acceptance is number 0 at 0, 0
-abbrev pub accepted : Record → Reading
-accepted r = record { number = 0; place = 0; column = 0; value = r }
-
--- RULES 9.4: the record's number is 1; refused, the value is the named kind with all else 0
-abbrev pub refused_at : Kind → ℕ → ℕ → Reading
-refused_at k n c = record {
-  number = n;
-  place = 1;
-  column = c;
-  value = record { kind = k; numbers = zeros; name = no_name; marks = unmarked; letters = 0 };
-}
+-- RULES 9.4: a refused reading has a number and a column
+abbrev pub refused_at : ℕ → ℕ → Result Record Misread
+refused_at n c = Err (record { number = n; column = c })
 
 -- RULES 4.8: a record's value is its kind, its numbers, its name bytes, its marks and its letters
 abbrev pub value_in : Kind → List ℕ → Record
@@ -160,16 +151,16 @@ value_in k s = record {
   letters = letters_in k s;
 }
 
-abbrev pub fields_by : Kind → List ℕ → ℕ → ℕ → Reading
-fields_by k s zero c = accepted (value_in k s)
-fields_by k s (suc n) c = refused_at k (suc n) c
+abbrev pub fields_by : Kind → List ℕ → ℕ → ℕ → Result Record Misread
+fields_by k s zero c = Ok (value_in k s)
+fields_by k s (suc n) c = refused_at (suc n) c
 
-unfoldable pub fields_of : Kind → List ℕ → Reading
+unfoldable pub fields_of : Kind → List ℕ → Result Record Misread
 fields_of k s = fields_by k s (first_fault (layout_of k) s).number (first_fault (layout_of k) s).column
 
 -- RULES 9.4: not 74 bytes is 1 at column 1; then 2, at the first wrong one of columns 73 and 74; then the fields
-unfoldable pub reading_of : Kind → List ℕ → Reading
+unfoldable pub reading_of : Kind → List ℕ → Result Record Misread
 reading_of k s =
     cond (eqb (length s) 74)
-    (cond (eqb (get_or s 72 0) 13) (cond (eqb (get_or s 73 0) 10) (fields_of k s) (refused_at k 2 74)) (refused_at k 2 73))
-    (refused_at k 1 1)
+    (cond (eqb (get_or s 72 0) 13) (cond (eqb (get_or s 73 0) 10) (fields_of k s) (refused_at 2 74)) (refused_at 2 73))
+    (refused_at 1 1)

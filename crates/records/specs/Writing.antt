@@ -4,7 +4,7 @@
 --   letters_fit k l  whether a record of kind k may have the letters l
 --   record_bytes r   the record's 74 bytes
 --   Written          the writer's answer and its buffer afterwards
-use Rattle.std.specs.Prelude.{◌≡◌, Bool, true, cond, ◌&&◌, ◌||◌, List, [], ◌∷◌, ◌++◌, ℕ, zero, suc, leb, eqb, ℤ, pos, length, get_or, take, drop, replicate}
+use Rattle.std.specs.Prelude.{◌≡◌, Bool, true, cond, ◌&&◌, ◌||◌, List, [], ◌∷◌, ◌++◌, ℕ, leb, eqb, ℤ, pos, length, get_or, take, drop, replicate}
 use Rattle.permitted.specs.Permitted.{is_zero, is}
 use Rattle.fields.specs.Number.{holds}
 use Rattle.fields.specs.Spelling.{spell}

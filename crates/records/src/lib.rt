@@ -28,7 +28,7 @@ pub enum Kind {
 
 // A field of a layout, with its first column and its width: a number, a code, a name, or blanks; or type
 // letters, the first and the two of which either may stand second; or no field.
-#[derive(Clone, Copy, Debug, PartialEq, Eq)]
+#[derive(Clone, Copy)]
 pub enum Field {
     End,
     Letters(u8, u8, u8),
@@ -132,14 +132,11 @@ pub struct Record {
     pub letters: u32,
 }
 
-// What reading finds: a refusal's number with its place, record and column, or 0 at 0, 0; and the
-// value.
-#[derive(Clone, Copy)]
-pub struct Reading {
+// Why a record that is read alone is refused: the refusal's number, and the column (RULES 9.4).
+#[derive(Clone, Copy, Debug, PartialEq, Eq)]
+pub struct Misread {
     pub number: u32,
-    pub place: u32,
     pub column: usize,
-    pub value: Record,
 }
 
 // ---- the layouts, in column order
@@ -272,6 +269,7 @@ fn loop_field(j: usize) -> Field
 }
 
 // Field `j` of a record of the kind, counted from 0; `End` past the last.
+#[tactic(auto, unfolding(crate::specs::Layout::layout_of))]
 pub fn field_of(kind: Kind, j: usize) -> Field
     ensures { result ≡ get_or (layout_of kind) j Field.End }
 {
@@ -296,6 +294,7 @@ pub fn letters_right(a: u8, b: u8, c: u8, x: u8, y: u8) -> bool
 }
 
 // The letters of an H: 1 for H1, an unstructured layer, and 2 for any other.
+#[tactic(auto, unfolding(crate::specs::Reading::head_letters))]
 pub fn head_letters(s: &[u8]) -> u32
     ensures { result ≡ head_letters s.now }
 {
@@ -319,6 +318,7 @@ pub fn letters_in(kind: Kind, s: &[u8]) -> u32
 // ---- codes
 
 // Whether a record's layer code, in columns 3-4, reads 5.
+#[tactic(auto, unfolding(crate::specs::Reading::in_layer_five))]
 fn in_layer_five(s: &[u8]) -> bool
     ensures { result ≡ in_layer_five s.now }
 {
@@ -330,6 +330,7 @@ fn in_layer_five(s: &[u8]) -> bool
 
 // Reads the code of `width` columns from `column` on of a record. " 0000", which has a mark, is taken in
 // layer 5 and refused in any other.
+#[tactic(auto, unfolding(crate::specs::Reading::code_in))]
 pub fn read_code(s: &[u8], column: usize, width: usize) -> Option<Code>
     ensures { result ≡ code_in s.now column width }
 {
