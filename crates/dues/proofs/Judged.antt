@@ -51,7 +51,6 @@ module _ (t : List ℕ) where
   -- a field whose form is kept has no fault
   formed : (f : Field) → Holding (form_checks f t) → fault_of f t ≡ 0
   unfolding form_checks fault_of
-  formed field.End h = refl
   formed (field.Letters a b c) h = fault_free (field.Letters a b c) t h.0
   formed (field.Number c w) h = fault_free (field.Number c w) t h.0
   formed (field.Code c w) h = fault_free (field.Code c w) t h.0
@@ -66,7 +65,6 @@ module _ (t : List ℕ) where
   no_fault_lem : (a : ℕ → List ℤ → List Ask) (L : List Field) (i : ℕ) (ns : List ℤ) → Holding (along a L i ns t) → first_fault L t ≡ no_fault
   unfolding along first_fault
   no_fault_lem a [] i ns h = refl
-  no_fault_lem a (field.End ∷ L) i ns h = rw end_none (no_fault_lem a L i ns h)
   no_fault_lem a (field.Letters x y z ∷ L) i ns h =
       let b = both_hold (form_checks (field.Letters x y z) t) _ h in
       rw (formed (field.Letters x y z) b.0) (no_fault_lem a L i ns b.1)

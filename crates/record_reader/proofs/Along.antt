@@ -16,7 +16,7 @@ use borrow.Rule.Slice.PartMut.{put_mid}
 use Rattle.records.specs.Layout.{layout_of, start_of, numbers_of, bytes_of, marks_of}
 use Rattle.records.specs.Reading.{letters_right, letters_in, code_in, fault_of, numbers_in, name_in, marks_in, over, Fault, no_fault}
 use Rattle.records.specs.Reading.{fault_at, first_fault, zeros, no_name, unmarked, refused_at, fields_of}
-use Rattle.records.specs.declared.Field.TheVariants.{End, Letters, Number, Code, Name, Blank}
+use Rattle.records.specs.declared.Field.TheVariants.{Letters, Number, Code, Name, Blank}
 use Rattle.records.specs.declared.Field.{Field}
 use Rattle.records.specs.declared.Kind.{Kind}
 use Rattle.fields.proofs.FieldLaws.{text_formed}
@@ -40,7 +40,6 @@ sets_part l m e p h k n =
 
 numbers_many : (f : Field) (s : List ℕ) → length (numbers_in f s) ≡ numbers_of f
 unfolding numbers_in
-numbers_many End s = refl
 numbers_many (Letters a b c) s = refl
 numbers_many (Number c w) s = refl
 numbers_many (Code c w) s = refl
@@ -49,7 +48,6 @@ numbers_many (Blank c w) s = refl
 
 marks_many : (f : Field) (s : List ℕ) → length (marks_in f s) ≡ marks_of f
 unfolding marks_in
-marks_many End s = refl
 marks_many (Letters a b c) s = refl
 marks_many (Number c w) s = refl
 marks_many (Code c w) s = refl

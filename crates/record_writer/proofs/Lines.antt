@@ -18,7 +18,7 @@ use Rattle.fields.specs.declared.Writing.TheVariants as writing
 use Rattle.records.specs.Layout.{layout_of, start_of, width_of, numbers_of, bytes_of, marks_of}
 use Rattle.records.specs.Writing.{second_letter, field_text, mark_fits, field_fits, text_of, no_numbers, no_bytes, fits, of_layer_five, fields_fit, letters_fit, fits_all}
 use Rattle.records.specs.Writing.{record_bytes, SpelledAs, Written}
-use Rattle.records.specs.declared.Field.TheVariants.{End, Letters, Number, Code, Name, Blank}
+use Rattle.records.specs.declared.Field.TheVariants.{Letters, Number, Code, Name, Blank}
 use Rattle.records.specs.declared.Field.{Field}
 use Rattle.records.specs.declared.Kind.{Kind}
 use Rattle.records.specs.declared.Record.{Record}

@@ -8,12 +8,12 @@ use native.Mathlib.Nat.{mul-zero, mul-suc, add-zero}
 use native.Mathlib.Numerals.{add-one}
 use native.Mathlib.Omega.{arith}
 use lib.Dec.{ltb, eqb}
-use lib.ListN.{length, get_or, drop, get_or-eq_default}
+use lib.ListN.{length, get_or, drop, length-drop}
 use lib.Seq.{drop-cons}
 use borrow.Author.Tests.{ltb-true, ltb-false, eqb-true}
 use types.Run.{OneOf}
 use Rattle.records.specs.Layout.{row, coordinates_layout, layout_of, start_of, width_of, numbers_of, bytes_of, marks_of, total}
-use Rattle.records.specs.declared.Field.TheVariants.{End, Letters, Number, Code, Name, Blank}
+use Rattle.records.specs.declared.Field.TheVariants.{Number, Blank}
 use Rattle.records.specs.declared.Field.{Field}
 use Rattle.records.specs.declared.Kind.TheVariants.{Mesh, Layer, Node, Line, Coordinates, Area, Loop}
 use Rattle.records.specs.declared.Kind.{Kind}
@@ -31,30 +31,28 @@ pub above : (n j : ℕ) → Passed n j → n ≤ j
 above zero j r = omega arith
 above (suc n) j r = beyond n j (above n j r.0) r.1
 
-row_at : (c w n : ℕ) (fs : List Field) (i : ℕ) → i < n → get_or (row c w n ++ fs) i End ≡ Number (c + w * i) w
-row_at c w zero fs i h = absurd (omega arith)
-row_at c w (suc n) fs zero h = rw (mul-zero, add-zero)
-row_at c w (suc n) fs (suc i) h =
+-- field j of the layout L is f
+abbrev pub Stands : List Field → ℕ → Field → Type 0
+Stands L j f = drop j L ≡ f ∷ drop (j + 1) L
+
+pub stands : (L : List Field) (j : ℕ) (f z : Field) → j < length L → f ≡ get_or L j z → Stands L j f
+stands L j f z l e = rw (add-one, drop-cons L j z l, e)
+
+row_stands : (c w n : ℕ) (fs : List Field) (i : ℕ) → i < n → Stands (row c w n ++ fs) i (Number (c + w * i) w)
+row_stands c w zero fs i h = absurd (omega arith)
+row_stands c w (suc n) fs zero h = rw (mul-zero, add-zero)
+row_stands c w (suc n) fs (suc i) h =
     let e : c + w + w * i ≡ c + (w * i + w) = omega arith in
-    row_at (c + w) w n fs i (omega arith) ∙ rw (mul-suc, e)
+    rw (mul-suc, ← e, add-one (suc i)) (rw (add-one i) at (row_stands (c + w) w n fs i (omega arith)))
 
 -- number j of a coordinate record
-pub coordinate_laid : (j : ℕ) → j < 14 → Number (1 + 5 * j) 5 ≡ get_or coordinates_layout j End
-coordinate_laid j h = sym (row_at 1 5 14 (Blank 71 2 ∷ []) j h)
+pub coordinate_laid : (j : ℕ) → j < 14 → Stands coordinates_layout j (Number (1 + 5 * j) 5)
+coordinate_laid j h = row_stands 1 5 14 (Blank 71 2 ∷ []) j h
 
--- not the end
-abbrev pub is_field : Field → Bool
-is_field End = false
-is_field (Letters a b c) = true
-is_field (Number c w) = true
-is_field (Code c w) = true
-is_field (Name c w) = true
-is_field (Blank c w) = true
-
--- the fields stand one after another from column c to column 72, and each is a field
+-- the fields stand one after another from column c to column 72
 unfoldable pub tiles : ℕ → List Field → Bool
 tiles c [] = eqb c 73
-tiles c (f ∷ fs) = is_field f && (eqb (start_of f) c && tiles (c + width_of f) fs)
+tiles c (f ∷ fs) = eqb (start_of f) c && tiles (c + width_of f) fs
 
 -- every kind's fields take the columns 1 to 72
 pub tiled : (k : Kind) → tiles 1 (layout_of k) ≡ true
@@ -69,16 +67,14 @@ tiled Loop = refl
 
 -- what tiling says of a first field
 pub record Tile (c : ℕ) (f : Field) (fs : List Field) : Type 0 where
-  pub field : is_field f ≡ true
   pub start : start_of f ≡ c
   pub rest : tiles (c + width_of f) fs ≡ true
 
 pub tile : (c : ℕ) (f : Field) (fs : List Field) → tiles c (f ∷ fs) ≡ true → Tile c f fs
 unfolding tiles
 tile c f fs h =
-    let p = both (is_field f) (eqb (start_of f) c && tiles (c + width_of f) fs) h in
-    let q = both (eqb (start_of f) c) (tiles (c + width_of f) fs) p.1 in
-    record { field = p.0; start = eqb-true _ _ q.0; rest = q.1 }
+    let q = both (eqb (start_of f) c) (tiles (c + width_of f) fs) h in
+    record { start = eqb-true _ _ q.0; rest = q.1 }
 
 -- a layout that tiles from column c ends with column 72
 pub tiles_end : (L : List Field) (c : ℕ) → tiles c L ≡ true → c + total width_of L ≡ 73
@@ -95,10 +91,13 @@ tiles_width L c h =
     omega arith
 
 -- no field starts behind column 73
-pub start_small : (L : List Field) (c j : ℕ) → tiles c L ≡ true → j < length L → start_of (get_or L j End) ≤ 73
-start_small [] c j h l = absurd (omega arith)
-start_small (f ∷ L) c zero h l = omega (arith, (tile c f L h).start, tiles_end (f ∷ L) c h)
-start_small (f ∷ L) c (suc j) h l = start_small L (c + width_of f) j (tile c f L h).rest (omega arith)
+pub start_small : (L : List Field) (c j : ℕ) (f : Field) → tiles c L ≡ true → Stands L j f → start_of f ≤ 73
+start_small [] c zero f h e = let z : ◌≡◌ {A = ℕ} 0 1 = cc in absurd (omega arith)
+start_small [] c (suc j) f h e = let z : ◌≡◌ {A = ℕ} 0 1 = cc in absurd (omega arith)
+start_small (g ∷ L) c zero f h e =
+    let z : g ≡ f = cc in
+    rw (← z) (omega (arith, (tile c g L h).start, tiles_end (g ∷ L) c h))
+start_small (g ∷ L) c (suc j) f h e = start_small L (c + width_of g) j f (tile c g L h).rest (rw (add-one j) (rw (add-one (suc j)) at e))
 
 -- what a record's value and the loops have room for
 pub record Fitting (L : List Field) : Type 0 where
@@ -120,33 +119,11 @@ fitting Loop = record { tiled = tiled Loop; few = omega arith; numbers = omega a
 
 -- ---- a field at an index
 
-on : (L : List Field) (j : ℕ) (b : Bool) → ltb j (length L) ≡ b → is_field (get_or L j End) ≡ true → j < length L
-on L j true t i = ltb-true _ _ t
-on L j false t i =
-    let d : get_or L j End ≡ End = get_or-eq_default L End (ltb-false _ _ t) in
-    let f : is_field End ≡ true = rw d at i in
-    let z : ◌≡◌ {A = ℕ} 0 1 = cc in
-    absurd (omega arith)
-
 -- a field is within the layout
-pub on_layout : (L : List Field) (j : ℕ) (f : Field) → f ≡ get_or L j End → is_field f ≡ true → j < length L
-on_layout L j f e i = on L j (ltb j (length L)) refl (rw e at i)
-
-field_at : (L : List Field) (c j : ℕ) → tiles c L ≡ true → j < length L → is_field (get_or L j End) ≡ true
-field_at [] c j a h = absurd (omega arith)
-field_at (f ∷ L) c zero a h = (tile c f L a).field
-field_at (f ∷ L) c (suc j) a h = field_at L (c + width_of f) j (tile c f L a).rest (omega arith)
-
-off : (L : List Field) (j : ℕ) (b : Bool) → ltb j (length L) ≡ b → tiles 1 L ≡ true → End ≡ get_or L j End → length L ≤ j
-off L j true t a e =
-    let i : is_field End ≡ true = rw (← e) at (field_at L 1 j a (ltb-true _ _ t)) in
-    let z : ◌≡◌ {A = ℕ} 0 1 = cc in
-    absurd (omega arith)
-off L j false t a e = ltb-false _ _ t
-
--- no field is past it
-pub off_layout : (L : List Field) (j : ℕ) → tiles 1 L ≡ true → End ≡ get_or L j End → length L ≤ j
-off_layout L j a e = off L j (ltb j (length L)) refl a e
+pub on_layout : (L : List Field) (j : ℕ) (f : Field) → Stands L j f → j < length L
+on_layout L j f e =
+    let n : length L - j ≡ suc (length (drop (j + 1) L)) = sym (length-drop j L) ∙ rw e in
+    omega (arith, n)
 
 -- ---- along a layout, field by field
 
@@ -173,19 +150,16 @@ pub record Room (L : List Field) (f : Field) (n m q j : ℕ) : Type 0 where
   pub names : m + bytes_of f ≤ 40
   pub marks : q + marks_of f ≤ 2
 
-module _ (L : List Field) (j : ℕ) (f : Field) (e : f ≡ get_or L j End) (i : is_field f ≡ true) where
-  pub split : drop j L ≡ f ∷ drop (j + 1) L
-  split = rw (add-one, drop-cons L j End (on_layout L j f e i), e)
-
+module _ (L : List Field) (j : ℕ) (f : Field) (e : Stands L j f) where
   pub total_split : (h : Field → ℕ) → total h (drop j L) ≡ h f + total h (drop (j + 1) L)
   unfolding total
-  total_split h = rw split
+  total_split h = rw e
 
   module _ {n m q : ℕ} (a : Ahead L n m q j) where
     pub room_ahead : Room L f n m q j
     room_ahead = record {
-      inside = on_layout L j f e i;
-      step = omega (arith, on_layout L j f e i, a.fits.few);
+      inside = on_layout L j f e;
+      step = omega (arith, on_layout L j f e, a.fits.few);
       numbers = omega (arith, total_split numbers_of, a.numbers);
       names = omega (arith, total_split bytes_of, a.names);
       marks = omega (arith, total_split marks_of, a.marks);

@@ -15,7 +15,7 @@ use Rattle.records.specs.Layout.{layout_of, start_of, width_of, numbers_of}
 use Rattle.records.specs.Columns.{Column, column_kind, span_of, Row, row_kind, row_span_of, slot_width, slot_column, slot_start}
 use Rattle.records.specs.Columns as name
 use Rattle.records.specs.declared.Field.{Field}
-use Rattle.records.specs.declared.Field.TheVariants.{End}
+use Rattle.records.specs.declared.Field.TheVariants.{Blank}
 
 -- ---- a field of a layout
 
@@ -28,12 +28,16 @@ unfoldable has : ℕ → ℕ → List Field → Bool
 has c w [] = false
 has c w (f ∷ fs) = gives c w f || has c w fs
 
+-- past the end of a layout there is no field; this one has no columns and gives no number
+abbrev none : Field
+none = Blank 0 0
+
 -- where it stands in the layout
 pub record Laid (L : List Field) (c w : ℕ) : Type 0 where
   pub place : ℕ
-  pub start : start_of (get_or L place End) ≡ c
-  pub width : width_of (get_or L place End) ≡ w
-  pub number : numbers_of (get_or L place End) ≡ 1
+  pub start : start_of (get_or L place none) ≡ c
+  pub width : width_of (get_or L place none) ≡ w
+  pub number : numbers_of (get_or L place none) ≡ 1
 
 here : (c w : ℕ) (f : Field) (fs : List Field) → gives c w f ≡ true → Laid (f ∷ fs) c w
 here c w f fs e =

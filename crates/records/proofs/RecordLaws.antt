@@ -25,7 +25,7 @@ use Rattle.std.specs.Prelude.{Option, Some, None, Result, Ok, Err}
 use Rattle.codes.specs.Code.{code_refusal}
 use Rattle.codes.specs.declared.Code as codes-code
 use Rattle.records.specs.declared.Field.{Field}
-use Rattle.records.specs.declared.Field.TheVariants.{End, Letters, Number, Code, Name, Blank}
+use Rattle.records.specs.declared.Field.TheVariants.{Letters, Number, Code, Name, Blank}
 use Rattle.records.specs.declared.Misread.{Misread}
 use Rattle.records.specs.declared.Record.{Record}
 use Rattle.fields.proofs.Places.{both}
@@ -259,7 +259,6 @@ reading_refused k s r z q h e m n = either (sym n ∙ reading_only k s r z q h e
 -- ---- what a field gives: nothing, or the one refusal that it has, 3 of letters and 5 of any other
 
 abbrev pub refusal_of : Field → ℕ
-refusal_of End = 0
 refusal_of (Letters a b c) = 3
 refusal_of (Number c w) = 5
 refusal_of (Code c w) = 5
@@ -284,7 +283,6 @@ text_one false = inr refl
 
 fault_one : (f : Field) (s : List ℕ) → (fault_of f s ≡ 0) ⊎ (fault_of f s ≡ refusal_of f)
 unfolding fault_of
-fault_one End s = inl refl
 fault_one (Letters a b c) s = letters_one (eqb (get_or s 0 0) a && (eqb (get_or s 1 0) b || eqb (get_or s 1 0) c))
 fault_one (Number c w) s = number_one (number_at s c w)
 fault_one (Code c w) s = code_one (code_in s c w)
@@ -298,7 +296,6 @@ fault_free f s h = ⊎_elim (λ e. e) (λ e. absurd (false≢true (rw (eq-eqb (f
 -- ---- the numbers of refused readings
 
 refusal_small : (f : Field) → refusal_of f ≤ 5
-refusal_small End = omega arith
 refusal_small (Letters a b c) = omega arith
 refusal_small (Number c w) = omega arith
 refusal_small (Code c w) = omega arith

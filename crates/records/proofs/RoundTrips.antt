@@ -26,13 +26,13 @@ use Rattle.records.specs.Reading.{letters_fault, in_layer_five, mark_fits, lande
 use Rattle.records.specs.Reading.{Fault, no_fault, fault_at, first_fault}
 use Rattle.records.specs.Writing.{every, second_letter, field_text, field_fits, text_of, no_numbers, no_bytes, fits}
 use Rattle.permitted.specs.Permitted.{is_zero}
-use Rattle.records.specs.declared.Field.TheVariants.{End, Letters, Number, Code, Name, Blank}
+use Rattle.records.specs.declared.Field.TheVariants.{Letters, Number, Code, Name, Blank}
 use Rattle.records.specs.declared.Field.{Field}
 use Rattle.fields.proofs.Columns.{spell_length}
 use Rattle.fields.proofs.FieldLaws.{number_says, number_read, text_formed, text_read, blank_bytes, spaces_blank}
 use Rattle.fields.proofs.Places.{both, inside_fits, inside_bounds, bytes_length}
 use Rattle.codes.proofs.CodeLaws.{code_says, code_read, spell_code_length}
-use Rattle.records.proofs.Layouts.{is_field, tiles, tile}
+use Rattle.records.proofs.Layouts.{tiles, tile}
 
 -- ---- one field: reading what was written; d are the letters that are written
 
@@ -76,7 +76,6 @@ code_fit five c w ns nm ms h =
 pub field_length : (d : ℕ) (five : Bool) (f : Field) (ns : List ℤ) (nm ms : List ℕ) → field_fits five f ns nm ms ≡ true
     → length (field_text d f ns nm ms) ≡ width_of f
 unfolding field_text field_fits
-field_length d five End ns nm ms h = refl
 field_length d five (Letters a b c) ns nm ms h = refl
 field_length d five (Number c w) ns nm ms h = spell_length w _
 field_length d five (Code c w) ns nm ms h = spell_code_length w _ _ (code_fit five c w ns nm ms h).held
@@ -100,7 +99,6 @@ landed_read s c w v (suc m) five y h a = rw (code_read s c w v (suc m) h, y, a)
 good : (d : ℕ) (five : Bool) (f : Field) (ns : List ℤ) (nm ms : List ℕ) → field_fits five f ns nm ms ≡ true → (p z : List ℕ)
     → start_of f ≡ length p + 1 → in_layer_five (p ++ (field_text d f ns nm ms ++ z)) ≡ five → Good f ns nm ms (p ++ (field_text d f ns nm ms ++ z))
 unfolding second_letter field_text field_fits fault_of numbers_in name_in marks_in
-good d five End ns nm ms h p z e y = absurd (omega arith)
 good d five (Letters a b c) ns nm ms h [] z e y = record { sound = right_letters a b c (eqb d 2); numbers = refl; name = refl; marks = refl }
 good d five (Letters a b c) ns nm ms h (x ∷ p) z e y = absurd (omega arith)
 good d five (Code c w) ns nm ms h p z e y =
@@ -182,7 +180,6 @@ read_written d five (f ∷ fs) c t ns nm ms h p z e k =
 -- the letters d are those that stand in the record s, where a field of L asks for letters and they are right
 abbrev pub Lettered : ℕ → List Field → List ℕ → Type 0
 Lettered d [] s = Unit {0}
-Lettered d (End ∷ L) s = Lettered d L s
 Lettered d (Letters a b c ∷ L) s = (letters_fault a b c (get_or s 0 0) (get_or s 1 0) ≡ 0 → second_letter b c d ≡ get_or s 1 0) × Lettered d L s
 Lettered d (Number c w ∷ L) s = Lettered d L s
 Lettered d (Code c w ∷ L) s = Lettered d L s
@@ -190,7 +187,6 @@ Lettered d (Name c w ∷ L) s = Lettered d L s
 Lettered d (Blank c w ∷ L) s = Lettered d L s
 
 lettered_first : (d : ℕ) (f : Field) (fs : List Field) (s : List ℕ) → Lettered d (f ∷ fs) s → Lettered d (f ∷ []) s × Lettered d fs s
-lettered_first d End fs s h = (tt, h)
 lettered_first d (Letters a b c) fs s h = ((h.0, tt), h.1)
 lettered_first d (Number c w) fs s h = (tt, h)
 lettered_first d (Code c w) fs s h = (tt, h)
@@ -251,13 +247,10 @@ record Kept (d : ℕ) (f : Field) (s : List ℕ) (ns : List ℤ) (nm ms : List �
   name : drop (bytes_of f) (name_in f s ++ nm) ≡ nm
   marks : drop (marks_of f) (marks_in f s ++ ms) ≡ ms
 
-kept : (d : ℕ) (f : Field) (s : List ℕ) → is_field f ≡ true → 2 ≤ length s → fault_of f s ≡ 0 → Lettered d (f ∷ []) s → (ns : List ℤ) (nm ms : List ℕ)
+kept : (d : ℕ) (f : Field) (s : List ℕ) → 2 ≤ length s → fault_of f s ≡ 0 → Lettered d (f ∷ []) s → (ns : List ℤ) (nm ms : List ℕ)
     → Kept d f s ns nm ms
 unfolding field_text field_fits code_in fault_of numbers_in name_in marks_in bytes_at
-kept d End s i l q y ns nm ms =
-    let z : ◌≡◌ {A = ℕ} 0 1 = cc in
-    absurd (omega arith)
-kept d (Letters a b c) s i l q y ns nm ms =
+kept d (Letters a b c) s l q y ns nm ms =
     let h = letters a b c (get_or s 0 0) (get_or s 1 0) q in
     record {
       there = inside_fits s 1 2 (omega arith) (omega arith);
@@ -267,7 +260,7 @@ kept d (Letters a b c) s i l q y ns nm ms =
       name = refl;
       marks = refl;
     }
-kept d (Number c w) s i l q y ns nm ms =
+kept d (Number c w) s l q y ns nm ms =
     let h = number_by s c w (number_at s c w) refl q in
     record {
       there = h.there;
@@ -277,7 +270,7 @@ kept d (Number c w) s i l q y ns nm ms =
       name = refl;
       marks = refl;
     }
-kept d (Code c w) s i l q y ns nm ms =
+kept d (Code c w) s l q y ns nm ms =
     let h = code_by s c w (in_layer_five s) (code_at s c w) refl q in
     record {
       there = h.0.there;
@@ -287,13 +280,13 @@ kept d (Code c w) s i l q y ns nm ms =
       name = refl;
       marks = refl;
     }
-kept d (Name c w) s i l q y ns nm ms =
+kept d (Name c w) s l q y ns nm ms =
     let h = text_formed is_name s c w (text_by (text_at is_name s c w) q) in
     let n : length (bytes_at s c w) ≡ w = bytes_length s c w h.0 in
     let m : take w (bytes_at s c w ++ nm) ≡ bytes_at s c w = take_at (bytes_at s c w) nm w n in
     let r : w ≤ length (bytes_at s c w ++ nm) = rw length-append (omega arith) in
     record { there = h.0; bytes = m; fit = rw (le-leb w _ r, m) h.1; numbers = refl; name = drop_at (bytes_at s c w) nm w n; marks = refl }
-kept d (Blank c w) s i l q y ns nm ms =
+kept d (Blank c w) s l q y ns nm ms =
     let h = text_by (text_at is_blanks s c w) q in
     record { there = (text_formed is_blanks s c w h).0; bytes = sym (blank_bytes s c w h); fit = refl; numbers = refl; name = refl; marks = refl }
 
@@ -318,7 +311,7 @@ written_read (f ∷ fs) c t s h l d y us bs ks =
     let i = tile c f fs t in
     let n = no_fault_lem (fault_of f s) (start_of f) (first_fault fs s) h in
     let v = lettered_first d f fs s y in
-    let k = kept d f s i.field (omega arith) n.0 v.0 (over numbers_in fs s ++ us) (over name_in fs s ++ bs) (over marks_in fs s ++ ks) in
+    let k = kept d f s (omega arith) n.0 v.0 (over numbers_in fs s ++ us) (over name_in fs s ++ bs) (over marks_in fs s ++ ks) in
     let a = written_read fs (c + width_of f) i.rest s n.1 l d v.1 us bs ks in
     let b = inside_bounds s (start_of f) (width_of f) k.there in
     let e : c + width_of f - 1 ≡ c - 1 + width_of f = omega arith in
@@ -350,7 +343,6 @@ fits_rest five (f ∷ fs) ns nm ms h =
 -- ---- layer 5, which matters to codes alone
 
 abbrev is_code : Field → Bool
-is_code End = false
 is_code (Letters a b c) = false
 is_code (Number c w) = false
 is_code (Code c w) = true
@@ -364,7 +356,6 @@ codes (f ∷ fs) = is_code f || codes fs
 module _ (a b : Bool) where
   same_field : (f : Field) (ns : List ℤ) (nm ms : List ℕ) → (is_code f ≡ true → a ≡ b) → field_fits a f ns nm ms ≡ field_fits b f ns nm ms
   unfolding field_fits
-  same_field End ns nm ms e = refl
   same_field (Letters x y z) ns nm ms e = refl
   same_field (Number c w) ns nm ms e = refl
   same_field (Code c w) ns nm ms e = rw (e refl)
@@ -447,7 +438,6 @@ over_short g n s h (f ∷ fs) =
 
 pub numbers_short : (s : List ℕ) (f : Field) → length (numbers_in f s) ≤ numbers_of f
 unfolding numbers_in
-numbers_short s End = omega arith
 numbers_short s (Letters a b c) = omega arith
 numbers_short s (Number c w) = omega arith
 numbers_short s (Code c w) = omega arith
@@ -456,7 +446,6 @@ numbers_short s (Blank c w) = omega arith
 
 pub name_short : (s : List ℕ) (f : Field) → length (name_in f s) ≤ bytes_of f
 unfolding name_in bytes_at
-name_short s End = omega arith
 name_short s (Letters a b c) = omega arith
 name_short s (Number c w) = omega arith
 name_short s (Code c w) = omega arith
@@ -465,7 +454,6 @@ name_short s (Blank c w) = omega arith
 
 pub marks_short : (s : List ℕ) (f : Field) → length (marks_in f s) ≤ marks_of f
 unfolding marks_in
-marks_short s End = omega arith
 marks_short s (Letters a b c) = omega arith
 marks_short s (Number c w) = omega arith
 marks_short s (Code c w) = omega arith

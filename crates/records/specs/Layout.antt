@@ -8,7 +8,7 @@ use Rattle.std.specs.Prelude.{List, [], ◌∷◌, ◌++◌, ℕ, zero, suc, ◌
 use Rattle.records.specs.declared.Kind.{Kind}
 use Rattle.records.specs.declared.Kind.TheVariants.{Mesh, Layer, Node, Line, Coordinates, Area, Loop}
 use Rattle.records.specs.declared.Field.{Field}
-use Rattle.records.specs.declared.Field.TheVariants.{End, Letters, Number, Code, Name, Blank}
+use Rattle.records.specs.declared.Field.TheVariants.{Letters, Number, Code, Name, Blank}
 
 -- n numbers of width w in a row, from column c on
 abbrev pub row : ℕ → ℕ → ℕ → List Field
@@ -118,7 +118,6 @@ layout_of Loop = loop_layout
 
 -- RULES 1.4: a field's place is the column where it starts; type letters stand in columns 1 and 2
 abbrev pub start_of : Field → ℕ
-start_of End = 0
 start_of (Letters a b c) = 1
 start_of (Number c w) = c
 start_of (Code c w) = c
@@ -126,7 +125,6 @@ start_of (Name c w) = c
 start_of (Blank c w) = c
 
 abbrev pub width_of : Field → ℕ
-width_of End = 0
 width_of (Letters a b c) = 2
 width_of (Number c w) = w
 width_of (Code c w) = w
@@ -134,7 +132,6 @@ width_of (Name c w) = w
 width_of (Blank c w) = w
 
 abbrev pub numbers_of : Field → ℕ
-numbers_of End = 0
 numbers_of (Letters a b c) = 0
 numbers_of (Number c w) = 1
 numbers_of (Code c w) = 1
@@ -142,7 +139,6 @@ numbers_of (Name c w) = 0
 numbers_of (Blank c w) = 0
 
 abbrev pub bytes_of : Field → ℕ
-bytes_of End = 0
 bytes_of (Letters a b c) = 0
 bytes_of (Number c w) = 0
 bytes_of (Code c w) = 0
@@ -151,7 +147,6 @@ bytes_of (Blank c w) = 0
 
 -- RULES 4.8: a code gives its mark
 abbrev pub marks_of : Field → ℕ
-marks_of End = 0
 marks_of (Letters a b c) = 0
 marks_of (Number c w) = 0
 marks_of (Code c w) = 1

@@ -18,7 +18,7 @@ use Rattle.permitted.specs.Permitted.{is}
 use Rattle.records.specs.declared.Kind.{Kind}
 use Rattle.records.specs.declared.Kind.TheVariants.{Mesh, Layer, Node, Line, Coordinates, Area, Loop}
 use Rattle.records.specs.declared.Field.{Field}
-use Rattle.records.specs.declared.Field.TheVariants.{End, Letters, Number, Code, Name, Blank}
+use Rattle.records.specs.declared.Field.TheVariants.{Letters, Number, Code, Name, Blank}
 use Rattle.records.specs.declared.Record.{Record}
 use Rattle.records.specs.declared.Misread.{Misread}
 use Rattle.records.specs.Layout.{layout_of, start_of}
@@ -69,7 +69,6 @@ code_in s c w = landed (in_layer_five s) (code_at s c w)
 
 -- RULES 3.5: an ill-formed field is 5
 unfoldable pub fault_of : Field → List ℕ → ℕ
-fault_of End s = 0
 fault_of (Letters a b c) s = letters_fault a b c (get_or s 0 0) (get_or s 1 0)
 fault_of (Number c w) s = number_refusal (number_at s c w)
 fault_of (Code c w) s = code_refusal (code_in s c w)
@@ -78,7 +77,6 @@ fault_of (Blank c w) s = text_refusal (text_at is_blanks s c w)
 
 -- RULES 4.8: a record's numbers in column order, its name bytes, and the marks of its codes
 unfoldable pub numbers_in : Field → List ℕ → List ℤ
-numbers_in End s = []
 numbers_in (Letters a b c) s = []
 numbers_in (Number c w) s = value_of (number_at s c w) ∷ []
 numbers_in (Code c w) s = code_value (code_in s c w) ∷ []
@@ -86,7 +84,6 @@ numbers_in (Name c w) s = []
 numbers_in (Blank c w) s = []
 
 unfoldable pub name_in : Field → List ℕ → List ℕ
-name_in End s = []
 name_in (Letters a b c) s = []
 name_in (Number c w) s = []
 name_in (Code c w) s = []
@@ -94,7 +91,6 @@ name_in (Name c w) s = bytes_at s c w
 name_in (Blank c w) s = []
 
 unfoldable pub marks_in : Field → List ℕ → List ℕ
-marks_in End s = []
 marks_in (Letters a b c) s = []
 marks_in (Number c w) s = []
 marks_in (Code c w) s = code_mark (code_in s c w) ∷ []

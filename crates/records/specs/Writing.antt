@@ -12,7 +12,7 @@ use Rattle.fields.specs.Text.{is_name}
 use Rattle.codes.specs.Code.{code_holds, spell_code}
 use Rattle.records.specs.declared.Kind.{Kind}
 use Rattle.records.specs.declared.Field.{Field}
-use Rattle.records.specs.declared.Field.TheVariants.{End, Letters, Number, Code, Name, Blank}
+use Rattle.records.specs.declared.Field.TheVariants.{Letters, Number, Code, Name, Blank}
 use Rattle.records.specs.declared.Record.{Record}
 use Rattle.records.specs.Layout.{layout_of, numbers_of, bytes_of, marks_of}
 use Rattle.records.specs.Reading.{is_head, mark_fits}
@@ -24,7 +24,6 @@ unfoldable pub second_letter : ℕ → ℕ → ℕ → ℕ
 second_letter b c letters = cond (eqb letters 2) c b
 
 unfoldable pub field_text : ℕ → Field → List ℤ → List ℕ → List ℕ → List ℕ
-field_text letters End ns nm ms = []
 field_text letters (Letters a b c) ns nm ms = a ∷ second_letter b c letters ∷ []
 field_text letters (Number c w) ns nm ms = spell w (get_or ns 0 (pos 0))
 field_text letters (Code c w) ns nm ms = spell_code w (get_or ns 0 (pos 0)) (get_or ms 0 0)
@@ -33,7 +32,6 @@ field_text letters (Blank c w) ns nm ms = replicate w 32
 
 -- RULES 9.5: a value fits its field, a name is two-byte characters
 unfoldable pub field_fits : Bool → Field → List ℤ → List ℕ → List ℕ → Bool
-field_fits five End ns nm ms = true
 field_fits five (Letters a b c) ns nm ms = true
 field_fits five (Number c w) ns nm ms = leb 1 (length ns) && holds w (get_or ns 0 (pos 0))
 field_fits five (Code c w) ns nm ms =

@@ -7,7 +7,7 @@
 #![tactic(auto)]
 
 ghost use Rattle.std.specs.Prelude.{◌≡◌, ◌≤◌, get_or};
-ghost use Rattle.records.specs.Layout.{mesh_layout, layer_layout, node_layout, line_layout, coordinates_layout, area_layout, loop_layout, layout_of};
+ghost use Rattle.records.specs.Layout.{layout_of};
 ghost use Rattle.records.specs.Reading.{letters_right, head_letters, is_head, letters_in, in_layer_five, code_in};
 ghost use Rattle.records.specs.View.{record_of, number_in};
 ghost use Rattle.records.specs.Columns.{slot_start, slot_in};
@@ -27,10 +27,9 @@ pub enum Kind {
 }
 
 // A field of a layout, with its first column and its width: a number, a code, a name, or blanks; or type
-// letters, the first and the two of which either may stand second; or no field.
+// letters, the first and the two of which either may stand second.
 #[derive(Clone, Copy)]
 pub enum Field {
-    End,
     Letters(u8, u8, u8),
     Number(usize, usize),
     Code(usize, usize),
@@ -141,146 +140,143 @@ pub struct Misread {
 
 // ---- the layouts, in column order
 
-// Field `j` of an M record.
-fn mesh_field(j: usize) -> Field
-    ensures { result ≡ get_or mesh_layout j Field.End }
-{
-    match j {
-        0 => Field::Letters(b'M', b' ', b' '),
-        1 => Field::Number(3, 6), // mesh code
-        2 => Field::Name(9, 20),
-        3 => Field::Number(29, 3), // layers
-        4 => Field::Number(32, 5), // nodes
-        5 => Field::Number(37, 5), // lines
-        6 => Field::Number(42, 5), // areas
-        7 => Field::Number(47, 5), // points
-        8 => Field::Number(52, 5), // records
-        9 => Field::Blank(57, 16),
-        _ => Field::End,
-    }
-}
+// M.
+const MESH_LAYOUT: [Field; 10] = [
+    Field::Letters(b'M', b' ', b' '),
+    Field::Number(3, 6), // mesh code
+    Field::Name(9, 20),
+    Field::Number(29, 3), // layers
+    Field::Number(32, 5), // nodes
+    Field::Number(37, 5), // lines
+    Field::Number(42, 5), // areas
+    Field::Number(47, 5), // points
+    Field::Number(52, 5), // records
+    Field::Blank(57, 16),
+];
 
-// Field `j` of an H record.
-fn layer_field(j: usize) -> Field
-    ensures { result ≡ get_or layer_layout j Field.End }
-{
-    match j {
-        0 => Field::Letters(b'H', b'1', b'2'),
-        1 => Field::Number(3, 2), // layer
-        2 => Field::Number(5, 5), // nodes
-        3 => Field::Number(10, 5), // lines
-        4 => Field::Number(15, 5), // areas
-        5 => Field::Number(20, 5), // points
-        6 => Field::Number(25, 5), // records
-        7 => Field::Blank(30, 1),
-        8 => Field::Number(31, 4), // first made
-        9 => Field::Blank(35, 1),
-        10 => Field::Number(36, 4), // last changed
-        11 => Field::Blank(40, 33),
-        _ => Field::End,
-    }
-}
+// H.
+const LAYER_LAYOUT: [Field; 12] = [
+    Field::Letters(b'H', b'1', b'2'),
+    Field::Number(3, 2), // layer
+    Field::Number(5, 5), // nodes
+    Field::Number(10, 5), // lines
+    Field::Number(15, 5), // areas
+    Field::Number(20, 5), // points
+    Field::Number(25, 5), // records
+    Field::Blank(30, 1),
+    Field::Number(31, 4), // first made
+    Field::Blank(35, 1),
+    Field::Number(36, 4), // last changed
+    Field::Blank(40, 33),
+];
 
-// Field `j` of an N record.
-fn node_field(j: usize) -> Field
-    ensures { result ≡ get_or node_layout j Field.End }
-{
-    match j {
-        0 => Field::Letters(b'N', b' ', b' '),
-        1 => Field::Number(3, 2), // layer
-        2 => Field::Number(5, 2), // item
-        3 => Field::Number(7, 5), // serial
-        4 => Field::Number(12, 5), // X
-        5 => Field::Number(17, 5), // Y
-        6 => Field::Number(22, 2), // frame
-        7 => Field::Number(24, 2), // count
-        8..=16 => Field::Number(26 + 5 * (j - 8), 5), // nine line numbers
-        17 => Field::Blank(71, 2),
-        _ => Field::End,
-    }
-}
+// N.
+const NODE_LAYOUT: [Field; 18] = [
+    Field::Letters(b'N', b' ', b' '),
+    Field::Number(3, 2), // layer
+    Field::Number(5, 2), // item
+    Field::Number(7, 5), // serial
+    Field::Number(12, 5), // X
+    Field::Number(17, 5), // Y
+    Field::Number(22, 2), // frame
+    Field::Number(24, 2), // count
+    Field::Number(26, 5), // nine line numbers
+    Field::Number(31, 5),
+    Field::Number(36, 5),
+    Field::Number(41, 5),
+    Field::Number(46, 5),
+    Field::Number(51, 5),
+    Field::Number(56, 5),
+    Field::Number(61, 5),
+    Field::Number(66, 5),
+    Field::Blank(71, 2),
+];
 
-// Field `j` of an L record.
-fn line_field(j: usize) -> Field
-    ensures { result ≡ get_or line_layout j Field.End }
-{
-    match j {
-        0 => Field::Letters(b'L', b' ', b' '),
-        1 => Field::Number(3, 2), // layer
-        2 => Field::Number(5, 2), // item
-        3 => Field::Number(7, 5), // serial
-        4 => Field::Number(12, 6), // kind
-        5 => Field::Number(18, 5), // start node
-        6 => Field::Number(23, 1), // its link
-        7 => Field::Number(24, 5), // end node
-        8 => Field::Number(29, 1), // its link
-        9 => Field::Code(30, 5), // left code
-        10 => Field::Number(35, 5), // left area
-        11 => Field::Code(40, 5), // right code
-        12 => Field::Number(45, 5), // right area
-        13 => Field::Number(50, 6), // points
-        14 => Field::Number(56, 2),
-        15 => Field::Number(58, 3),
-        16 => Field::Blank(61, 12),
-        _ => Field::End,
-    }
-}
+// L.
+const LINE_LAYOUT: [Field; 17] = [
+    Field::Letters(b'L', b' ', b' '),
+    Field::Number(3, 2), // layer
+    Field::Number(5, 2), // item
+    Field::Number(7, 5), // serial
+    Field::Number(12, 6), // kind
+    Field::Number(18, 5), // start node
+    Field::Number(23, 1), // its link
+    Field::Number(24, 5), // end node
+    Field::Number(29, 1), // its link
+    Field::Code(30, 5), // left code
+    Field::Number(35, 5), // left area
+    Field::Code(40, 5), // right code
+    Field::Number(45, 5), // right area
+    Field::Number(50, 6), // points
+    Field::Number(56, 2),
+    Field::Number(58, 3),
+    Field::Blank(61, 12),
+];
 
-// Field `j` of a coordinate record.
-fn coordinates_field(j: usize) -> Field
-    ensures { result ≡ get_or coordinates_layout j Field.End }
-{
-    match j {
-        0..=13 => Field::Number(1 + 5 * j, 5), // seven X, Y pairs
-        14 => Field::Blank(71, 2),
-        _ => Field::End,
-    }
-}
+// Coordinates.
+const COORDINATES_LAYOUT: [Field; 15] = [
+    Field::Number(1, 5), // seven X, Y pairs
+    Field::Number(6, 5),
+    Field::Number(11, 5),
+    Field::Number(16, 5),
+    Field::Number(21, 5),
+    Field::Number(26, 5),
+    Field::Number(31, 5),
+    Field::Number(36, 5),
+    Field::Number(41, 5),
+    Field::Number(46, 5),
+    Field::Number(51, 5),
+    Field::Number(56, 5),
+    Field::Number(61, 5),
+    Field::Number(66, 5),
+    Field::Blank(71, 2),
+];
 
-// Field `j` of an A record.
-fn area_field(j: usize) -> Field
-    ensures { result ≡ get_or area_layout j Field.End }
-{
-    match j {
-        0 => Field::Letters(b'A', b' ', b' '),
-        1 => Field::Number(3, 2), // layer
-        2 => Field::Code(5, 5), // code
-        3 => Field::Number(10, 5), // serial
-        4 => Field::Number(15, 5), // X
-        5 => Field::Number(20, 5), // Y
-        6 => Field::Number(25, 4), // loops
-        7 => Field::Number(29, 4), // lines
-        8 => Field::Name(33, 40),
-        _ => Field::End,
-    }
-}
+// A.
+const AREA_LAYOUT: [Field; 9] = [
+    Field::Letters(b'A', b' ', b' '),
+    Field::Number(3, 2), // layer
+    Field::Code(5, 5), // code
+    Field::Number(10, 5), // serial
+    Field::Number(15, 5), // X
+    Field::Number(20, 5), // Y
+    Field::Number(25, 4), // loops
+    Field::Number(29, 4), // lines
+    Field::Name(33, 40),
+];
 
-// Field `j` of a loop record.
-fn loop_field(j: usize) -> Field
-    ensures { result ≡ get_or loop_layout j Field.End }
-{
-    match j {
-        0 => Field::Number(1, 5), // serial
-        1 => Field::Number(6, 4), // line count
-        2..=13 => Field::Number(10 + 5 * (j - 2), 5), // twelve line numbers
-        14 => Field::Blank(70, 3),
-        _ => Field::End,
-    }
-}
+// Loop.
+const LOOP_LAYOUT: [Field; 15] = [
+    Field::Number(1, 5), // serial
+    Field::Number(6, 4), // line count
+    Field::Number(10, 5), // twelve line numbers
+    Field::Number(15, 5),
+    Field::Number(20, 5),
+    Field::Number(25, 5),
+    Field::Number(30, 5),
+    Field::Number(35, 5),
+    Field::Number(40, 5),
+    Field::Number(45, 5),
+    Field::Number(50, 5),
+    Field::Number(55, 5),
+    Field::Number(60, 5),
+    Field::Number(65, 5),
+    Field::Blank(70, 3),
+];
 
-// Field `j` of a record of the kind, counted from 0; `End` past the last.
+// The fields of a record of the kind, in column order.
 #[tactic(auto, unfolding(crate::specs::Layout::layout_of))]
-pub fn field_of(kind: Kind, j: usize) -> Field
-    ensures { result ≡ get_or (layout_of kind) j Field.End }
+pub fn layout_of(kind: Kind) -> &'static [Field]
+    ensures { result.now ≡ layout_of kind }
 {
     match kind {
-        Kind::Mesh => mesh_field(j),
-        Kind::Layer => layer_field(j),
-        Kind::Node => node_field(j),
-        Kind::Line => line_field(j),
-        Kind::Coordinates => coordinates_field(j),
-        Kind::Area => area_field(j),
-        Kind::Loop => loop_field(j),
+        Kind::Mesh => &MESH_LAYOUT,
+        Kind::Layer => &LAYER_LAYOUT,
+        Kind::Node => &NODE_LAYOUT,
+        Kind::Line => &LINE_LAYOUT,
+        Kind::Coordinates => &COORDINATES_LAYOUT,
+        Kind::Area => &AREA_LAYOUT,
+        Kind::Loop => &LOOP_LAYOUT,
     }
 }
 

@@ -14,7 +14,7 @@ use Rattle.fields.specs.Number.{number_at}
 use Rattle.records.specs.Layout.{row, layout_of, numbers_of, total}
 use Rattle.records.specs.Reading.{zeros}
 use Rattle.records.specs.declared.Field.{Field}
-use Rattle.records.specs.declared.Field.TheVariants.{End, Letters, Number, Code, Name, Blank}
+use Rattle.records.specs.declared.Field.TheVariants.{Letters, Number, Code, Name, Blank}
 use Rattle.records.proofs.Layouts.{fitting}
 use Rattle.verdict.proofs.Holding.{Holding, both_hold}
 use Rattle.rules.specs.declared.Due.{Due}
@@ -25,8 +25,7 @@ use Rattle.rules.specs.Checks.{kind_of, asked_of, free, form_checks, value_check
 
 -- the field of number i, counted from 0; the end where there are no more
 abbrev pub number_field : List Field → ℕ → Field
-number_field [] i = End
-number_field (End ∷ L) i = number_field L i
+number_field [] i = Blank 0 0
 number_field (Letters x y z ∷ L) i = number_field L i
 number_field (Number c w ∷ L) zero = Number c w
 number_field (Number c w ∷ L) (suc i) = number_field L i
@@ -48,7 +47,6 @@ row_number c w (suc n) L (suc i) h =
 -- the numbers of a record as they stand where number i of L is read, behind n numbers, which are ns: those up to it
 read_to : List Field → ℕ → List ℤ → List ℕ → ℕ → List ℤ
 read_to [] n ns t i = ns
-read_to (End ∷ L) n ns t i = read_to L n ns t i
 read_to (Letters x y z ∷ L) n ns t i = read_to L n ns t i
 read_to (Number c w ∷ L) n ns t zero = with_number ns n t c w
 read_to (Number c w ∷ L) n ns t (suc i) = read_to L (suc n) (with_number ns n t c w) t i
@@ -58,7 +56,7 @@ read_to (Name c w ∷ L) n ns t i = read_to L n ns t i
 read_to (Blank c w ∷ L) n ns t i = read_to L n ns t i
 
 -- no number stands at the end, and a code is none
-no_number : {A : Type 0} {c w : ℕ} → End ≡ Number c w → A
+no_number : {A : Type 0} {c w : ℕ} → Blank 0 0 ≡ Number c w → A
 no_number e =
     let z : ◌≡◌ {A = ℕ} 0 1 = cc in
     absurd (omega arith)
@@ -74,7 +72,6 @@ module _ (t : List ℕ) where
       → at (read_to L n ns t i) (n + i) ≡ value_of (number_at t c w)
   unfolding read_to total
   number_read [] n ns i e l = no_number e
-  number_read (End ∷ L) n ns i e l = number_read L n ns i e (omega arith)
   number_read (Letters x y z ∷ L) n ns i e l = number_read L n ns i e (omega arith)
   number_read (Number c w ∷ L) n ns zero {c = x} {w = y} e l =
       let p : c ≡ x = cc in
@@ -96,7 +93,6 @@ module _ (t : List ℕ) where
       → Holding (form_checks (Number c w) t) × Holding (value_checks c (a (n + i) (read_to L n ns t i)))
   unfolding along read_to
   number_holds a [] n ns h i e = no_number e
-  number_holds a (End ∷ L) n ns h i e = number_holds a L n ns h i e
   number_holds a (Letters x y z ∷ L) n ns h i e = number_holds a L n ns (both_hold (form_checks (Letters x y z) t) _ h).1 i e
   number_holds a (Number c w ∷ L) n ns h zero {c = x} {w = y} e =
       let p : c ≡ x = cc in

@@ -1,7 +1,7 @@
 -- Stage 2 along a layout, one field at a time: what the loop of `judge_record` keeps. Assumes nothing.
 use mathlib.Core.Bool.{Bool, true, false, cond, ◌&&◌, ◌||◌, not}
 use mathlib.Core.List.{List, [], ◌∷◌, ◌++◌}
-use mathlib.Core.Path.{◌≡◌, refl, sym, ◌∙◌}
+use mathlib.Core.Path.{◌≡◌, refl, sym, ap, ◌∙◌}
 use Prim.Native.Nat.{ℕ, suc, ◌+◌, ◌≤◌, ◌<◌}
 use native.Mathlib.Numerals.{add-one}
 use native.Mathlib.Omega.{arith}
@@ -15,8 +15,9 @@ use Rattle.codes.specs.declared.Code as codes
 use Rattle.records.specs.Layout.{layout_of, start_of, numbers_of, total}
 use Rattle.records.specs.Reading.{letters_right, letters_in, code_in, fault_of, zeros}
 use Rattle.records.specs.declared.Field.{Field}
-use Rattle.records.specs.declared.Field.TheVariants.{End, Letters, Number, Code, Name, Blank}
-use Rattle.records.proofs.Layouts.{is_field, on_layout, off_layout, split, total_split, fitting, start_small}
+use Rattle.records.specs.declared.Kind.{Kind}
+use Rattle.records.specs.declared.Field.TheVariants.{Letters, Number, Code, Name, Blank}
+use Rattle.records.proofs.Layouts.{Stands, stands, on_layout, total_split, fitting, start_small}
 use Rattle.verdict.specs.Rules.{Fine, Broken, Check, check, first_broken, block}
 use Rattle.verdict.proofs.Parts.{check_none, check_kept, check_broken}
 use Rattle.rules.specs.declared.Due.{Due}
@@ -61,6 +62,11 @@ pub start : (d : Due) (t : List ℕ) (r : ℕ) → Going d t r zeros 0 0
 unfolding checks_of
 start d t r = record { many = refl; room = omega (arith, (fitting (kind_of d)).numbers); answer = refl }
 
+-- as code has it: field j of the list K is f, and K is the layout of the kind that is due
+pub stood : (d : Due) {k : Kind} {K : List Field} (j : ℕ) (z f : Field) → k ≡ kind_of d → K ≡ layout_of k → j < length K → get_or K j z ≡ f
+    → Stands (layout_of (kind_of d)) j f
+stood d j z f p q l e = rw (q ∙ ap layout_of p) at (stands _ j f z l (sym e))
+
 -- there is room for the field f at j
 pub record Room (d : Due) (f : Field) (n j : ℕ) : Type 0 where
   pub inside : j < length (layout_of (kind_of d))
@@ -70,41 +76,41 @@ pub record Room (d : Due) (f : Field) (n j : ℕ) : Type 0 where
 
 module _ {d : Due} {t : List ℕ} {r : ℕ} {ns : List ℤ} {n j : ℕ} (g : Going d t r ns n j) where
   -- the layout's end
-  pub ends : End ≡ get_or (layout_of (kind_of d)) j End → Fine ≡ first_broken (block 2 r (checks_of d t))
+  pub ends : length (layout_of (kind_of d)) ≤ j → Fine ≡ first_broken (block 2 r (checks_of d t))
   unfolding along
   ends e =
-      let z : drop j (layout_of (kind_of d)) ≡ [] = drop_of_length-le (layout_of (kind_of d)) (off_layout (layout_of (kind_of d)) j (fitting (kind_of d)).tiled e) in
+      let z : drop j (layout_of (kind_of d)) ≡ [] = drop_of_length-le (layout_of (kind_of d)) e in
       check_none 2 r ∙ (rw z at g.answer)
 
-  module _ (f : Field) (e : f ≡ get_or (layout_of (kind_of d)) j End) (i : is_field f ≡ true) where
+  module _ (f : Field) (e : Stands (layout_of (kind_of d)) j f) where
     pub room_for : Room d f n j
     room_for =
-        let l = on_layout (layout_of (kind_of d)) j f e i in
+        let l = on_layout (layout_of (kind_of d)) j f e in
         record {
           inside = l;
           step = omega (arith, l, (fitting (kind_of d)).few);
-          numbers = omega (arith, total_split (layout_of (kind_of d)) j f e i numbers_of, g.room);
-          column = rw e (start_small (layout_of (kind_of d)) 1 j (fitting (kind_of d)).tiled l);
+          numbers = omega (arith, total_split (layout_of (kind_of d)) j f e numbers_of, g.room);
+          column = start_small (layout_of (kind_of d)) 1 j f (fitting (kind_of d)).tiled e;
         }
 
     -- field f in front of what is left behind it
     step : first_broken (block 2 r (along (asked_of d t) (f ∷ drop (j + 1) (layout_of (kind_of d))) n ns t)) ≡ first_broken (block 2 r (checks_of d t))
-    step = rw (split (layout_of (kind_of d)) j f e i) at g.answer
+    step = rw e at g.answer
 
     next_room : (n' : ℕ) → n' ≡ n + numbers_of f → n' + total numbers_of (drop (j + 1) (layout_of (kind_of d))) ≤ 16
-    next_room n' p = omega (arith, total_split (layout_of (kind_of d)) j f e i numbers_of, g.room)
+    next_room n' p = omega (arith, total_split (layout_of (kind_of d)) j f e numbers_of, g.room)
 
-  module _ (a b c : ℕ) (e : Letters a b c ≡ get_or (layout_of (kind_of d)) j End) {m : Bool} (q : m ≡ letters_right a b c (get_or t 0 0) (get_or t 1 0)) where
+  module _ (a b c : ℕ) (e : Stands (layout_of (kind_of d)) j (Letters a b c)) {m : Bool} (q : m ≡ letters_right a b c (get_or t 0 0) (get_or t 1 0)) where
     pub letters_broken : m ≡ false → Broken 3 r 1 ≡ first_broken (block 2 r (checks_of d t))
     unfolding along form_checks fault_of
-    letters_broken z = sym (check_broken 2 r 1 3 _ _ (rw (← q, z))) ∙ step (Letters a b c) e refl
+    letters_broken z = sym (check_broken 2 r 1 3 _ _ (rw (← q, z))) ∙ step (Letters a b c) e
 
     pub letters_next : m ≡ true → Going d t r ns n (j + 1)
     unfolding along form_checks fault_of
     letters_next z = record {
       many = g.many;
-      room = next_room (Letters a b c) e refl n (omega arith);
-      answer = sym (check_kept 2 r 1 3 _ _ (rw (← q, z))) ∙ step (Letters a b c) e refl;
+      room = next_room (Letters a b c) e n (omega arith);
+      answer = sym (check_kept 2 r 1 3 _ _ (rw (← q, z))) ∙ step (Letters a b c) e;
     }
 
   -- behind a well-formed number or code that starts at column c, what is asked of its value v comes next
@@ -113,7 +119,7 @@ module _ {d : Due} {t : List ℕ} {r : ℕ} {ns : List ℤ} {n j : ℕ} (g : Goi
       first_broken (block 2 r (value_checks c (asked_of d t n (set ns n v)) ++ along (asked_of d t) (drop (j + 1) (layout_of (kind_of d))) (suc n) (set ns n v) t))
       ≡ first_broken (block 2 r (checks_of d t))
 
-  module _ (f : Field) (e : f ≡ get_or (layout_of (kind_of d)) j End) (i : is_field f ≡ true) (one : numbers_of f ≡ 1) (v : ℤ)
+  module _ (f : Field) (e : Stands (layout_of (kind_of d)) j f) (one : numbers_of f ≡ 1) (v : ℤ)
       (a : Next (start_of f) v) where
     value_broken : {x : Fault} → Err x ≡ first_asked (asked_of d t n (set ns n v)) → Broken (fault_number x) r (start_of f) ≡ first_broken (block 2 r (checks_of d t))
     value_broken p = sym (values_broken r (start_of f) _ (asked_of d t n (set ns n v)) _ (sym p)) ∙ a
@@ -121,64 +127,64 @@ module _ {d : Due} {t : List ℕ} {r : ℕ} {ns : List ℤ} {n j : ℕ} (g : Goi
     value_next : Ok tt ≡ first_asked (asked_of d t n (set ns n v)) → Going d t r (set ns n v) (n + 1) (j + 1)
     value_next p = record {
       many = rw length-set g.many;
-      room = next_room f e i (n + 1) (rw one);
+      room = next_room f e (n + 1) (rw one);
       answer = rw (add-one n) (sym (values_kept r (start_of f) _ (asked_of d t n (set ns n v)) (sym p)) ∙ a);
     }
 
-  module _ (c w : ℕ) (e : Number c w ≡ get_or (layout_of (kind_of d)) j End) {m : Option ℤ} (q : m ≡ number_at t c w) where
+  module _ (c w : ℕ) (e : Stands (layout_of (kind_of d)) j (Number c w)) {m : Option ℤ} (q : m ≡ number_at t c w) where
     pub number_ill : m ≡ None → Broken 5 r c ≡ first_broken (block 2 r (checks_of d t))
     unfolding along form_checks fault_of
-    number_ill z = sym (check_broken 2 r c 5 _ _ (rw (← q, z))) ∙ step (Number c w) e refl
+    number_ill z = sym (check_broken 2 r c 5 _ _ (rw (← q, z))) ∙ step (Number c w) e
 
     module _ (v : ℤ) (z : m ≡ Some v) where
       number_asked : Next c v
       unfolding along form_checks fault_of
-      number_asked = rw (← q, z) at (sym (check_kept 2 r c 5 _ _ (rw (← q, z))) ∙ step (Number c w) e refl)
+      number_asked = rw (← q, z) at (sym (check_kept 2 r c 5 _ _ (rw (← q, z))) ∙ step (Number c w) e)
 
       pub number_broken : {x : Fault} → Err x ≡ first_asked (asked_of d t n (set ns n v)) → Broken (fault_number x) r c ≡ first_broken (block 2 r (checks_of d t))
-      number_broken p = value_broken (Number c w) e refl refl v number_asked p
+      number_broken p = value_broken (Number c w) e refl v number_asked p
 
       pub number_next : Ok tt ≡ first_asked (asked_of d t n (set ns n v)) → Going d t r (set ns n v) (n + 1) (j + 1)
-      number_next p = value_next (Number c w) e refl refl v number_asked p
+      number_next p = value_next (Number c w) e refl v number_asked p
 
-  module _ (c w : ℕ) (e : Code c w ≡ get_or (layout_of (kind_of d)) j End) {m : Option codes.Code} (q : m ≡ code_in t c w) where
+  module _ (c w : ℕ) (e : Stands (layout_of (kind_of d)) j (Code c w)) {m : Option codes.Code} (q : m ≡ code_in t c w) where
     pub code_ill : m ≡ None → Broken 5 r c ≡ first_broken (block 2 r (checks_of d t))
     unfolding along form_checks fault_of
-    code_ill z = sym (check_broken 2 r c 5 _ _ (rw (← q, z))) ∙ step (Code c w) e refl
+    code_ill z = sym (check_broken 2 r c 5 _ _ (rw (← q, z))) ∙ step (Code c w) e
 
     module _ (k : codes.Code) (z : m ≡ Some k) where
       code_asked : Next c k.value
       unfolding along form_checks fault_of
-      code_asked = rw (← q, z) at (sym (check_kept 2 r c 5 _ _ (rw (← q, z))) ∙ step (Code c w) e refl)
+      code_asked = rw (← q, z) at (sym (check_kept 2 r c 5 _ _ (rw (← q, z))) ∙ step (Code c w) e)
 
       pub code_broken : {x : Fault} → Err x ≡ first_asked (asked_of d t n (set ns n k.value)) → Broken (fault_number x) r c ≡ first_broken (block 2 r (checks_of d t))
-      code_broken p = value_broken (Code c w) e refl refl k.value code_asked p
+      code_broken p = value_broken (Code c w) e refl k.value code_asked p
 
       pub code_next : Ok tt ≡ first_asked (asked_of d t n (set ns n k.value)) → Going d t r (set ns n k.value) (n + 1) (j + 1)
-      code_next p = value_next (Code c w) e refl refl k.value code_asked p
+      code_next p = value_next (Code c w) e refl k.value code_asked p
 
-  module _ (c w : ℕ) (e : Name c w ≡ get_or (layout_of (kind_of d)) j End) {m : Bool} (q : m ≡ text_at is_name t c w) where
+  module _ (c w : ℕ) (e : Stands (layout_of (kind_of d)) j (Name c w)) {m : Bool} (q : m ≡ text_at is_name t c w) where
     pub name_ill : m ≡ false → Broken 5 r c ≡ first_broken (block 2 r (checks_of d t))
     unfolding along form_checks fault_of
-    name_ill z = sym (check_broken 2 r c 5 _ _ (rw (← q, z))) ∙ step (Name c w) e refl
+    name_ill z = sym (check_broken 2 r c 5 _ _ (rw (← q, z))) ∙ step (Name c w) e
 
     pub name_next : m ≡ true → Going d t r ns n (j + 1)
     unfolding along form_checks fault_of
     name_next z = record {
       many = g.many;
-      room = next_room (Name c w) e refl n (omega arith);
-      answer = sym (check_kept 2 r c 5 _ _ (rw (← q, z))) ∙ step (Name c w) e refl;
+      room = next_room (Name c w) e n (omega arith);
+      answer = sym (check_kept 2 r c 5 _ _ (rw (← q, z))) ∙ step (Name c w) e;
     }
 
-  module _ (c w : ℕ) (e : Blank c w ≡ get_or (layout_of (kind_of d)) j End) {m : Bool} (q : m ≡ text_at is_blanks t c w) where
+  module _ (c w : ℕ) (e : Stands (layout_of (kind_of d)) j (Blank c w)) {m : Bool} (q : m ≡ text_at is_blanks t c w) where
     pub blank_ill : m ≡ false → Broken 5 r c ≡ first_broken (block 2 r (checks_of d t))
     unfolding along form_checks fault_of
-    blank_ill z = sym (check_broken 2 r c 5 _ _ (rw (← q, z))) ∙ step (Blank c w) e refl
+    blank_ill z = sym (check_broken 2 r c 5 _ _ (rw (← q, z))) ∙ step (Blank c w) e
 
     pub blank_next : m ≡ true → Going d t r ns n (j + 1)
     unfolding along form_checks fault_of
     blank_next z = record {
       many = g.many;
-      room = next_room (Blank c w) e refl n (omega arith);
-      answer = sym (check_kept 2 r c 5 _ _ (rw (← q, z))) ∙ step (Blank c w) e refl;
+      room = next_room (Blank c w) e n (omega arith);
+      answer = sym (check_kept 2 r c 5 _ _ (rw (← q, z))) ∙ step (Blank c w) e;
     }

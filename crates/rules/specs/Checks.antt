@@ -12,7 +12,7 @@ use Rattle.codes.specs.Code.{code_value}
 use Rattle.records.specs.declared.Kind.{Kind}
 use Rattle.records.specs.declared.Kind.TheVariants as kind
 use Rattle.records.specs.declared.Field.{Field}
-use Rattle.records.specs.declared.Field.TheVariants.{End, Letters, Number, Code, Name, Blank}
+use Rattle.records.specs.declared.Field.TheVariants.{Letters, Number, Code, Name, Blank}
 use Rattle.records.specs.Layout.{layout_of}
 use Rattle.records.specs.Reading.{letters_in, code_in, fault_of, zeros}
 use Rattle.verdict.specs.Rules.{Check, check}
@@ -49,7 +49,6 @@ free n f t = not (eqb (fault_of f t) n)
 
 -- RULES 6.4: 3 for letters that are not those due, at column 1; 5 for an ill-formed field, at its start
 unfoldable pub form_checks : Field → List ℕ → List Check
-form_checks End t = []
 form_checks (Letters a b c) t = check 1 3 (free 3 (Letters a b c) t) ∷ []
 form_checks (Number c w) t = check c 5 (free 5 (Number c w) t) ∷ []
 form_checks (Code c w) t = check c 5 (free 5 (Code c w) t) ∷ []
@@ -73,7 +72,6 @@ with_code ns i t c w = set ns i (code_value (code_in t c w))
 -- RULES 6.4: field by field from the left, its form and then its value
 unfoldable pub along : (ℕ → List ℤ → List Ask) → List Field → ℕ → List ℤ → List ℕ → List Check
 along a [] i ns t = []
-along a (End ∷ L) i ns t = along a L i ns t
 along a (Letters x y z ∷ L) i ns t = form_checks (Letters x y z) t ++ along a L i ns t
 along a (Number c w ∷ L) i ns t =
     form_checks (Number c w) t

@@ -84,15 +84,12 @@ pub fn judge_record(due: Due, s: &[u8], row: u32) -> Verdict
     let letters = records::letters_in(kind, s);
     let mut numbers = [0i32; 16];
     let mut n: usize = 0;
-    let mut j: usize = 0;
-    loop {
-        match records::field_of(kind, j) {
-            Field::End => return Ok(()),
+    for field in records::layout_of(kind) {
+        match *field {
             Field::Letters(a, b, c) => {
                 if !records::letters_right(a, b, c, byte_at(s, 0), byte_at(s, 1)) {
                     return Err(refusal(3, row, 1));
                 }
-                j += 1;
             }
             Field::Number(c, w) => {
                 let Some(v) = numerals::read_number(s, c, w) else {
@@ -103,19 +100,16 @@ pub fn judge_record(due: Due, s: &[u8], row: u32) -> Verdict
                     return Err(refusal(fault.number(), row, c));
                 }
                 n += 1;
-                j += 1;
             }
             Field::Name(c, w) => {
                 if !texts::read_name(s, c, w) {
                     return Err(refusal(5, row, c));
                 }
-                j += 1;
             }
             Field::Blank(c, w) => {
                 if !texts::read_blank(s, c, w) {
                     return Err(refusal(5, row, c));
                 }
-                j += 1;
             }
             Field::Code(c, w) => {
                 let Some(code) = records::read_code(s, c, w) else {
@@ -126,8 +120,8 @@ pub fn judge_record(due: Due, s: &[u8], row: u32) -> Verdict
                     return Err(refusal(fault.number(), row, c));
                 }
                 n += 1;
-                j += 1;
             }
         }
     }
+    Ok(())
 }

@@ -7,7 +7,7 @@ use mir.Syntax.{w32}
 use borrow.Author.Rules.{rules}
 use Rattle.records.specs.Layout.{layout_of}
 use Rattle.records.specs.Writing.{mark_fits, of_layer_five, fields_fit, record_bytes}
-use Rattle.records.specs.declared.Field.TheVariants.{End, Letters, Number, Code, Name, Blank}
+use Rattle.records.specs.declared.Field.TheVariants.{Letters, Number, Code, Name, Blank}
 use Rattle.records.proofs.Layouts.{Room}
 use Rattle.record_writer.proofs.Lines.{refused_line, start, room, ends, letters_next}
 use Rattle.record_writer.proofs.Lines.{number_next, number_unfit, name_next, name_unfit, blank_next, mark_unfit, code_next, code_unfit}
