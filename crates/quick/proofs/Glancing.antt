@@ -104,5 +104,5 @@ module _ {left i : ℕ} {t : List ℕ} (g : Glancing left t i) (l : i < 14) wher
 module _ {left : ℕ} {t : List ℕ} (g : Glancing left t 14) where
   pub last_glanced : (b : Bool) → b ≡ text_at is_blanks t 71 2 → (row : ℕ) → b ≡ is_fine (first_broken (block 2 row (checks_of (Coordinates left) t)))
   unfolding layout_of
-  last_glanced true e row = ap is_fine (ends (blank_next (g.going row) 71 2 refl e refl) refl)
+  last_glanced true e row = ap is_fine (ends (blank_next (g.going row) 71 2 refl e refl) (omega arith))
   last_glanced false e row = ap is_fine (blank_ill (g.going row) 71 2 refl e refl)

@@ -1,3 +1,2 @@
 -- What the proofs of `record_writer` go by.
 mod Lines
-mod Unused

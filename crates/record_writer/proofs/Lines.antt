@@ -1,5 +1,5 @@
 -- Writing along a layout, one field at a time: what the loop of `spell_record` keeps, over any layout. Assumes nothing.
-use mathlib.Core.Bool.{Bool, true, false, ◌&&◌}
+use mathlib.Core.Bool.{Bool, true, false, cond, ◌&&◌, false≢true}
 use mathlib.Core.List.{List, [], ◌∷◌, ◌++◌, append_assoc, append-nil}
 use mathlib.Core.Path.{◌≡◌, refl, sym, ap, ◌∙◌}
 use Prim.Native.Nat.{ℕ, ◌+◌, ◌-◌, ◌≤◌, ◌<◌}
@@ -9,16 +9,18 @@ use lib.IntN.{ℤ, pos}
 use lib.ListN.{length, get_or, take, drop, set, replicate, length-set, length-append, length-drop, drop_of_length-le}
 use lib.Seq.{drop-drop, take_at, length-take-le, get_or-drop, set_split, take-suc-set}
 use borrow.Author.Tests.{le-leb, lt-leb, eq-eqb, eqb-true}
-use Rattle.fields.specs.Answer.{number_fits, name_fits, Wrote}
+use Rattle.fields.specs.Answer.{number_fits, name_fits, Writing, Wrote}
 use Rattle.fields.specs.Place.{is_inside, put}
 use Rattle.fields.specs.Spelling.{spell}
 use Rattle.codes.specs.Code.{code_holds, spell_code, code_fits}
-use Rattle.fields.specs.declared.Writing as writings
-use Rattle.fields.specs.declared.Writing.TheVariants as writing
+use Rattle.std.specs.Prelude.{Result, Ok, Err}
+use Rattle.std.proofs.lemmas.List.{take_all}
+use Rattle.fields.specs.declared.Unfit.{Unfit}
+use Rattle.records.specs.Reading.{mark_fits}
 use Rattle.records.specs.Layout.{layout_of, start_of, width_of, numbers_of, bytes_of, marks_of}
-use Rattle.records.specs.Writing.{second_letter, field_text, mark_fits, field_fits, text_of, no_numbers, no_bytes, fits, of_layer_five, fields_fit, letters_fit, fits_all}
-use Rattle.records.specs.Writing.{record_bytes, SpelledAs, Written}
-use Rattle.records.specs.declared.Field.TheVariants.{Letters, Number, Code, Name, Blank}
+use Rattle.records.specs.Writing.{second_letter, field_text, field_fits, text_of, no_numbers, no_bytes, fits, of_layer_five, fields_fit, letters_fit, fits_all}
+use Rattle.records.specs.Writing.{record_bytes, spelled, Written}
+use Rattle.records.specs.declared.Field.TheVariants.{End, Letters, Number, Code, Name, Blank}
 use Rattle.records.specs.declared.Field.{Field}
 use Rattle.records.specs.declared.Kind.{Kind}
 use Rattle.records.specs.declared.Record.{Record}
@@ -67,6 +69,10 @@ unfolding tiles
 end_column a h =
     let e : a + 1 ≡ 73 = eqb-true _ _ h in
     omega arith
+
+-- all that stands behind n entries
+behind : {A : Type 0} (l : List A) (n : ℕ) → take (length l - n) (drop n l) ≡ drop n l
+behind l n = take_all (length l - n) (drop n l) (rw length-drop (omega arith))
 
 -- the type letters
 two_put : (s : List ℕ) (a b : ℕ) → length s ≡ 74 → set (set s 0 a) 1 b ≡ put s 1 (a ∷ b ∷ [])
@@ -140,14 +146,16 @@ module _ {d : ℕ} {L : List Field} {ns : List ℤ} {nm ms out : List ℕ} {n m 
 
   -- no field is left: the unused entries decide, and the line ends
   pub ends : End ≡ get_or L j End
-      → (fits (of_layer_five ns) L ns nm ms ≡ no_numbers (drop n ns) && (no_bytes (drop m nm) && no_bytes (drop q ms)))
+      → (fits (of_layer_five ns) L ns nm ms ≡ no_numbers (take (length ns - n) (drop n ns)) && (no_bytes (take (length nm - m) (drop m nm)) && no_bytes (take (length ms - q) (drop q ms))))
       × (set (set out 72 13) 73 10 ≡ text_of d L ns nm ms ++ (13 ∷ 10 ∷ []))
   unfolding fits text_of tiles
   ends e =
       let z : drop j L ≡ [] = drop_of_length-le L (off_layout L j g.left.fits.tiled e) in
       let a : g.at ≡ 72 = end_column g.at (rw z at g.tiled) in
-      let t : take g.at out ++ [] ≡ text_of d L ns nm ms = rw z at g.text in
-      (g.whole ∙ rw z, ended out g.long ∙ rw (← t, a, append-nil))
+      let t : take g.at out ++ [] ≡ text_of d L ns nm ms = rw z at g.text in (
+        rw (behind ns n, behind nm m, behind ms q) (g.whole ∙ rw z),
+        ended out g.long ∙ rw (← t, a, append-nil),
+      )
 
   -- ---- by the sort of the field
 
@@ -162,20 +170,20 @@ module _ {d : ℕ} {L : List Field} {ns : List ℤ} {nm ms out : List ℕ} {n m 
   number_first p = get_or-drop n ns 0 (pos 0) ∙ rw (add-zero, p)
 
   module _ (c w : ℕ) (e : Number c w ≡ get_or L j End) {v : ℤ} (p : v ≡ get_or ns n (pos 0))
-      {r : writings.Writing} {out' : List ℕ} (h : Wrote (number_fits out c w v) out c (spell w v) r out') where
+      {r : Writing} {out' : List ℕ} (h : Wrote (number_fits out c w v) out c (spell w v) r out') where
     number_fit : field_fits (of_layer_five ns) (Number c w) (drop n ns) (drop m nm) (drop q ms) ≡ number_fits out c w v
     unfolding field_fits number_fits
     number_fit =
         let l : 1 ≤ length (drop n ns) = rw length-drop (omega (arith, (room (Number c w) e refl).numbers, g.many)) in
         rw (le-leb 1 (length (drop n ns)) l, number_first p, inside (Number c w) e refl)
 
-    pub number_next : r ≡ writing.Done → Lines d L ns nm ms out' (n + 1) m q (j + 1)
+    pub number_next : {x : Unit {0}} → r ≡ Ok x → Lines d L ns nm ms out' (n + 1) m q (j + 1)
     unfolding field_text
     number_next z =
         let o = wrote_done h z in
         next (Number c w) e refl (n + 1) m q refl (omega arith) (omega arith) out' (number_fit ∙ o.0) (o.1 ∙ rw (number_first p))
 
-    pub number_unfit : r ≡ writing.Refused → fits (of_layer_five ns) L ns nm ms ≡ false
+    pub number_unfit : {u : Unfit} → r ≡ Err u → fits (of_layer_five ns) L ns nm ms ≡ false
     number_unfit z = unfit (Number c w) e refl (number_fit ∙ (wrote_refused h z).0)
 
   -- a code: its value v, its mark x, and whether that may stand
@@ -198,7 +206,7 @@ module _ {d : ℕ} {L : List Field} {ns : List ℤ} {nm ms out : List ℕ} {n m 
     pub mark_unfit : t ≡ false → fits (of_layer_five ns) L ns nm ms ≡ false
     mark_unfit z = unfit (Code c w) e refl (code_fit refl ∙ rw z (no_way (code_holds w (get_or ns n (pos 0)) x)))
 
-    module _ (y : t ≡ true) {v : ℤ} (p : v ≡ get_or ns n (pos 0)) {r : writings.Writing} {out' : List ℕ}
+    module _ (y : t ≡ true) {v : ℤ} (p : v ≡ get_or ns n (pos 0)) {r : Writing} {out' : List ℕ}
         (h : Wrote (code_fits out c w v x) out c (spell_code w v x) r out') where
       code_whole : field_fits (of_layer_five ns) (Code c w) (drop n ns) (drop m nm) (drop q ms) ≡ code_fits out c w v x
       unfolding code_fits
@@ -208,16 +216,16 @@ module _ {d : ℕ} {L : List Field} {ns : List ℤ} {nm ms out : List ℕ} {n m 
           and-true true = refl
           and-true false = refl
 
-      pub code_next : r ≡ writing.Done → Lines d L ns nm ms out' (n + 1) m (q + 1) (j + 1)
+      pub code_next : {x : Unit {0}} → r ≡ Ok x → Lines d L ns nm ms out' (n + 1) m (q + 1) (j + 1)
       unfolding field_text
       code_next z =
           let o = wrote_done h z in
           next (Code c w) e refl (n + 1) m (q + 1) refl (omega arith) refl out' (code_whole ∙ o.0) (o.1 ∙ rw (number_first p, mark_first))
 
-      pub code_unfit : r ≡ writing.Refused → fits (of_layer_five ns) L ns nm ms ≡ false
+      pub code_unfit : {u : Unfit} → r ≡ Err u → fits (of_layer_five ns) L ns nm ms ≡ false
       code_unfit z = unfit (Code c w) e refl (code_whole ∙ (wrote_refused h z).0)
 
-  module _ (c w : ℕ) (e : Name c w ≡ get_or L j End) {r : writings.Writing} {out' : List ℕ}
+  module _ (c w : ℕ) (e : Name c w ≡ get_or L j End) {r : Writing} {out' : List ℕ}
       (h : Wrote (name_fits out c w (take (m + w - m) (drop m nm))) out c (take (m + w - m) (drop m nm)) r out') where
     name_part : take (m + w - m) (drop m nm) ≡ take w (drop m nm)
     name_part =
@@ -230,28 +238,34 @@ module _ {d : ℕ} {L : List Field} {ns : List ℤ} {nm ms out : List ℕ} {n m 
         let l : w ≤ length (drop m nm) = rw length-drop (omega (arith, (room (Name c w) e refl).names, g.wide)) in
         rw (le-leb w (length (drop m nm)) l, inside (Name c w) e refl, eq-eqb _ w (length-take-le w (drop m nm) l))
 
-    pub name_next : r ≡ writing.Done → Lines d L ns nm ms out' n (m + w) q (j + 1)
+    pub name_next : {x : Unit {0}} → r ≡ Ok x → Lines d L ns nm ms out' n (m + w) q (j + 1)
     unfolding field_text
     name_next z =
         let o = wrote_done (rw name_part at h) z in
         next (Name c w) e refl n (m + w) q (omega arith) refl (omega arith) out' (name_fit ∙ o.0) o.1
 
-    pub name_unfit : r ≡ writing.Refused → fits (of_layer_five ns) L ns nm ms ≡ false
+    pub name_unfit : {u : Unfit} → r ≡ Err u → fits (of_layer_five ns) L ns nm ms ≡ false
     name_unfit z = unfit (Name c w) e refl (name_fit ∙ (wrote_refused (rw name_part at h) z).0)
 
-  module _ (c w : ℕ) (e : Blank c w ≡ get_or L j End) {r : writings.Writing} {out' : List ℕ} (h : Wrote (is_inside out c w) out c (replicate w 32) r out') where
+  module _ (c w : ℕ) (e : Blank c w ≡ get_or L j End) {r : Writing} {out' : List ℕ} (h : Wrote (is_inside out c w) out c (replicate w 32) r out') where
+    -- blanks always fit
+    pub blank_fits : {u : Unfit} → r ≡ Err u → ⊥
+    blank_fits z = false≢true (sym (wrote_refused h z).0 ∙ inside (Blank c w) e refl)
+
     pub blank_next : Lines d L ns nm ms out' n m q (j + 1)
     unfolding field_fits field_text
     blank_next = next (Blank c w) e refl n m q (omega arith) (omega arith) (omega arith) out' refl (h.buffer ∙ rw (inside (Blank c w) e refl))
 
 -- fields that do not fit have no line
-pub refused_line : (r : Record) (line : List ℕ) → fields_fit r ≡ false → SpelledAs r false line
-refused_line r line h = record {
-  answer = sym h;
-  text = λ y.
-      let z : ◌≡◌ {A = ℕ} 0 1 = cc in
-      absurd (omega arith);
-}
+pub no_line : (r : Record) {u : Unfit} → fits (of_layer_five r.numbers) (layout_of r.kind) r.numbers r.name r.marks ≡ false → Err u ≡ spelled r
+unfolding fields_fit
+no_line r h = rw h
+
+-- those that do have their line
+pub whole_line : (r : Record) (line : List ℕ) → fits (of_layer_five r.numbers) (layout_of r.kind) r.numbers r.name r.marks ≡ true
+    → line ≡ text_of r.letters (layout_of r.kind) r.numbers r.name r.marks ++ (13 ∷ 10 ∷ []) → Ok line ≡ spelled r
+unfolding fields_fit record_bytes
+whole_line r line h e = rw (h, e)
 
 -- ---- the whole record into a buffer
 
@@ -274,8 +288,25 @@ module _ (before : List ℕ) (r : Record) where
       unfolding fits_all
       all_by f = rw (← e, y) f
 
-      pub written_unfit : fields_fit r ≡ false → Written before r 20 before
-      written_unfit n = unfit_by (all_by n)
+      unfit_is : {u : Unfit} → spelled r ≡ Err u → fields_fit r ≡ false
+      unfit_is z = by (fields_fit r) z
+        where
+          by : {u : Unfit} (b : Bool) → ◌≡◌ {A = Result (List ℕ) Unfit} (cond b (Ok (record_bytes r)) (Err (record {}))) (Err u) → b ≡ false
+          by true z = cc
+          by false z = refl
 
-      pub written_all : fields_fit r ≡ true → (after : List ℕ) → after ≡ record_bytes r ++ drop 74 before → Written before r 0 after
-      written_all f after q = record { answer = rw (le-leb _ _ h, all_by f); buffer = rw (le-leb _ _ h, all_by f) q }
+      pub written_unfit : {u : Unfit} → spelled r ≡ Err u → Written before r 20 before
+      written_unfit z = unfit_by (all_by (unfit_is z))
+
+      line_is : {line : List ℕ} → spelled r ≡ Ok line → (fields_fit r ≡ true) × (line ≡ record_bytes r)
+      line_is z = by (fields_fit r) z
+        where
+          by : {line : List ℕ} (b : Bool) → ◌≡◌ {A = Result (List ℕ) Unfit} (cond b (Ok (record_bytes r)) (Err (record {}))) (Ok line)
+              → (b ≡ true) × (line ≡ record_bytes r)
+          by true z = (refl, cc)
+          by false z = absurd cc
+
+      pub written_all : {line : List ℕ} → spelled r ≡ Ok line → Written before r 0 (line ++ drop 74 before)
+      written_all z =
+          let f = line_is z in
+          record { answer = rw (le-leb _ _ h, all_by f.0); buffer = rw (le-leb _ _ h, all_by f.0, f.1) }

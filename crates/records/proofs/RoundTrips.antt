@@ -19,12 +19,13 @@ use Rattle.fields.specs.Place.{is_inside, bytes_at}
 use Rattle.fields.specs.Spelling.{spell, Says}
 use Rattle.fields.specs.Text.{is_name, is_blanks, text_at}
 use Rattle.std.specs.Prelude.{Option, Some, None}
+use Rattle.std.specs.List.{list_all}
 use Rattle.codes.specs.Code.{code, code_at, code_refusal, code_value, code_mark, code_holds, spell_code, CodeSays}
 use Rattle.codes.specs.declared.Code as codes-code
 use Rattle.records.specs.Layout.{start_of, width_of, numbers_of, bytes_of, marks_of, total}
 use Rattle.records.specs.Reading.{letters_fault, in_layer_five, mark_fits, landed, code_in, fault_of, numbers_in, name_in, marks_in, over}
 use Rattle.records.specs.Reading.{Fault, no_fault, fault_at, first_fault}
-use Rattle.records.specs.Writing.{every, second_letter, field_text, field_fits, text_of, no_numbers, no_bytes, fits}
+use Rattle.records.specs.Writing.{second_letter, field_text, field_fits, text_of, no_numbers, no_bytes, fits}
 use Rattle.permitted.specs.Permitted.{is_zero}
 use Rattle.records.specs.declared.Field.TheVariants.{Letters, Number, Code, Name, Blank}
 use Rattle.records.specs.declared.Field.{Field}
@@ -391,18 +392,16 @@ zero_number (negsuc n) h =
     absurd (omega arith)
 
 -- where p holds of a alone, a list of which it holds throughout is a row of a ..
-pub every_same : {A : Type 0} (p : A → Bool) (a : A) → ((x : A) → p x ≡ true → x ≡ a) → (l : List A) → every p l ≡ true → l ≡ replicate (length l) a
-unfolding every
+pub every_same : {A : Type 0} (p : A → Bool) (a : A) → ((x : A) → p x ≡ true → x ≡ a) → (l : List A) → list_all p l ≡ true → l ≡ replicate (length l) a
 every_same p a only [] h = refl
 every_same p a only (x ∷ l) h =
-    let q = both (p x) (every p l) h in
+    let q = both (p x) (list_all p l) h in
     let e = only x q.0 in
     let i = every_same p a only l q.1 in
     cc
 
 -- .. and the other way round
-pub every_row : {A : Type 0} (p : A → Bool) (a : A) → p a ≡ true → (n : ℕ) → every p (replicate n a) ≡ true
-unfolding every
+pub every_row : {A : Type 0} (p : A → Bool) (a : A) → p a ≡ true → (n : ℕ) → list_all p (replicate n a) ≡ true
 every_row p a h zero = refl
 every_row p a h (suc n) = rw h (every_row p a h n)
 

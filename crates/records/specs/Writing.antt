@@ -5,7 +5,10 @@
 --   record_bytes r   the record's 74 bytes
 --   Written          the writer's answer and its buffer afterwards
 use Rattle.std.specs.Prelude.{◌≡◌, Bool, true, cond, ◌&&◌, ◌||◌, List, [], ◌∷◌, ◌++◌, ℕ, leb, eqb, ℤ, pos, length, get_or, take, drop, replicate}
+use Rattle.std.specs.Prelude.{Result, Ok, Err}
+use Rattle.std.specs.List.{list_all}
 use Rattle.permitted.specs.Permitted.{is_zero, is}
+use Rattle.fields.specs.declared.Unfit.{Unfit}
 use Rattle.fields.specs.Number.{holds}
 use Rattle.fields.specs.Spelling.{spell}
 use Rattle.fields.specs.Text.{is_name}
@@ -47,15 +50,11 @@ text_of letters (f ∷ fs) ns nm ms =
     field_text letters f ns nm ms ++ text_of letters fs (drop (numbers_of f) ns) (drop (bytes_of f) nm) (drop (marks_of f) ms)
 
 -- RULES 9.5: an entry that the kind lacks is 0; name bytes and marks alike
-unfoldable pub every : {A : Type 0} → (A → Bool) → List A → Bool
-every p [] = true
-every p (x ∷ xs) = p x && every p xs
-
 abbrev pub no_numbers : List ℤ → Bool
-no_numbers ns = every is_zero ns
+no_numbers ns = list_all is_zero ns
 
 abbrev pub no_bytes : List ℕ → Bool
-no_bytes bs = every (λ b. eqb b 0) bs
+no_bytes bs = list_all (λ b. eqb b 0) bs
 
 unfoldable pub fits : Bool → List Field → List ℤ → List ℕ → List ℕ → Bool
 fits five [] ns nm ms = no_numbers ns && (no_bytes nm && no_bytes ms)
@@ -82,10 +81,9 @@ letters_fit k l = cond (is_head k) (eqb l 1 || eqb l 2) (eqb l 0)
 unfoldable pub fits_all : Record → Bool
 fits_all r = letters_fit r.kind r.letters && fields_fit r
 
--- whether its fields fit, and then its bytes
-pub record SpelledAs (r : Record) (ok : Bool) (bytes : List ℕ) : Type 0 where
-  pub answer : ok ≡ fields_fit r
-  pub text : ok ≡ true → bytes ≡ record_bytes r
+-- its bytes, where its fields fit
+abbrev pub spelled : Record → Result (List ℕ) Unfit
+spelled r = cond (fields_fit r) (Ok (record_bytes r)) (Err (record {}))
 
 -- RULES 9.5: 21 for a buffer under 74 bytes, judged first; 20 for what does not fit; on success the record stands in the first 74
 -- bytes and nothing else changes; on a refusal nothing does

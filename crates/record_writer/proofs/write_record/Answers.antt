@@ -3,34 +3,23 @@ use mathlib.Core.Path.{◌≡◌, sym, ◌∙◌}
 use lib.ListN.{length}
 use lib.Seq.{length-take-le}
 use borrow.Author.Rules.{rules}
-use borrow.Author.Tests.{not-true, not-false}
-use Rattle.record_writer.proofs.Lines.{written_short, letters_unfit, written_unfit, written_all}
+use Rattle.std.proofs.lemmas.Result.{err_from_is_err_and}
+use Rattle.record_writer.proofs.Lines.{letters_unfit, written_unfit, written_all}
 use Rattle.record_writer.proofs.write_record.Goals as goal
-use Rattle.record_writer.proofs.write_record.Goals.{After-spell_record-spelled}
-
--- the line is an array of 74
-line-74 : (c : After-spell_record-spelled) → length c.spell_record-spelled.result.line ≡ 74
-line-74 c = search rules
-
-pub returns-then-buf-lt74 : goal.returns-then-buf-lt74
-returns-then-buf-lt74 c = written_short _ _ c.if-buf-lt74.true
 
 pub returns-then-not-may_letter : goal.returns-then-not-may_letter
 returns-then-not-may_letter c = letters_unfit _ _ c.if-buf-lt74.false c.may_letter.ensures c.if-not-may_letter.true
 
-pub returns-then-not-spelled : goal.returns-then-not-spelled
-returns-then-not-spelled c =
-    written_unfit _ _ c.if-buf-lt74.false c.may_letter.ensures c.if-not-may_letter.false
-    (sym c.spell_record-spelled.ensures.answer ∙ not-true _ c.if-not-spelled.true)
+pub returns-in_err-line : goal.returns-in_err-line
+returns-in_err-line c =
+    let p = err_from_is_err_and c.from_residual.result c.from_residual.ensures.1 in
+    rw (p.1, p.2) (written_unfit _ _ c.if-buf-lt74.false c.may_letter.ensures c.if-not-may_letter.false (sym c.in_err-line.ensures))
 
 pub copy_from_slice-requires : goal.copy_from_slice-requires
 copy_from_slice-requires c =
-    length-take-le 74 c.args.buf.now c.if-buf-lt74.false
-    ∙ sym (line-74 (goal.at.copy_from_slice-requires c).After-spell_record-spelled)
+    let l : length c.in_ok-line.line ≡ 74 = search rules in
+    length-take-le 74 c.args.buf.now c.if-buf-lt74.false ∙ sym l
 
 pub returns : goal.returns
 returns c =
-    let y = not-false _ c.if-not-spelled.false in
-    written_all _ _ c.if-buf-lt74.false c.may_letter.ensures c.if-not-may_letter.false
-    (sym c.spell_record-spelled.ensures.answer ∙ y) _
-    (rw (c.copy_from_slice.ensures.after, c.spell_record-spelled.ensures.text y))
+    rw c.copy_from_slice.ensures.after (written_all _ _ c.if-buf-lt74.false c.may_letter.ensures c.if-not-may_letter.false (sym c.in_ok-line.ensures))

@@ -13,17 +13,17 @@ use Rattle.records.proofs.number_at.Goals as goal
 pub returns-then-k-eq0 : goal.returns-then-k-eq0
 returns-then-k-eq0 c =
     elim c.then-k-eq0.branch [
-      then-k-eq0-via-then-k-eq0 w ↦ sym (number_none _ _ _ _ (record_none _ _ w.if-k-eq0.true))
-    | then-k-eq0-via-else-k-eq0+then-file-k w ↦ sym (number_none _ _ _ _ (record_past _ _ w.if-file-k.true))
+      | then-k-eq0-via-then-k-eq0 w ↦ sym (number_none _ _ _ _ (record_none _ _ w.if-k-eq0.true))
+      | then-k-eq0-via-else-k-eq0+then-file-k w ↦ sym (number_none _ _ _ _ (record_past _ _ w.if-file-k.true))
     ]
 
 pub returns-then-column-eq0 : goal.returns-then-column-eq0
 returns-then-column-eq0 c =
     elim c.then-column-eq0.branch [
-      then-column-eq0-via-then-column-eq0 w ↦ sym (number_before _ _ _ _ w.if-column-eq0.true)
-    | then-column-eq0-via-else-column-eq0+then-width-gt74 w ↦ sym (number_past _ _ (omega arith) c.if-file-k.false _ _ (omega arith) (omega arith))
-    | then-column-eq0-via-else-column-eq0+else-width-gt74+then-width-column w ↦
-      sym (number_past _ _ (omega arith) c.if-file-k.false _ _ (omega arith) (omega arith))
+      | then-column-eq0-via-then-column-eq0 w ↦ sym (number_before _ _ _ _ w.if-column-eq0.true)
+      | then-column-eq0-via-else-column-eq0+then-width-gt74 w ↦ sym (number_past _ _ (omega arith) c.if-file-k.false _ _ (omega arith) (omega arith))
+      | then-column-eq0-via-else-column-eq0+else-width-gt74+then-width-column w ↦
+          sym (number_past _ _ (omega arith) c.if-file-k.false _ _ (omega arith) (omega arith))
     ]
 
 pub returns : goal.returns

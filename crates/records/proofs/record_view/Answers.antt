@@ -8,8 +8,8 @@ use Rattle.records.proofs.record_view.Goals as goal
 pub returns-then-k-eq0 : goal.returns-then-k-eq0
 returns-then-k-eq0 c =
     elim c.then-k-eq0.branch [
-      then-k-eq0-via-then-k-eq0 w ↦ sym (record_none _ _ w.if-k-eq0.true)
-    | then-k-eq0-via-else-k-eq0+then-file-k w ↦ sym (record_past _ _ w.if-file-k.true)
+      | then-k-eq0-via-then-k-eq0 w ↦ sym (record_none _ _ w.if-k-eq0.true)
+      | then-k-eq0-via-else-k-eq0+then-file-k w ↦ sym (record_past _ _ w.if-file-k.true)
     ]
 
 pub returns : goal.returns

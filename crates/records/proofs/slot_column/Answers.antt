@@ -20,6 +20,7 @@ overflow_add-result c =
 
 pub returns : goal.returns
 returns c =
-    let a = c.args in
-    (rw (c.from-2.ensures, c.from-3.ensures) (sym (start_there _ _ _ _ (omega arith))),
-    omega (arith, small_product {a = c.from-3.result} {b = a.i} (omega arith) (omega arith)))
+    let a = c.args in (
+      rw (c.from-2.ensures, c.from-3.ensures) (sym (start_there _ _ _ _ (omega arith))),
+      omega (arith, small_product {a = c.from-3.result} {b = a.i} (omega arith) (omega arith)),
+    )
