@@ -57,10 +57,6 @@ module _ (t : List ℕ) where
   formed (field.Name c w) h = fault_free (field.Name c w) t h.0
   formed (field.Blank c w) h = fault_free (field.Blank c w) t h.0
 
-  end_none : fault_of field.End t ≡ 0
-  unfolding fault_of
-  end_none = refl
-
   -- nor has a record that keeps its checks
   no_fault_lem : (a : ℕ → List ℤ → List Ask) (L : List Field) (i : ℕ) (ns : List ℤ) → Holding (along a L i ns t) → first_fault L t ≡ no_fault
   unfolding along first_fault

@@ -27,18 +27,8 @@ fn read_fields(kind: Kind, s: &[u8]) -> Result<Record, Misread>
     let mut n: usize = 0;
     let mut m: usize = 0;
     let mut q: usize = 0;
-    let mut j: usize = 0;
-    loop {
-        match records::field_of(kind, j) {
-            Field::End => {
-                return Ok(Record {
-                    kind,
-                    numbers,
-                    name,
-                    marks,
-                    letters: records::letters_in(kind, s),
-                });
-            }
+    for field in records::layout_of(kind) {
+        match *field {
             Field::Letters(a, b, c) => {
                 if !records::letters_right(a, b, c, s[0], s[1]) {
                     return refused(3, 1);
@@ -74,8 +64,14 @@ fn read_fields(kind: Kind, s: &[u8]) -> Result<Record, Misread>
                 q += 1;
             }
         }
-        j += 1;
     }
+    Ok(Record {
+        kind,
+        numbers,
+        name,
+        marks,
+        letters: records::letters_in(kind, s),
+    })
 }
 
 // Reads one record of the kind that the caller names. Refused: not 74 bytes (1 at column 1), then a

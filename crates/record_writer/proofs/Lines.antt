@@ -20,13 +20,13 @@ use Rattle.records.specs.Reading.{mark_fits}
 use Rattle.records.specs.Layout.{layout_of, start_of, width_of, numbers_of, bytes_of, marks_of}
 use Rattle.records.specs.Writing.{second_letter, field_text, field_fits, text_of, no_numbers, no_bytes, fits, of_layer_five, fields_fit, letters_fit, fits_all}
 use Rattle.records.specs.Writing.{record_bytes, spelled, Written}
-use Rattle.records.specs.declared.Field.TheVariants.{End, Letters, Number, Code, Name, Blank}
+use Rattle.records.specs.declared.Field.TheVariants.{Letters, Number, Code, Name, Blank}
 use Rattle.records.specs.declared.Field.{Field}
 use Rattle.records.specs.declared.Kind.{Kind}
 use Rattle.records.specs.declared.Record.{Record}
 use Rattle.fields.proofs.FieldLaws.{wrote_done, wrote_refused}
 use Rattle.fields.proofs.Places.{inside_fits, put_length}
-use Rattle.records.proofs.Layouts.{Ahead, ahead, Room, split, total_split, room_ahead, next_ahead, is_field, tiles, Tile, tile, tiles_end, fitting, off_layout}
+use Rattle.records.proofs.Layouts.{Stands, Ahead, ahead, Room, total_split, room_ahead, next_ahead, tiles, Tile, tile, tiles_end, fitting}
 use Rattle.records.proofs.RoundTrips.{field_length}
 
 -- the columns up to `at` are written, and what is left decides and gives the rest; d are the letters
@@ -93,15 +93,15 @@ ended s l =
     (ap (λ x. take 72 s ++ (13 ∷ 10 ∷ x)) (drop_of_length-le (set s 72 13) {i = 74} (rw length-set (omega arith))))
 
 module _ {d : ℕ} {L : List Field} {ns : List ℤ} {nm ms out : List ℕ} {n m q j : ℕ} (g : Lines d L ns nm ms out n m q j) where
-  module _ (f : Field) (e : f ≡ get_or L j End) (i : is_field f ≡ true) where
+  module _ (f : Field) (e : Stands L j f) where
     pub room : Room L f n m q j
-    room = room_ahead L j f e i g.left
+    room = room_ahead L j f e g.left
 
     here : Tile (g.at + 1) f (drop (j + 1) L)
-    here = tile (g.at + 1) f (drop (j + 1) L) (rw (split L j f e i) at g.tiled)
+    here = tile (g.at + 1) f (drop (j + 1) L) (rw (e) at g.tiled)
 
     width : g.at + width_of f ≤ 72
-    width = omega (arith, total_split L j f e i width_of, tiles_end (drop j L) (g.at + 1) g.tiled)
+    width = omega (arith, total_split L j f e width_of, tiles_end (drop j L) (g.at + 1) g.tiled)
 
     pub inside : is_inside out (start_of f) (width_of f) ≡ true
     inside = inside_fits out (start_of f) (width_of f) (omega (arith, here.start)) (omega (arith, here.start, width, g.long))
@@ -116,14 +116,14 @@ module _ {d : ℕ} {L : List Field} {ns : List ℤ} {nm ms out : List ℕ} {n m 
         let l = field_length d (of_layer_five ns) f (drop n ns) (drop m nm) (drop q ms) y in
         let c : g.at + 1 + width_of f ≡ g.at + width_of f + 1 = omega arith in
         record {
-          left = next_ahead L j f e i g.left n' m' q' p r x;
+          left = next_ahead L j f e g.left n' m' q' p r x;
           long = rw o (put_length out (start_of f) (width_of f) t inside l ∙ g.long);
           many = g.many;
           wide = g.wide;
           marked = g.marked;
           at = g.at + width_of f;
           tiled = rw (← c) here.rest;
-          whole = g.whole ∙ rw (split L j f e i, y, drop-drop, drop-drop, drop-drop, p, r, x);
+          whole = g.whole ∙ rw (e, y, drop-drop, drop-drop, drop-drop, p, r, x);
           text =
               rw (
                 o,
@@ -136,21 +136,21 @@ module _ {d : ℕ} {L : List Field} {ns : List ℤ} {nm ms out : List ℕ} {n m 
                 ← drop-drop (bytes_of f) m nm,
                 ← drop-drop (marks_of f) q ms,
               )
-              (rw (split L j f e i) at g.text);
+              (rw (e) at g.text);
         }
 
     -- one that does not fit makes the whole not fit
     pub unfit : field_fits (of_layer_five ns) f (drop n ns) (drop m nm) (drop q ms) ≡ false → fits (of_layer_five ns) L ns nm ms ≡ false
     unfolding fits
-    unfit y = g.whole ∙ rw (split L j f e i, y)
+    unfit y = g.whole ∙ rw (e, y)
 
   -- no field is left: the unused entries decide, and the line ends
-  pub ends : End ≡ get_or L j End
+  pub ends : length L ≤ j
       → (fits (of_layer_five ns) L ns nm ms ≡ no_numbers (take (length ns - n) (drop n ns)) && (no_bytes (take (length nm - m) (drop m nm)) && no_bytes (take (length ms - q) (drop q ms))))
       × (set (set out 72 13) 73 10 ≡ text_of d L ns nm ms ++ (13 ∷ 10 ∷ []))
   unfolding fits text_of tiles
   ends e =
-      let z : drop j L ≡ [] = drop_of_length-le L (off_layout L j g.left.fits.tiled e) in
+      let z : drop j L ≡ [] = drop_of_length-le L e in
       let a : g.at ≡ 72 = end_column g.at (rw z at g.tiled) in
       let t : take g.at out ++ [] ≡ text_of d L ns nm ms = rw z at g.text in (
         rw (behind ns n, behind nm m, behind ms q) (g.whole ∙ rw z),
@@ -159,42 +159,42 @@ module _ {d : ℕ} {L : List Field} {ns : List ℤ} {nm ms out : List ℕ} {n m 
 
   -- ---- by the sort of the field
 
-  module _ (a b c : ℕ) (e : Letters a b c ≡ get_or L j End) where
+  module _ (a b c : ℕ) (e : Stands L j (Letters a b c)) where
     pub letters_next : {y : ℕ} → y ≡ second_letter b c d → Lines d L ns nm ms (set (set out 0 a) 1 y) n m q (j + 1)
     unfolding field_fits field_text
     letters_next {y} s =
-        next (Letters a b c) e refl n m q (omega arith) (omega arith) (omega arith) (set (set out 0 a) 1 y) refl
+        next (Letters a b c) e n m q (omega arith) (omega arith) (omega arith) (set (set out 0 a) 1 y) refl
         (rw s (two_put out a (second_letter b c d) g.long))
 
   number_first : {v : ℤ} → v ≡ get_or ns n (pos 0) → get_or (drop n ns) 0 (pos 0) ≡ v
   number_first p = get_or-drop n ns 0 (pos 0) ∙ rw (add-zero, p)
 
-  module _ (c w : ℕ) (e : Number c w ≡ get_or L j End) {v : ℤ} (p : v ≡ get_or ns n (pos 0))
+  module _ (c w : ℕ) (e : Stands L j (Number c w)) {v : ℤ} (p : v ≡ get_or ns n (pos 0))
       {r : Writing} {out' : List ℕ} (h : Wrote (number_fits out c w v) out c (spell w v) r out') where
     number_fit : field_fits (of_layer_five ns) (Number c w) (drop n ns) (drop m nm) (drop q ms) ≡ number_fits out c w v
     unfolding field_fits number_fits
     number_fit =
-        let l : 1 ≤ length (drop n ns) = rw length-drop (omega (arith, (room (Number c w) e refl).numbers, g.many)) in
-        rw (le-leb 1 (length (drop n ns)) l, number_first p, inside (Number c w) e refl)
+        let l : 1 ≤ length (drop n ns) = rw length-drop (omega (arith, (room (Number c w) e).numbers, g.many)) in
+        rw (le-leb 1 (length (drop n ns)) l, number_first p, inside (Number c w) e)
 
     pub number_next : {x : Unit {0}} → r ≡ Ok x → Lines d L ns nm ms out' (n + 1) m q (j + 1)
     unfolding field_text
     number_next z =
         let o = wrote_done h z in
-        next (Number c w) e refl (n + 1) m q refl (omega arith) (omega arith) out' (number_fit ∙ o.0) (o.1 ∙ rw (number_first p))
+        next (Number c w) e (n + 1) m q refl (omega arith) (omega arith) out' (number_fit ∙ o.0) (o.1 ∙ rw (number_first p))
 
     pub number_unfit : {u : Unfit} → r ≡ Err u → fits (of_layer_five ns) L ns nm ms ≡ false
-    number_unfit z = unfit (Number c w) e refl (number_fit ∙ (wrote_refused h z).0)
+    number_unfit z = unfit (Number c w) e (number_fit ∙ (wrote_refused h z).0)
 
   -- a code: its value v, its mark x, and whether that may stand
-  module _ (c w : ℕ) (e : Code c w ≡ get_or L j End) {x : ℕ} (s : x ≡ get_or ms q 0) {t : Bool} (f : t ≡ mark_fits (of_layer_five ns) x) where
+  module _ (c w : ℕ) (e : Stands L j (Code c w)) {x : ℕ} (s : x ≡ get_or ms q 0) {t : Bool} (f : t ≡ mark_fits (of_layer_five ns) x) where
     mark_first : get_or (drop q ms) 0 0 ≡ x
     mark_first = get_or-drop q ms 0 0 ∙ rw (add-zero, s)
 
     code_fit : {v : ℤ} → v ≡ get_or ns n (pos 0) → field_fits (of_layer_five ns) (Code c w) (drop n ns) (drop m nm) (drop q ms) ≡ (code_holds w v x && t)
     unfolding field_fits
     code_fit p =
-        let a = room (Code c w) e refl in
+        let a = room (Code c w) e in
         let l : 1 ≤ length (drop n ns) = rw length-drop (omega (arith, a.numbers, g.many)) in
         let o : 1 ≤ length (drop q ms) = rw length-drop (omega (arith, a.marks, g.marked)) in
         rw (le-leb 1 (length (drop n ns)) l, le-leb 1 (length (drop q ms)) o, number_first p, mark_first, ← f)
@@ -204,13 +204,13 @@ module _ {d : ℕ} {L : List Field} {ns : List ℤ} {nm ms out : List ℕ} {n m 
     no_way false = refl
 
     pub mark_unfit : t ≡ false → fits (of_layer_five ns) L ns nm ms ≡ false
-    mark_unfit z = unfit (Code c w) e refl (code_fit refl ∙ rw z (no_way (code_holds w (get_or ns n (pos 0)) x)))
+    mark_unfit z = unfit (Code c w) e (code_fit refl ∙ rw z (no_way (code_holds w (get_or ns n (pos 0)) x)))
 
     module _ (y : t ≡ true) {v : ℤ} (p : v ≡ get_or ns n (pos 0)) {r : Writing} {out' : List ℕ}
         (h : Wrote (code_fits out c w v x) out c (spell_code w v x) r out') where
       code_whole : field_fits (of_layer_five ns) (Code c w) (drop n ns) (drop m nm) (drop q ms) ≡ code_fits out c w v x
       unfolding code_fits
-      code_whole = code_fit p ∙ rw (y, inside (Code c w) e refl) (and-true (code_holds w v x))
+      code_whole = code_fit p ∙ rw (y, inside (Code c w) e) (and-true (code_holds w v x))
         where
           and-true : (b : Bool) → (b && true) ≡ b
           and-true true = refl
@@ -220,12 +220,12 @@ module _ {d : ℕ} {L : List Field} {ns : List ℤ} {nm ms out : List ℕ} {n m 
       unfolding field_text
       code_next z =
           let o = wrote_done h z in
-          next (Code c w) e refl (n + 1) m (q + 1) refl (omega arith) refl out' (code_whole ∙ o.0) (o.1 ∙ rw (number_first p, mark_first))
+          next (Code c w) e (n + 1) m (q + 1) refl (omega arith) refl out' (code_whole ∙ o.0) (o.1 ∙ rw (number_first p, mark_first))
 
       pub code_unfit : {u : Unfit} → r ≡ Err u → fits (of_layer_five ns) L ns nm ms ≡ false
-      code_unfit z = unfit (Code c w) e refl (code_whole ∙ (wrote_refused h z).0)
+      code_unfit z = unfit (Code c w) e (code_whole ∙ (wrote_refused h z).0)
 
-  module _ (c w : ℕ) (e : Name c w ≡ get_or L j End) {r : Writing} {out' : List ℕ}
+  module _ (c w : ℕ) (e : Stands L j (Name c w)) {r : Writing} {out' : List ℕ}
       (h : Wrote (name_fits out c w (take (m + w - m) (drop m nm))) out c (take (m + w - m) (drop m nm)) r out') where
     name_part : take (m + w - m) (drop m nm) ≡ take w (drop m nm)
     name_part =
@@ -235,26 +235,26 @@ module _ {d : ℕ} {L : List Field} {ns : List ℤ} {nm ms out : List ℕ} {n m 
     name_fit : field_fits (of_layer_five ns) (Name c w) (drop n ns) (drop m nm) (drop q ms) ≡ name_fits out c w (take w (drop m nm))
     unfolding field_fits name_fits
     name_fit =
-        let l : w ≤ length (drop m nm) = rw length-drop (omega (arith, (room (Name c w) e refl).names, g.wide)) in
-        rw (le-leb w (length (drop m nm)) l, inside (Name c w) e refl, eq-eqb _ w (length-take-le w (drop m nm) l))
+        let l : w ≤ length (drop m nm) = rw length-drop (omega (arith, (room (Name c w) e).names, g.wide)) in
+        rw (le-leb w (length (drop m nm)) l, inside (Name c w) e, eq-eqb _ w (length-take-le w (drop m nm) l))
 
     pub name_next : {x : Unit {0}} → r ≡ Ok x → Lines d L ns nm ms out' n (m + w) q (j + 1)
     unfolding field_text
     name_next z =
         let o = wrote_done (rw name_part at h) z in
-        next (Name c w) e refl n (m + w) q (omega arith) refl (omega arith) out' (name_fit ∙ o.0) o.1
+        next (Name c w) e n (m + w) q (omega arith) refl (omega arith) out' (name_fit ∙ o.0) o.1
 
     pub name_unfit : {u : Unfit} → r ≡ Err u → fits (of_layer_five ns) L ns nm ms ≡ false
-    name_unfit z = unfit (Name c w) e refl (name_fit ∙ (wrote_refused (rw name_part at h) z).0)
+    name_unfit z = unfit (Name c w) e (name_fit ∙ (wrote_refused (rw name_part at h) z).0)
 
-  module _ (c w : ℕ) (e : Blank c w ≡ get_or L j End) {r : Writing} {out' : List ℕ} (h : Wrote (is_inside out c w) out c (replicate w 32) r out') where
+  module _ (c w : ℕ) (e : Stands L j (Blank c w)) {r : Writing} {out' : List ℕ} (h : Wrote (is_inside out c w) out c (replicate w 32) r out') where
     -- blanks always fit
     pub blank_fits : {u : Unfit} → r ≡ Err u → ⊥
-    blank_fits z = false≢true (sym (wrote_refused h z).0 ∙ inside (Blank c w) e refl)
+    blank_fits z = false≢true (sym (wrote_refused h z).0 ∙ inside (Blank c w) e)
 
     pub blank_next : Lines d L ns nm ms out' n m q (j + 1)
     unfolding field_fits field_text
-    blank_next = next (Blank c w) e refl n m q (omega arith) (omega arith) (omega arith) out' refl (h.buffer ∙ rw (inside (Blank c w) e refl))
+    blank_next = next (Blank c w) e n m q (omega arith) (omega arith) (omega arith) out' refl (h.buffer ∙ rw (inside (Blank c w) e))
 
 -- fields that do not fit have no line
 pub no_line : (r : Record) {u : Unfit} → fits (of_layer_five r.numbers) (layout_of r.kind) r.numbers r.name r.marks ≡ false → Err u ≡ spelled r

@@ -82,17 +82,8 @@ fn spell_record(r: Record) -> Result<[u8; 74], Unfit>
     let mut n: usize = 0;
     let mut m: usize = 0;
     let mut q: usize = 0;
-    let mut j: usize = 0;
-    loop {
-        match records::field_of(r.kind, j) {
-            Field::End => {
-                if !all_zero(&r.numbers[n..], &r.name[m..], &r.marks[q..]) {
-                    return Err(Unfit);
-                }
-                line[72] = b'\r';
-                line[73] = b'\n';
-                return Ok(line);
-            }
+    for field in records::layout_of(r.kind) {
+        match *field {
             Field::Letters(a, b, c) => {
                 line[0] = a;
                 line[1] = second_letter(b, c, r.letters);
@@ -118,8 +109,13 @@ fn spell_record(r: Record) -> Result<[u8; 74], Unfit>
                 q += 1;
             }
         }
-        j += 1;
     }
+    if !all_zero(&r.numbers[n..], &r.name[m..], &r.marks[q..]) {
+        return Err(Unfit);
+    }
+    line[72] = b'\r';
+    line[73] = b'\n';
+    Ok(line)
 }
 
 // Writes a record into the first 74 bytes of `buf`. Refused, with `buf` as it was: 21 where `buf` is under

@@ -38,6 +38,10 @@ Stands L j f = drop j L ≡ f ∷ drop (j + 1) L
 pub stands : (L : List Field) (j : ℕ) (f z : Field) → j < length L → f ≡ get_or L j z → Stands L j f
 stands L j f z l e = rw (add-one, drop-cons L j z l, e)
 
+-- as code has it: the list K that it goes along is the layout L
+pub stands_in : {L K : List Field} (j : ℕ) (z f : Field) → K ≡ L → j < length K → get_or K j z ≡ f → Stands L j f
+stands_in j z f q l e = rw q at (stands _ j f z l (sym e))
+
 row_stands : (c w n : ℕ) (fs : List Field) (i : ℕ) → i < n → Stands (row c w n ++ fs) i (Number (c + w * i) w)
 row_stands c w zero fs i h = absurd (omega arith)
 row_stands c w (suc n) fs zero h = rw (mul-zero, add-zero)

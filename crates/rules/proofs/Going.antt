@@ -17,7 +17,7 @@ use Rattle.records.specs.Reading.{letters_right, letters_in, code_in, fault_of, 
 use Rattle.records.specs.declared.Field.{Field}
 use Rattle.records.specs.declared.Kind.{Kind}
 use Rattle.records.specs.declared.Field.TheVariants.{Letters, Number, Code, Name, Blank}
-use Rattle.records.proofs.Layouts.{Stands, stands, on_layout, total_split, fitting, start_small}
+use Rattle.records.proofs.Layouts.{Stands, stands_in, on_layout, total_split, fitting, start_small}
 use Rattle.verdict.specs.Rules.{Fine, Broken, Check, check, first_broken, block}
 use Rattle.verdict.proofs.Parts.{check_none, check_kept, check_broken}
 use Rattle.rules.specs.declared.Due.{Due}
@@ -65,7 +65,7 @@ start d t r = record { many = refl; room = omega (arith, (fitting (kind_of d)).n
 -- as code has it: field j of the list K is f, and K is the layout of the kind that is due
 pub stood : (d : Due) {k : Kind} {K : List Field} (j : ℕ) (z f : Field) → k ≡ kind_of d → K ≡ layout_of k → j < length K → get_or K j z ≡ f
     → Stands (layout_of (kind_of d)) j f
-stood d j z f p q l e = rw (q ∙ ap layout_of p) at (stands _ j f z l (sym e))
+stood d j z f p q l e = stands_in j z f (q ∙ ap layout_of p) l e
 
 -- there is room for the field f at j
 pub record Room (d : Due) (f : Field) (n j : ℕ) : Type 0 where
