@@ -188,7 +188,7 @@ const NODE_LAYOUT: [Field; 18] = [
     Field::Number(51, 5),
     Field::Number(56, 5),
     Field::Number(61, 5),
-    Field::Number(66, 5),
+    Field::Number(66, 5), // the ninth
     Field::Blank(71, 2),
 ];
 
