@@ -19,8 +19,7 @@ pub fn blanks(f: &[u8]) -> bool
 fn pair(a: u8, b: u8) -> bool
     ensures { result ≡ is_pair a b }
 {
-    ((0x81 <= a) & (a <= 0x9f) | (0xe0 <= a) & (a <= 0xfc))
-        & ((0x40 <= b) & (b <= 0x7e) | (0x80 <= b) & (b <= 0xfc))
+    matches!(a, 0x81..=0x9f | 0xe0..=0xfc) & matches!(b, 0x40..=0x7e | 0x80..=0xfc)
 }
 
 // Whether a field is two-byte characters alone.

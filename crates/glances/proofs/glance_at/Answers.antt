@@ -11,7 +11,7 @@ use Rattle.glances.proofs.AtGlance.{Digit, is_digit_lem, passed_digit, bytes, on
 use Rattle.glances.proofs.AtGlance.{glimpse_endless, from_4, from_3, from_2, from_1, from_0, from_none}
 use Rattle.fields.proofs.Places.{both}
 use Rattle.glances.proofs.glance_at.Goals as goal
-use Rattle.glances.proofs.glance_at.Goals.{Then-digit-a}
+use Rattle.glances.proofs.glance_at.Goals.{Then-is_ascii_digit-a}
 
 -- a byte b that the code has taken: its number w, and the answer t to whether it is a digit
 abbrev Took : ℕ → ℕ → Bool → Type 0
@@ -44,57 +44,57 @@ module _ (a b c d e : ℕ) {w : ℕ} {t : Bool} (k : Took e w t) where
       said-1 k₄ = rw k₄.0 (next_digit (bytes a b c d e) 2 _ 1000 (lit< tt) refl said-2 (passed_digit _ _ k₄.1 k₄.2))
 
 -- the first of five digits
-last : (c : Then-digit-a)
+last : (c : Then-is_ascii_digit-a)
     → Digit c.args.a
 last c =
-    is_digit_lem _ (sym c.digit-5.ensures ∙ (both c.digit-5.result (not (eqb c.args.a 48)) c.if-digit-a.true).0)
+    is_digit_lem _ (sym c.is_ascii_digit-5.ensures.value ∙ (both c.is_ascii_digit-5.result (not (eqb c.args.a 48)) c.if-is_ascii_digit-a.true).0)
 
-pub returns-then-not-digit : goal.returns-then-not-digit
-returns-then-not-digit c = glimpse_endless _ _ _ _ _ (sym c.digit.ensures ∙ not-true _ c.if-not-digit.true-raw)
+pub returns-then-not-is_ascii_digit : goal.returns-then-not-is_ascii_digit
+returns-then-not-is_ascii_digit c = glimpse_endless _ _ _ _ _ (sym c.is_ascii_digit.ensures.value ∙ not-true _ c.if-not-is_ascii_digit.true-raw)
 
 pub overflow_sub-e : goal.overflow_sub-e
-overflow_sub-e c = (passed_digit _ _ c.digit.ensures c.if-not-digit.false-raw).low
+overflow_sub-e c = (passed_digit _ _ c.is_ascii_digit.ensures.value c.if-not-is_ascii_digit.false-raw).low
 
 pub returns-then-a-b : goal.returns-then-a-b
-returns-then-a-b c = from_4 (ends-4 c.args.a c.args.b c.args.c c.args.d c.args.e (c.wide-one.ensures, c.digit.ensures, c.if-not-digit.false-raw) c.digit-2.ensures c.if-not-digit-2.true-raw) true c.if-a-b.true
+returns-then-a-b c = from_4 (ends-4 c.args.a c.args.b c.args.c c.args.d c.args.e (c.from-one.ensures, c.is_ascii_digit.ensures.value, c.if-not-is_ascii_digit.false-raw) c.is_ascii_digit-2.ensures.value c.if-not-is_ascii_digit-2.true-raw) true c.if-a-b.true
 
-pub returns-then-not-digit-2 : goal.returns-then-not-digit-2
-returns-then-not-digit-2 c = from_4 (ends-4 c.args.a c.args.b c.args.c c.args.d c.args.e (c.wide-one.ensures, c.digit.ensures, c.if-not-digit.false-raw) c.digit-2.ensures c.if-not-digit-2.true-raw) false c.if-a-b.false
+pub returns-then-not-is_ascii_digit-2 : goal.returns-then-not-is_ascii_digit-2
+returns-then-not-is_ascii_digit-2 c = from_4 (ends-4 c.args.a c.args.b c.args.c c.args.d c.args.e (c.from-one.ensures, c.is_ascii_digit.ensures.value, c.if-not-is_ascii_digit.false-raw) c.is_ascii_digit-2.ensures.value c.if-not-is_ascii_digit-2.true-raw) false c.if-a-b.false
 
 pub overflow_sub-d : goal.overflow_sub-d
-overflow_sub-d c = (passed_digit _ _ c.digit-2.ensures c.if-not-digit-2.false-raw).low
+overflow_sub-d c = (passed_digit _ _ c.is_ascii_digit-2.ensures.value c.if-not-is_ascii_digit-2.false-raw).low
 
 pub returns-then-a-b-2 : goal.returns-then-a-b-2
-returns-then-a-b-2 c = from_3 (ends-3 c.args.a c.args.b c.args.c c.args.d c.args.e (c.wide-one.ensures, c.digit.ensures, c.if-not-digit.false-raw) (c.wide.ensures, c.digit-2.ensures, c.if-not-digit-2.false-raw) c.digit-3.ensures c.if-not-digit-3.true-raw) true c.if-a-b-2.true
+returns-then-a-b-2 c = from_3 (ends-3 c.args.a c.args.b c.args.c c.args.d c.args.e (c.from-one.ensures, c.is_ascii_digit.ensures.value, c.if-not-is_ascii_digit.false-raw) (c.from.ensures, c.is_ascii_digit-2.ensures.value, c.if-not-is_ascii_digit-2.false-raw) c.is_ascii_digit-3.ensures.value c.if-not-is_ascii_digit-3.true-raw) true c.if-a-b-2.true
 
-pub returns-then-not-digit-3 : goal.returns-then-not-digit-3
-returns-then-not-digit-3 c = from_3 (ends-3 c.args.a c.args.b c.args.c c.args.d c.args.e (c.wide-one.ensures, c.digit.ensures, c.if-not-digit.false-raw) (c.wide.ensures, c.digit-2.ensures, c.if-not-digit-2.false-raw) c.digit-3.ensures c.if-not-digit-3.true-raw) false c.if-a-b-2.false
+pub returns-then-not-is_ascii_digit-3 : goal.returns-then-not-is_ascii_digit-3
+returns-then-not-is_ascii_digit-3 c = from_3 (ends-3 c.args.a c.args.b c.args.c c.args.d c.args.e (c.from-one.ensures, c.is_ascii_digit.ensures.value, c.if-not-is_ascii_digit.false-raw) (c.from.ensures, c.is_ascii_digit-2.ensures.value, c.if-not-is_ascii_digit-2.false-raw) c.is_ascii_digit-3.ensures.value c.if-not-is_ascii_digit-3.true-raw) false c.if-a-b-2.false
 
 pub overflow_sub-c : goal.overflow_sub-c
-overflow_sub-c c = (passed_digit _ _ c.digit-3.ensures c.if-not-digit-3.false-raw).low
+overflow_sub-c c = (passed_digit _ _ c.is_ascii_digit-3.ensures.value c.if-not-is_ascii_digit-3.false-raw).low
 
 pub returns-then-a-b-3 : goal.returns-then-a-b-3
-returns-then-a-b-3 c = from_2 (ends-2 c.args.a c.args.b c.args.c c.args.d c.args.e (c.wide-one.ensures, c.digit.ensures, c.if-not-digit.false-raw) (c.wide.ensures, c.digit-2.ensures, c.if-not-digit-2.false-raw) (c.wide-2.ensures, c.digit-3.ensures, c.if-not-digit-3.false-raw) c.digit-4.ensures c.if-not-digit-4.true-raw) true c.if-a-b-3.true
+returns-then-a-b-3 c = from_2 (ends-2 c.args.a c.args.b c.args.c c.args.d c.args.e (c.from-one.ensures, c.is_ascii_digit.ensures.value, c.if-not-is_ascii_digit.false-raw) (c.from.ensures, c.is_ascii_digit-2.ensures.value, c.if-not-is_ascii_digit-2.false-raw) (c.from-2.ensures, c.is_ascii_digit-3.ensures.value, c.if-not-is_ascii_digit-3.false-raw) c.is_ascii_digit-4.ensures.value c.if-not-is_ascii_digit-4.true-raw) true c.if-a-b-3.true
 
-pub returns-then-not-digit-4 : goal.returns-then-not-digit-4
-returns-then-not-digit-4 c = from_2 (ends-2 c.args.a c.args.b c.args.c c.args.d c.args.e (c.wide-one.ensures, c.digit.ensures, c.if-not-digit.false-raw) (c.wide.ensures, c.digit-2.ensures, c.if-not-digit-2.false-raw) (c.wide-2.ensures, c.digit-3.ensures, c.if-not-digit-3.false-raw) c.digit-4.ensures c.if-not-digit-4.true-raw) false c.if-a-b-3.false
+pub returns-then-not-is_ascii_digit-4 : goal.returns-then-not-is_ascii_digit-4
+returns-then-not-is_ascii_digit-4 c = from_2 (ends-2 c.args.a c.args.b c.args.c c.args.d c.args.e (c.from-one.ensures, c.is_ascii_digit.ensures.value, c.if-not-is_ascii_digit.false-raw) (c.from.ensures, c.is_ascii_digit-2.ensures.value, c.if-not-is_ascii_digit-2.false-raw) (c.from-2.ensures, c.is_ascii_digit-3.ensures.value, c.if-not-is_ascii_digit-3.false-raw) c.is_ascii_digit-4.ensures.value c.if-not-is_ascii_digit-4.true-raw) false c.if-a-b-3.false
 
 pub overflow_sub-b : goal.overflow_sub-b
-overflow_sub-b c = (passed_digit _ _ c.digit-4.ensures c.if-not-digit-4.false-raw).low
+overflow_sub-b c = (passed_digit _ _ c.is_ascii_digit-4.ensures.value c.if-not-is_ascii_digit-4.false-raw).low
 
 pub returns-then-b-ne48 : goal.returns-then-b-ne48
-returns-then-b-ne48 c = from_1 (said-1 c.args.a c.args.b c.args.c c.args.d c.args.e (c.wide-one.ensures, c.digit.ensures, c.if-not-digit.false-raw) (c.wide.ensures, c.digit-2.ensures, c.if-not-digit-2.false-raw) (c.wide-2.ensures, c.digit-3.ensures, c.if-not-digit-3.false-raw) (c.wide-3.ensures, c.digit-4.ensures, c.if-not-digit-4.false-raw)) c.if-a-eq32.true false (ne_eqb _ _ c.if-b-ne48.true)
+returns-then-b-ne48 c = from_1 (said-1 c.args.a c.args.b c.args.c c.args.d c.args.e (c.from-one.ensures, c.is_ascii_digit.ensures.value, c.if-not-is_ascii_digit.false-raw) (c.from.ensures, c.is_ascii_digit-2.ensures.value, c.if-not-is_ascii_digit-2.false-raw) (c.from-2.ensures, c.is_ascii_digit-3.ensures.value, c.if-not-is_ascii_digit-3.false-raw) (c.from-3.ensures, c.is_ascii_digit-4.ensures.value, c.if-not-is_ascii_digit-4.false-raw)) c.if-a-eq32.true false (ne_eqb _ _ c.if-b-ne48.true)
 
 pub returns-then-a-eq32 : goal.returns-then-a-eq32
-returns-then-a-eq32 c = from_1 (said-1 c.args.a c.args.b c.args.c c.args.d c.args.e (c.wide-one.ensures, c.digit.ensures, c.if-not-digit.false-raw) (c.wide.ensures, c.digit-2.ensures, c.if-not-digit-2.false-raw) (c.wide-2.ensures, c.digit-3.ensures, c.if-not-digit-3.false-raw) (c.wide-3.ensures, c.digit-4.ensures, c.if-not-digit-4.false-raw)) c.if-a-eq32.true true (eq-eqb _ _ c.if-b-ne48.false)
+returns-then-a-eq32 c = from_1 (said-1 c.args.a c.args.b c.args.c c.args.d c.args.e (c.from-one.ensures, c.is_ascii_digit.ensures.value, c.if-not-is_ascii_digit.false-raw) (c.from.ensures, c.is_ascii_digit-2.ensures.value, c.if-not-is_ascii_digit-2.false-raw) (c.from-2.ensures, c.is_ascii_digit-3.ensures.value, c.if-not-is_ascii_digit-3.false-raw) (c.from-3.ensures, c.is_ascii_digit-4.ensures.value, c.if-not-is_ascii_digit-4.false-raw)) c.if-a-eq32.true true (eq-eqb _ _ c.if-b-ne48.false)
 
 pub overflow_sub-a : goal.overflow_sub-a
-overflow_sub-a c = (last (goal.at.overflow_sub-a c).Then-digit-a).low
+overflow_sub-a c = (last (goal.at.overflow_sub-a c).Then-is_ascii_digit-a).low
 
-pub returns-then-digit-a : goal.returns-then-digit-a
-returns-then-digit-a c =
-    let n = not-true (eqb c.args.a 48) (both c.digit-5.result (not (eqb c.args.a 48)) c.if-digit-a.true).1 in
-    rw c.wide-then-digit-a.ensures (from_0 (said-1 c.args.a c.args.b c.args.c c.args.d c.args.e (c.wide-one.ensures, c.digit.ensures, c.if-not-digit.false-raw) (c.wide.ensures, c.digit-2.ensures, c.if-not-digit-2.false-raw) (c.wide-2.ensures, c.digit-3.ensures, c.if-not-digit-3.false-raw) (c.wide-3.ensures, c.digit-4.ensures, c.if-not-digit-4.false-raw)) (last (goal.at.returns-then-digit-a c).Then-digit-a) false n)
+pub returns-then-is_ascii_digit-a : goal.returns-then-is_ascii_digit-a
+returns-then-is_ascii_digit-a c =
+    let n = not-true (eqb c.args.a 48) (both c.is_ascii_digit-5.result (not (eqb c.args.a 48)) c.if-is_ascii_digit-a.true).1 in
+    rw c.from-then-is_ascii_digit-a.ensures (from_0 (said-1 c.args.a c.args.b c.args.c c.args.d c.args.e (c.from-one.ensures, c.is_ascii_digit.ensures.value, c.if-not-is_ascii_digit.false-raw) (c.from.ensures, c.is_ascii_digit-2.ensures.value, c.if-not-is_ascii_digit-2.false-raw) (c.from-2.ensures, c.is_ascii_digit-3.ensures.value, c.if-not-is_ascii_digit-3.false-raw) (c.from-3.ensures, c.is_ascii_digit-4.ensures.value, c.if-not-is_ascii_digit-4.false-raw)) (last (goal.at.returns-then-is_ascii_digit-a c).Then-is_ascii_digit-a) false n)
 
 pub returns : goal.returns
-returns c = from_none (said-1 c.args.a c.args.b c.args.c c.args.d c.args.e (c.wide-one.ensures, c.digit.ensures, c.if-not-digit.false-raw) (c.wide.ensures, c.digit-2.ensures, c.if-not-digit-2.false-raw) (c.wide-2.ensures, c.digit-3.ensures, c.if-not-digit-3.false-raw) (c.wide-3.ensures, c.digit-4.ensures, c.if-not-digit-4.false-raw)) c.if-a-eq32.false _ c.digit-5.ensures c.if-digit-a.false
+returns c = from_none (said-1 c.args.a c.args.b c.args.c c.args.d c.args.e (c.from-one.ensures, c.is_ascii_digit.ensures.value, c.if-not-is_ascii_digit.false-raw) (c.from.ensures, c.is_ascii_digit-2.ensures.value, c.if-not-is_ascii_digit-2.false-raw) (c.from-2.ensures, c.is_ascii_digit-3.ensures.value, c.if-not-is_ascii_digit-3.false-raw) (c.from-3.ensures, c.is_ascii_digit-4.ensures.value, c.if-not-is_ascii_digit-4.false-raw)) c.if-a-eq32.false _ c.is_ascii_digit-5.ensures.value c.if-is_ascii_digit-a.false
