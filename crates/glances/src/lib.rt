@@ -58,18 +58,13 @@ fn glance_at(a: u8, b: u8, c: u8, d: u8, e: u8) -> Option<u32>
 pub fn glance_in(f: &[u8]) -> Option<u32>
     ensures { result ≡ glimpse_of (number_of f.now) }
 {
-    match f.len() {
-        1 => glance_at(b' ', b' ', b' ', b' ', f[0]),
-        2 => glance_at(b' ', b' ', b' ', f[0], f[1]),
-        3 => glance_at(b' ', b' ', f[0], f[1], f[2]),
-        4 => glance_at(b' ', f[0], f[1], f[2], f[3]),
-        5 => glance_at(f[0], f[1], f[2], f[3], f[4]),
-        6 => {
-            if f[0] != b' ' {
-                return None;
-            }
-            glance_at(f[1], f[2], f[3], f[4], f[5])
-        }
+    match *f {
+        [e] => glance_at(b' ', b' ', b' ', b' ', e),
+        [d, e] => glance_at(b' ', b' ', b' ', d, e),
+        [c, d, e] => glance_at(b' ', b' ', c, d, e),
+        [b, c, d, e] => glance_at(b' ', b, c, d, e),
+        [a, b, c, d, e] => glance_at(a, b, c, d, e),
+        [b' ', a, b, c, d, e] => glance_at(a, b, c, d, e),
         _ => None,
     }
 }
@@ -108,9 +103,8 @@ pub fn sum_of_five(s: &[u8], column: usize) -> u32
 pub fn lone_zero(f: &[u8]) -> bool
     ensures { result ≡ is_lone_zero f.now }
 {
-    let n = f.len();
-    if n < 2 {
+    let [.., a, b] = *f else {
         return false;
-    }
-    (f[n - 1] == b'0') & (f[n - 2] == b' ')
+    };
+    (b == b'0') & (a == b' ')
 }
