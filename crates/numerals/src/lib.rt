@@ -17,20 +17,13 @@ pub fn read_number(s: &[u8], column: usize, width: usize) -> Option<i32>
     ensures { result ≡ number_at s.now column width }
 {
     // The columns are there, and as many as a number field may have.
-    if !fields::inside(s, column, width) {
-        return None;
-    }
+    let f = fields::bytes_at(s, column, width)?;
     if !is_width(width) {
         return None;
     }
-    let at = column - 1;
-    let f = &s[at..at + width];
 
     // Blanks: spaces in front. A field of spaces alone is wrong.
-    let mut i = behind_blanks(f);
-    if i == width {
-        return None;
-    }
+    let mut i = f.iter().position(|b| *b != b' ')?;
 
     // Sign: a minus sign stands directly before the digits.
     let minus = f[i] == b'-';
@@ -39,10 +32,7 @@ pub fn read_number(s: &[u8], column: usize, width: usize) -> Option<i32>
     }
 
     // Digits: at the right end. Zero is "0", never "-0".
-    let answer = digits(f, i);
-    let Some(n) = answer else {
-        return None;
-    };
+    let n = digits(&f[i..])?;
     if !minus {
         return Some(n);
     }
@@ -59,41 +49,23 @@ fn is_width(width: usize) -> bool
     (1 <= width) & (width <= 6)
 }
 
-// Blanks: the index of the first column that is no space, and the field's width where all are.
-fn behind_blanks(f: &[u8]) -> usize
-    ensures { (result ≤ length f.now) × (after_blanks f.now ≡ drop result f.now) }
-{
-    let mut i = 0;
-    while i < f.len() {
-        if f[i] != b' ' {
-            return i;
-        }
-        i += 1;
-    }
-    i
-}
-
-// Digits: from index `from` on nothing but digits up to the field's end, one at least. No leading zeros: a first
-// "0" stands alone.
-fn digits(f: &[u8], from: usize) -> Option<i32>
+// Digits: nothing but digits from end to end, one at least. No leading zeros: a first "0" stands alone.
+fn digits(f: &[u8]) -> Option<i32>
     requires { length f.now ≤ 6 }
-    ensures { result ≡ plain_of (drop from f.now) }
+    ensures { result ≡ plain_of f.now }
 {
-    if f.len() <= from {
+    let [first, ..] = f else {
+        return None;
+    };
+    if (*first == b'0') & (f.len() != 1) {
         return None;
     }
-    if (f[from] == b'0') & (from + 1 != f.len()) {
-        return None;
-    }
-    let mut n: u32 = 0;
-    let mut i = from;
-    while i < f.len() {
-        let b = f[i];
+    let mut n = 0;
+    for b in f {
         if !b.is_ascii_digit() {
             return None;
         }
-        n = n * 10 + u32::from(b - b'0');
-        i += 1;
+        n = n * 10 + u32::from(*b - b'0');
     }
     Some(n as i32)
 }
