@@ -86,20 +86,14 @@ fn digits_at_end(f: &[u8]) -> Ending
     requires { length f.now ≤ 6 }
     ensures { EndsIn f.now result.from result.size }
 {
-    let mut size: u32 = 0;
-    let mut unit: u32 = 1;
-    let mut i = f.len();
-    while 0 < i {
-        let b = f[i - 1];
-        if b < 48 {
-            return Ending { from: i, size };
+    let mut size = 0;
+    let mut unit = 1;
+    for i in (0..f.len()).rev() {
+        if !f[i].is_ascii_digit() {
+            return Ending { from: i + 1, size };
         }
-        if 57 < b {
-            return Ending { from: i, size };
-        }
-        size = size + u32::from(b - 48) * unit;
-        unit = unit * 10;
-        i -= 1;
+        size += u32::from(f[i] - b'0') * unit;
+        unit *= 10;
     }
     Ending { from: 0, size }
 }
@@ -113,7 +107,7 @@ fn signed(f: &[u8], from: usize, size: u32) -> Option<i32>
     if from == 0 {
         return Some(size as i32);
     }
-    if f[from - 1] == 45 {
+    if f[from - 1] == b'-' {
         if !texts::blanks(&f[..from - 1]) {
             return None;
         }
@@ -136,13 +130,11 @@ fn number_of(f: &[u8]) -> Option<i32>
     if 6 < n {
         return None;
     }
-    let e = digits_at_end(f);
-    let from = e.from;
-    let size = e.size;
+    let Ending { from, size } = digits_at_end(f);
     if from == n {
         return None;
     }
-    if (f[from] == 48) & (from + 1 != n) {
+    if (f[from] == b'0') & (from + 1 != n) {
         return None;
     }
     signed(f, from, size)
@@ -155,13 +147,8 @@ pub fn value_of(f: &[u8]) -> i32
     if glances::lone_zero(f) {
         return 0;
     }
-    let g = glances::glance_in(f);
-    let Some(n) = g else {
-        let answer = number_of(f);
-        let Some(v) = answer else {
-            return 0;
-        };
-        return v;
-    };
-    n as i32
+    if let Some(n) = glances::glance_in(f) {
+        return n as i32;
+    }
+    number_of(f).unwrap_or(0)
 }
