@@ -24,7 +24,7 @@ use Rattle.codes.specs.declared.Code.{Code}
 -- ---- the text of land
 
 -- no other text is land
-land_text_lem : (f : List ℕ) → is_land f ≡ true → f ≡ land_text
+pub land_text_lem : (f : List ℕ) → is_land f ≡ true → f ≡ land_text
 unfolding is_land
 land_text_lem f h =
     let l = both (eqb (length f) 5) _ h in
@@ -48,7 +48,7 @@ land_number : number_of land_text ≡ None
 unfolding number_of signed_of plain_of after_blanks
 land_number = refl
 
-land_is : is_land land_text ≡ true
+pub land_is : is_land land_text ≡ true
 unfolding is_land
 land_is = refl
 

@@ -24,21 +24,14 @@ pub struct Code {
 fn is_land(f: &[u8]) -> bool
     ensures { result ≡ is_land f.now }
 {
-    if f.len() != 5 {
-        return false;
-    }
-    (f[0] == 32) & ((f[1] == 48) & ((f[2] == 48) & ((f[3] == 48) & (f[4] == 48))))
+    f == b" 0000".as_slice()
 }
 
 // Whether the `width` columns from `column` on are.
 fn land_at(s: &[u8], column: usize, width: usize) -> bool
     ensures { result ≡ land_at s.now column width }
 {
-    if !fields::inside(s, column, width) {
-        return false;
-    }
-    let at = column - 1;
-    is_land(&s[at..at + width])
+    fields::bytes_at(s, column, width).is_some_and(is_land)
 }
 
 // Reads the code field of `width` columns from `column` on: a number, or else land. Refused: what is
@@ -77,10 +70,6 @@ pub fn write_code(buf: &mut [u8], column: usize, width: usize, value: i32, mark:
         return Err(Unfit);
     }
     let at = column - 1;
-    buf[at] = 32;
-    buf[at + 1] = 48;
-    buf[at + 2] = 48;
-    buf[at + 3] = 48;
-    buf[at + 4] = 48;
+    buf[at..at + 5].copy_from_slice(b" 0000");
     Ok(())
 }
