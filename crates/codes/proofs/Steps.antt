@@ -1,24 +1,20 @@
 -- A code field's answers, put together from what the steps of the code found. Assumes nothing.
 use mathlib.Core.Bool.{Bool, true, false, ◌&&◌}
-use mathlib.Core.List.{List, [], ◌∷◌, ◌++◌}
-use mathlib.Core.Path.{◌≡◌, refl, ap, ◌∙◌}
-use Prim.Native.Nat.{ℕ, zero, suc, ◌+◌, ◌-◌, ◌≤◌}
-use native.Mathlib.Nat.{suc-add}
+use mathlib.Core.List.{List, ◌++◌}
+use mathlib.Core.Path.{◌≡◌, refl, ap}
+use Prim.Native.Nat.{ℕ, zero, suc, ◌+◌, ◌-◌}
 use native.Mathlib.Omega.{arith}
-use lib.Dec.{eqb}
 use lib.IntN.{ℤ, pos, negsuc}
-use lib.ListN.{length, get_or, take, drop, set}
+use lib.ListN.{take, drop}
 use mir.Syntax.{w32}
 use mir.Val.{SFits, of_z}
 use borrow.Author.Tests.{eq-eqb, ne_eqb}
-use denote.Bor.{Bor}
 use Rattle.std.specs.Bool.{one_answer}
-use Rattle.std.specs.Prelude.{MatchOption, ◌↔◌, Option, Some, None}
+use Rattle.std.specs.Prelude.{◌↔◌, Option, Some, None}
 use Rattle.fields.specs.Answer.{Writing, done, unfit, number_fits, Wrote}
 use Rattle.fields.specs.Number.{number_at}
-use Rattle.fields.specs.Place.{is_inside, bytes_at}
+use Rattle.fields.specs.Place.{is_inside}
 use Rattle.fields.specs.Spelling.{spell}
-use Rattle.fields.proofs.Places.{part_is}
 use Rattle.codes.specs.Code.{land_text, code, is_land, land_at, code_at, land_holds, code_holds, spell_code, code_fits}
 use Rattle.codes.proofs.CodeLaws.{land_text_lem, land_is}
 use Rattle.writers.proofs.Answers.{wrote_nothing, wrote_all}
@@ -28,14 +24,6 @@ use Rattle.writers.proofs.Answers.{wrote_nothing, wrote_all}
 -- a test for its text
 pub land_iff : (f : List ℕ) (r : Bool) → r ≡ true ↔ (f ≡ land_text) → r ≡ is_land f
 land_iff f r h = one_answer r (is_land f) h (land_text_lem f, λ e. rw e land_is)
-
--- o are the field's bytes, and r is the answer
-pub land_answer : (s : List ℕ) (c w : ℕ) (o : Option (Bor (List ℕ))) (r : Bool)
-    → MatchOption o (is_inside s c w ≡ false) (λ f. (is_inside s c w ≡ true) × (f.now ≡ bytes_at s c w))
-    → MatchOption o (r ≡ false) (λ f. r ≡ is_land f.now) → r ≡ land_at s c w
-unfolding land_at
-land_answer s c w None r i e = rw i e
-land_answer s c w (Some f) r i e = rw i.0 (e ∙ ap is_land i.1)
 
 -- ---- reading: r is the answer to the number, and l to land
 

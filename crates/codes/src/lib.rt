@@ -51,7 +51,13 @@ pub fn read_code(s: &[u8], column: usize, width: usize) -> Option<Code>
 // Writes `value` into the code field of `width` columns from `column` on, spelled as `mark` says. Refused,
 // with `buf` as it was: a field that is not in `buf`, a mark that is neither 0 nor 1, and a value that the
 // field does not hold with that mark: " 0000" is 0 in five columns.
-pub fn write_code(buf: &mut [u8], column: usize, width: usize, value: i32, mark: u32) -> Result<(), Unfit>
+pub fn write_code(
+    buf: &mut [u8],
+    column: usize,
+    width: usize,
+    value: i32,
+    mark: u32,
+) -> Result<(), Unfit>
     ensures { Wrote (code_fits buf.old column width value mark) buf.old column (spell_code width value mark) result buf.new }
 {
     if mark == 0 {

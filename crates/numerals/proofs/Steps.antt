@@ -8,16 +8,16 @@ use native.Mathlib.Nat.{pow-suc, pow-le-pow_right}
 use native.Mathlib.Numerals.{add-one}
 use native.Mathlib.Omega.{arith}
 use lib.Dec.{leb, eqb, lit<, lit≤}
-use lib.IntN.{ℤ, pos}
+use lib.IntN.{pos}
 use lib.ListN.{length, get_or, take, drop, length-drop, drop_of_length-le}
 use lib.Seq.{drop-cons, take-length}
 use borrow.Author.Tests.{eq-eqb, ne_eqb, eqb-true, eqb-false, leb-true, not-true, not-false}
 use Rattle.std.specs.Prelude.{Option, Some, None, MatchOption, EachIndex, slice_index, ◌≢◌}
-use Rattle.fields.specs.Number.{is_digit, after_blanks, digits_of, zero_then, plain_of, minus, signed_of, is_width, number_of, number_at}
+use Rattle.fields.specs.Number.{is_digit, after_blanks, digits_of, zero_then, plain_of, signed_of, is_width, number_of, number_at}
 use Rattle.fields.specs.Place.{is_inside, bytes_at}
 use Rattle.fields.proofs.Spelled.{signed}
 use Rattle.fields.proofs.Unspelled.{digit_range}
-use Rattle.fields.proofs.Places.{both, inside_fits, part_is, bytes_length}
+use Rattle.fields.proofs.Places.{both, inside_fits, bytes_length}
 
 -- ---- a field that lies within s: f are its bytes
 

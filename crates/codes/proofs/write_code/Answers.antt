@@ -3,7 +3,7 @@
 use mathlib.Core.Path.{◌≡◌, sym, ◌∙◌}
 use Prim.Native.Nat.{◌+◌, ◌-◌, ◌≤◌}
 use native.Mathlib.Omega.{arith}
-use lib.ListN.{length, length-set}
+use lib.ListN.{length}
 use mir.Facts.{to_z-of_z}
 use Rattle.fields.proofs.Places.{inside_bounds}
 use Rattle.codes.proofs.Steps.{number_written, mark_unfit, width_unfit, value_unfit, place_unfit, land_written, zero_value}

@@ -1,6 +1,5 @@
 -- `glances::glance_in` meets its contract: spaces in front change nothing, and what has more than five
 -- bytes in use says no number from 0 to 99999. Assumes nothing.
-use mathlib.Core.Path.{◌≡◌}
 use native.Mathlib.Omega.{arith}
 use lib.Dec.{lit≤}
 use lib.ListN.{length}

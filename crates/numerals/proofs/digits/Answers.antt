@@ -1,11 +1,8 @@
-use mathlib.Core.Path.{◌≡◌, sym, ap, refl, ◌∙◌}
-use Prim.Native.Nat.{◌≤◌, ◌<◌}
+use mathlib.Core.Path.{sym, ap, ◌∙◌}
 use native.Mathlib.Omega.{arith}
 use lib.Dec.{lit<}
-use lib.ListN.{length}
-use borrow.Author.Rules.{rules}
-use Rattle.std.specs.Prelude.{Some, true, ◌↔◌}
-use Rattle.numerals.proofs.Signs.{size_fits, size_is}
+use Rattle.std.specs.Prelude.{Some}
+use Rattle.numerals.proofs.Signs.{size_is}
 use Rattle.numerals.proofs.Steps.{digits_none, zero_leads, digits_lead, digits_end, digits_more, digits_stop}
 use Rattle.numerals.proofs.Steps.{digit_most, sum_more, sum_below}
 use Rattle.numerals.proofs.digits.Goals as goal
@@ -25,8 +22,7 @@ returns-then-not-is_ascii_digit c =
 
 pub loop-b-preserved : goal.loop-b-preserved
 loop-b-preserved c =
-    let i = c.loop-b.invariant in
-    (
+    let i = c.loop-b.invariant in (
       rw c.from.ensures (sum_more _ _ _ i.0 (digit_most _ (sym c.is_ascii_digit.ensures.value ∙ c.if-not-is_ascii_digit.false))),
       i.1 ∙ rw c.from.ensures (digits_more _ _ _ c.loop-b-test.true _ c.is_ascii_digit.ensures.value c.if-not-is_ascii_digit.false),
     )

@@ -1,8 +1,6 @@
 -- `numerals::read_number` meets its contract: blanks, sign and digits each are a step of the definition. Assumes nothing.
-use mathlib.Core.Bool.{Bool, true, false}
-use mathlib.Core.List.{List, []}
 use mathlib.Core.Path.{◌≡◌, refl, sym, ap, ◌∙◌}
-use Prim.Native.Nat.{ℕ, ◌+◌, ◌-◌, ◌≤◌, ◌<◌}
+use Prim.Native.Nat.{ℕ, ◌-◌, ◌≤◌}
 use native.Mathlib.Omega.{arith}
 use lib.Dec.{eqb}
 use lib.IntN.{ℤ}
@@ -10,8 +8,7 @@ use lib.ListN.{length, get_or, take, drop, length-drop}
 use borrow.Author.Rules.{rules}
 use borrow.Author.Tests.{eq-eqb, ne_eqb}
 use Rattle.std.specs.Prelude.{Option, None, Some}
-use Rattle.fields.specs.Number.{number_at, after_blanks, minus, plain_of, signed_of, is_width}
-use Rattle.fields.specs.Place.{is_inside, bytes_at}
+use Rattle.fields.specs.Number.{number_at, after_blanks, minus, plain_of, signed_of}
 use Rattle.fields.proofs.Answers.{number_outside}
 use Rattle.fields.proofs.Spelled.{signed}
 use Rattle.numerals.proofs.Steps.{width_refused, width_taken, width_most, Found, found_none, found_some, nothing_said, rest_is}
