@@ -21,31 +21,19 @@ fn glance_at(a: u8, b: u8, c: u8, d: u8, e: u8) -> Option<u32>
     }
     let one = u32::from(e - b'0');
     if !d.is_ascii_digit() {
-        if (a == b' ') & (b == b' ') & (c == b' ') & (d == b' ') {
-            return Some(one);
-        }
-        return None;
+        return ((a == b' ') & (b == b' ') & (c == b' ') & (d == b' ')).then_some(one);
     }
     let two = one + u32::from(d - b'0') * 10;
     if !c.is_ascii_digit() {
-        if (a == b' ') & (b == b' ') & (c == b' ') & (d != b'0') {
-            return Some(two);
-        }
-        return None;
+        return ((a == b' ') & (b == b' ') & (c == b' ') & (d != b'0')).then_some(two);
     }
     let three = two + u32::from(c - b'0') * 100;
     if !b.is_ascii_digit() {
-        if (a == b' ') & (b == b' ') & (c != b'0') {
-            return Some(three);
-        }
-        return None;
+        return ((a == b' ') & (b == b' ') & (c != b'0')).then_some(three);
     }
     let four = three + u32::from(b - b'0') * 1000;
     if a == b' ' {
-        if b != b'0' {
-            return Some(four);
-        }
-        return None;
+        return (b != b'0').then_some(four);
     }
     if a.is_ascii_digit() & (a != b'0') {
         return Some(four + u32::from(a - b'0') * 10000);
