@@ -34,7 +34,7 @@ fn land_at(s: &[u8], column: usize, width: usize) -> bool
     fields::bytes_at(s, column, width).is_some_and(is_land)
 }
 
-// Reads the code field of `width` columns from `column` on: a number, or else land. Refused: what is
+// Reads the code field of `width` columns from `column` on: a number, or else land. None: what is
 // neither.
 pub fn read_code(s: &[u8], column: usize, width: usize) -> Option<Code>
     ensures { result ≡ code_at s.now column width }

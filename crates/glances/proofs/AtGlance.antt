@@ -22,11 +22,6 @@ use Rattle.fields.proofs.FromRight.{digits_none, digits_more, too_wide, taken, t
 use Rattle.fields.proofs.FromRight.{refused_endless, refused_zero, refused_minus, refused_other}
 use Rattle.fields.proofs.Places.{both}
 
-not_sure : {X : Type 0} {v : ℕ} → None ≡ Some v → X
-not_sure e =
-    let z : ◌≡◌ {A = ℕ} 0 1 = cc in
-    absurd (omega arith)
-
 -- what a sure glance says of the answer n
 sure_by : {v : ℕ} (n : Option ℤ) → glimpse_of n ≡ Some v → (n ≡ Some (pos v)) × (v < 100000)
 sure_by {v} (Some (pos m)) e = by (ltb m 100000) refl e
@@ -36,9 +31,9 @@ sure_by {v} (Some (pos m)) e = by (ltb m 100000) refl e
         let q : m ≡ v = cc in
         let s : m < 100000 = ltb-true _ _ l in
         (rw q, rw q at s)
-    by false l e = not_sure e
-sure_by (Some (negsuc m)) e = not_sure e
-sure_by None e = not_sure e
+    by false l e = absurd (cc)
+sure_by (Some (negsuc m)) e = absurd (cc)
+sure_by None e = absurd (cc)
 
 pub sure_says : {n : Option ℤ} {v : ℕ} (g : Option ℕ) → g ≡ Some v → g ≡ glimpse_of n → (n ≡ Some (pos v)) × (v < 100000)
 sure_says {n} g e h = sure_by n (sym h ∙ e)
@@ -48,7 +43,7 @@ pub unsure_says : {n : Option ℤ} {v : ℕ} (g : Option ℕ) → g ≡ None →
 unsure_says {n} {v} g e h q = by (ltb v 100000) refl (sym (ap glimpse_of q) ∙ sym h ∙ e)
   where
     by : (t : Bool) → ltb v 100000 ≡ t → cond t (Some v) None ≡ None → 100000 ≤ v
-    by true l e = not_sure (sym e)
+    by true l e = absurd (cc)
     by false l e = ltb-false _ _ l
 
 -- a byte that passed the code's test
@@ -95,9 +90,7 @@ glimpse_minus None = refl
 
 some_before : (f : List ℕ) (i : ℕ) → is_blanks (take i f) ≡ false → 0 < i
 unfolding is_blanks
-some_before f zero e =
-    let z : ◌≡◌ {A = ℕ} 0 1 = cc in
-    absurd (omega arith)
+some_before f zero e = absurd (cc)
 some_before f (suc i) e = omega arith
 
 module _ {f : List ℕ} {i n : ℕ} (g : Plain f i n) where
@@ -311,9 +304,7 @@ zero_alone_by f true l h =
     let x = both (eqb (get_or f (length f - 1) 0) 48) (eqb (get_or f (length f - 2) 0) 32) h in
     let e : length f - 1 - 1 ≡ length f - 2 = omega arith in
     zero_by f (leb-true _ _ l) (eqb-true _ _ x.0) (rw e (eqb-true _ _ x.1)) (leb (length f) 6) (is_blanks (take (length f - 1) f)) refl refl
-zero_alone_by f false l h =
-    let z : ◌≡◌ {A = ℕ} 0 1 = cc in
-    absurd (omega arith)
+zero_alone_by f false l h = absurd (cc)
 
 pub zero_alone : (f : List ℕ) → is_lone_zero f ≡ true → value_of (number_of f) ≡ pos 0
 unfolding is_lone_zero

@@ -2,12 +2,11 @@
 // `read_number` is the rule as the program has it. Every number that the library tells of a file is what it
 // says of the field's columns, and every refusal 5 of a number field is given by it.
 //
-// The contracts cite `Number` of `fields`, a definition a step: `after_blanks`, `plain_of`, and `number_at` for
-// the whole.
+// The contracts cite `Number` of `fields`: `is_width` and `plain_of` for a step each, and `number_at` for the whole.
 #![tactic(auto)]
 
-ghost use Rattle.std.specs.Prelude.{◌≡◌, ◌≤◌, length, drop};
-ghost use Rattle.fields.specs.Number.{is_width, after_blanks, plain_of, number_of, number_at};
+ghost use Rattle.std.specs.Prelude.{◌≡◌, ◌≤◌, length};
+ghost use Rattle.fields.specs.Number.{is_width, plain_of, number_of, number_at};
 ghost use Rattle.fields.specs.Answer.{value_of};
 ghost use Rattle.fields.specs.Ending.{EndsIn, Plain};
 
@@ -46,7 +45,7 @@ pub fn read_number(s: &[u8], column: usize, width: usize) -> Option<i32>
 fn is_width(width: usize) -> bool
     ensures { result ≡ is_width width }
 {
-    (1 <= width) & (width <= 6)
+    matches!(width, 1..=6)
 }
 
 // Digits: nothing but digits from end to end, one at least. No leading zeros: a first "0" stands alone.

@@ -4,7 +4,7 @@
 // The contracts cite `Spelling`, `Number` and `Answer` of `fields`.
 #![tactic(auto)]
 
-ghost use Rattle.std.specs.Prelude.{◌≡◌, ◌++◌, ◌+◌, ◌<◌, ◌≤◌, length, take, drop, replicate, nat_abs};
+ghost use Rattle.std.specs.Prelude.{◌≡◌, ◌++◌, ◌+◌, ◌≤◌, length, take, drop, replicate};
 ghost use Rattle.fields.specs.Place.{is_inside};
 ghost use Rattle.fields.specs.Number.{holds};
 ghost use Rattle.fields.specs.Spelling.{last_of, rest_of, columns, left_of, spell};
