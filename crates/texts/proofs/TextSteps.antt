@@ -2,8 +2,7 @@
 use mathlib.Core.Bool.{Bool, true, false, cond}
 use mathlib.Core.List.{List, [], ◌∷◌}
 use mathlib.Core.Path.{◌≡◌, refl}
-use Prim.Native.Nat.{ℕ, zero, suc, ◌+◌, ◌-◌, ◌≤◌, ◌<◌}
-
+use Prim.Native.Nat.{ℕ, zero, suc, ◌-◌, ◌≤◌, ◌<◌}
 use native.Mathlib.Omega.{arith}
 use lib.Dec.{eqb}
 use lib.ListN.{length, get_or, take, drop}
@@ -23,7 +22,7 @@ blank_first b f q h (suc k) l = h k (omega arith)
 each_by : (b : ℕ) (f : List ℕ) → is_blanks f ≡ true ↔ AllBlank f → (t : Bool) → eqb b 32 ≡ t → cond t (is_blanks f) false ≡ true ↔ AllBlank (b ∷ f)
 each_by b f ih true e = (λ h. blank_first b f (eqb-true _ _ e) (ih.0 h), λ h. ih.1 (λ k l. h (suc k) (omega arith)))
 each_by b f ih false e =
-    (λ h. let z : ◌≡◌ {A = ℕ} 0 1 = cc in absurd (omega arith), λ h. absurd (eqb-false _ _ e (h 0 (omega arith))))
+    (λ h. absurd (cc), λ h. absurd (eqb-false _ _ e (h 0 (omega arith))))
 
 -- spaces alone: each byte is one
 each_blank : (f : List ℕ) → is_blanks f ≡ true ↔ AllBlank f

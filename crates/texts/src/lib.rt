@@ -19,8 +19,7 @@ pub fn blanks(f: &[u8]) -> bool
 fn pair(a: u8, b: u8) -> bool
     ensures { result ≡ is_pair a b }
 {
-    ((0x81 <= a) & (a <= 0x9f) | (0xe0 <= a) & (a <= 0xfc))
-        & ((0x40 <= b) & (b <= 0x7e) | (0x80 <= b) & (b <= 0xfc))
+    matches!(a, 0x81..=0x9f | 0xe0..=0xfc) & matches!(b, 0x40..=0x7e | 0x80..=0xfc)
 }
 
 // Whether a field is two-byte characters alone.
@@ -37,16 +36,16 @@ pub fn pairs(f: &[u8]) -> bool
     rest.is_empty()
 }
 
-// Judges the name field of `width` columns from `column` on. Refused: a field that is not in `s`,
-// and one that is not two-byte characters.
+// Whether the name field of `width` columns from `column` on is well formed. It is not where it is not in `s`,
+// and where it is not two-byte characters.
 pub fn read_name(s: &[u8], column: usize, width: usize) -> bool
     ensures { result ≡ text_at is_name s.now column width }
 {
     fields::bytes_at(s, column, width).is_some_and(pairs)
 }
 
-// Judges the blank field of `width` columns from `column` on. Refused: a field that is not in `s`,
-// and one with another byte than a space.
+// Whether the blank field of `width` columns from `column` on is well formed. It is not where it is not in `s`,
+// and where it has another byte than a space.
 pub fn read_blank(s: &[u8], column: usize, width: usize) -> bool
     ensures { result ≡ text_at is_blanks s.now column width }
 {

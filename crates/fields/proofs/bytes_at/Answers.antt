@@ -1,5 +1,5 @@
 -- `fields::bytes_at` meets its contract: where the columns lie within `s`, the part that is cut out is their bytes.
-use Rattle.std.proofs.Common.{◌≡◌, ◌+◌, ◌-◌, ◌≤◌, true, length, sym, arith, ◌∙◌}
+use Rattle.std.proofs.Common.{◌+◌, ◌-◌, ◌≤◌, length, sym, arith, ◌∙◌}
 use Rattle.fields.proofs.Places.{inside_bounds, part_is}
 use Rattle.fields.proofs.bytes_at.Goals as goal
 use Rattle.fields.proofs.bytes_at.Goals.{Else-not-inside}

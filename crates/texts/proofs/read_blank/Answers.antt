@@ -2,7 +2,7 @@
 use Rattle.std.specs.Prelude.{◌≡◌, false, MatchOption}
 use borrow.Author.Rules.{rules}
 use Rattle.fields.specs.Text.{is_blanks}
-use Rattle.texts.proofs.Answers.{text_answer}
+use Rattle.fields.proofs.Answers.{text_answer}
 use Rattle.texts.proofs.read_blank.Goals as goal
 
 pub returns : goal.returns

@@ -2,7 +2,7 @@
 use Rattle.std.specs.Prelude.{◌≡◌, false, MatchOption}
 use borrow.Author.Rules.{rules}
 use Rattle.fields.specs.Text.{is_name}
-use Rattle.texts.proofs.Answers.{text_answer}
+use Rattle.fields.proofs.Answers.{text_answer}
 use Rattle.texts.proofs.read_name.Goals as goal
 
 pub returns : goal.returns
