@@ -15,7 +15,7 @@ use Rattle.verdict.proofs.Holding.{row_fine, Holding, all_hold}
 use Rattle.verdict.proofs.Orders.{and_both}
 use Rattle.records.specs.View.{record_of}
 use Rattle.rules.specs.declared.Due.{Due}
-use Rattle.rules.specs.declared.Due.TheVariants.{Mesh}
+use Rattle.rules.specs.declared.Due.TheVariants.{Mesh, Layer, Node, Line, Coordinates, Area, Loop}
 use Rattle.rules.specs.Checks.{checks_of}
 use Rattle.walk.specs.declared.State.{State}
 use Rattle.walk.specs.declared.Counts.{Counts}
@@ -121,9 +121,18 @@ pub last_fine : (r : ℕ) {d : Due} {last : ℕ} → d ≡ Mesh last → Fine �
 unfolding last_checks
 last_fine r {d} h = sym (check_kept 2 r 1 4 (may_end d) [] (rw h) ∙ sym (check_none 2 r))
 
-pub last_broken : (r : ℕ) (k : Due) {d : Due} {v : Verdict} → d ≡ k → may_end k ≡ false → v ≡ Broken 4 r 1 → v ≡ first_broken (block 2 r (last_checks d))
+pub last_broken : (r : ℕ) (d : Due) → ((last : ℕ) → d ≡ Mesh last → ⊥) → Broken 4 r 1 ≡ first_broken (block 2 r (last_checks d))
 unfolding last_checks
-last_broken r k {d} h q e = e ∙ sym (check_broken 2 r 1 4 (may_end d) [] (rw h q))
+last_broken r d o = sym (check_broken 2 r 1 4 (may_end d) [] (none d o))
+  where
+    none : (d : Due) → ((last : ℕ) → d ≡ Mesh last → ⊥) → may_end d ≡ false
+    none (Mesh last) o = absurd (o last refl)
+    none (Layer last) o = refl
+    none (Node layer last) o = refl
+    none (Line layer last letters) o = refl
+    none (Coordinates left) o = refl
+    none (Area layer last) o = refl
+    none (Loop last count left) o = refl
 
 -- ---- both stages
 
