@@ -8,7 +8,7 @@
 ghost use Rattle.std.specs.Prelude.{◌≡◌, ◌+◌, ◌-◌, ◌*◌, ◌/◌, ◌≤◌, ◌<◌, min, length};
 ghost use Rattle.std.proofs.lemmas.List.Edits.{sets};
 ghost use Rattle.verdict.specs.Rules.{Broken, first_broken, block};
-ghost use Rattle.walk.specs.States.{size_in, due_of, start, layer_part, meshed, headed, next_of, no_counts, Countable, counted_for, counts_at};
+ghost use Rattle.walk.specs.States.{size_in, due_of, start, layer_part, meshed, headed, next_of, Countable, counted_for, counts_at};
 ghost use Rattle.walk.specs.Row.{row_length, row_of};
 ghost use Rattle.walk.specs.Stages.{records_of, end_checks, length_checks, stage_one, last_checks, stage_two, walked_by, walked_of, need_of, early};
 ghost use Rattle.walk.specs.Table.{table_of, filled, filled_by, tabled_of};
@@ -34,14 +34,14 @@ pub const AREAS_WORD: usize = 3;
 pub const LETTERS_WORD: usize = 4;
 
 // The mesh that the walk is in: its code, and how many of its layers have not begun.
-#[derive(Clone, Copy)]
+#[derive(Clone, Copy, Default)]
 pub struct MeshPart {
     pub code: usize,
     pub layers: usize,
 }
 
 // The layer: its code, its totals, how many of each came, and its letters.
-#[derive(Clone, Copy)]
+#[derive(Clone, Copy, Default)]
 pub struct LayerPart {
     pub code: usize,
     pub nodes: usize,
@@ -54,13 +54,13 @@ pub struct LayerPart {
 }
 
 // The line: how many of its points are left.
-#[derive(Clone, Copy)]
+#[derive(Clone, Copy, Default)]
 pub struct LinePart {
     pub points: usize,
 }
 
 // The area: its loops, how many of them were begun, and the last one's line count and entries left.
-#[derive(Clone, Copy)]
+#[derive(Clone, Copy, Default)]
 pub struct AreaPart {
     pub loops: usize,
     pub begun: usize,
@@ -69,7 +69,7 @@ pub struct AreaPart {
 }
 
 // Where the walk stands.
-#[derive(Clone, Copy)]
+#[derive(Clone, Copy, Default)]
 pub struct State {
     pub mesh: MeshPart,
     pub layer: LayerPart,
@@ -78,7 +78,7 @@ pub struct State {
 }
 
 // What the records were, and the words that the layers among them need.
-#[derive(Clone, Copy)]
+#[derive(Clone, Copy, Default)]
 pub struct Counts {
     pub meshes: usize,
     pub layers: usize,
@@ -149,26 +149,7 @@ pub fn due(s: State) -> Due
 pub fn at_start() -> State
     ensures { result ≡ start }
 {
-    State {
-        mesh: MeshPart { code: 0, layers: 0 },
-        layer: LayerPart {
-            code: 0,
-            nodes: 0,
-            node: 0,
-            lines: 0,
-            line: 0,
-            areas: 0,
-            area: 0,
-            letters: 0,
-        },
-        line: LinePart { points: 0 },
-        area: AreaPart {
-            loops: 0,
-            begun: 0,
-            count: 0,
-            entries: 0,
-        },
-    }
+    State::default()
 }
 
 // What is left of `n` when `by` are taken.
@@ -198,12 +179,10 @@ fn layer_part(t: &[u8]) -> LayerPart
     LayerPart {
         code: size_at(t, records::LAYER_CODE),
         nodes: size_at(t, records::LAYER_NODES),
-        node: 0,
         lines: size_at(t, records::LAYER_LINES),
-        line: 0,
         areas: size_at(t, records::LAYER_AREAS),
-        area: 0,
         letters: records::head_letters(t),
+        ..LayerPart::default()
     }
 }
 
@@ -283,9 +262,7 @@ pub fn next(s: State, t: &[u8]) -> State
             },
             area: AreaPart {
                 loops: size_at(t, records::AREA_LOOPS),
-                begun: 0,
-                count: 0,
-                entries: 0,
+                ..AreaPart::default()
             },
             ..s
         };
@@ -383,14 +360,14 @@ pub fn records_of(file: &[u8]) -> usize
 fn judge_end(t: &[u8], row: u32) -> Verdict
     ensures { result ≡ first_broken (block 1 row (end_checks t.now)) }
 {
-    if rules::byte_at(t, 72) != 13 {
+    if rules::byte_at(t, 72) != b'\r' {
         return Err(Refusal {
             number: 2,
             place: row,
             column: 73,
         });
     }
-    if rules::byte_at(t, 73) != 10 {
+    if rules::byte_at(t, 73) != b'\n' {
         return Err(Refusal {
             number: 2,
             place: row,
@@ -405,7 +382,7 @@ fn judge_length(n: usize, row: u32) -> Verdict
     ensures { result ≡ first_broken (block 1 row (length_checks n)) }
 {
     let whole = n / 74;
-    if (1 <= whole) & ((whole <= 6399936) & (n % 74 == 0)) {
+    if 1 <= whole && whole <= 6399936 && n % 74 == 0 {
         return Ok(());
     }
     Err(Refusal {
@@ -427,20 +404,6 @@ fn stage_one(file: &[u8]) -> Verdict
 }
 
 // ---- stage 2
-
-// Nothing counted.
-fn no_counts() -> Counts
-    ensures { result ≡ no_counts }
-{
-    Counts {
-        meshes: 0,
-        layers: 0,
-        nodes: 0,
-        lines: 0,
-        areas: 0,
-        words: 0,
-    }
-}
 
 // The counts with a record more.
 fn counted(c: Counts, d: Due, t: &[u8]) -> Counts
@@ -525,7 +488,7 @@ fn stage_two(file: &[u8]) -> Result<Counts, Refusal>
 {
     let n = records_of(file);
     let mut s = at_start();
-    let mut c = no_counts();
+    let mut c = Counts::default();
     let mut k: usize = 0;
     // a quiet run is one step, so no range counts this
     while k < n {
@@ -620,7 +583,7 @@ fn fill(file: &[u8], total: Counts, table: &mut [u32])
         areas: rows + total.lines,
     };
     let mut s = at_start();
-    let mut c = no_counts();
+    let mut c = Counts::default();
     let mut k: usize = 0;
     // a quiet run is one step, so no range counts this
     while k < n {

@@ -62,6 +62,9 @@ returns-then-s-4 c =
       le-ltb _ _ c.if-s-3.false,
       lt-ltb _ _ c.if-s-4.true,
       c.size_at-then-s-4.ensures.0,
+      c.default.ensures.1.0,
+      c.default.ensures.1.1.0,
+      c.default.ensures.1.1.1,
     )
 
 pub returns-then-s-gt0-3 : goal.returns-then-s-gt0-3
