@@ -23,7 +23,7 @@ pub struct Bases {
 
 // A layer: its H record; how many nodes, lines and areas it has; and where the words of its first line
 // and of its first area stand in the table.
-#[derive(Clone, Copy)]
+#[derive(Clone, Copy, Default)]
 pub struct Layer {
     pub head: u32,
     pub nodes: u32,
@@ -58,14 +58,7 @@ pub fn layer_in(table: &[u32], b: Bases, i: usize) -> Layer
     ensures { result ≡ layer_in table.now b i }
 {
     if 6399936 < i {
-        return Layer {
-            head: 0,
-            nodes: 0,
-            lines: 0,
-            areas: 0,
-            line: 0,
-            area: 0,
-        };
+        return Layer::default();
     }
     Layer {
         head: row_word(table, i, walk::HEAD_WORD),
@@ -89,7 +82,7 @@ pub fn names_line(n: u32, v: i32) -> bool
     ensures { result ≡ names_line n v }
 {
     let s = permitted::size(v);
-    (1 <= s) & (s <= n as usize)
+    1 <= s && s <= n as usize
 }
 
 // The N record that a number names in a layer; 0 where it names nothing.

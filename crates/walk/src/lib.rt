@@ -320,16 +320,6 @@ fn pass_nodes(s: State, most: usize) -> Pass
     }
 }
 
-// Passes no record.
-fn pass_none(s: State) -> Pass
-    ensures { (result.records ≡ 0) × (result.state ≡ passed s result.records) }
-{
-    Pass {
-        state: s,
-        records: 0,
-    }
-}
-
 // Passes the coordinate records that come next, or else the nodes, in one step: all of them, and no more
 // than `most`.
 pub fn pass_quiet(s: State, most: usize) -> Pass
@@ -338,11 +328,11 @@ pub fn pass_quiet(s: State, most: usize) -> Pass
     if 0 < s.line.points {
         return pass_points(s, most);
     }
-    if 0 < s.area.entries {
-        return pass_none(s);
-    }
-    if s.area.begun < s.area.loops {
-        return pass_none(s);
+    if 0 < s.area.entries || s.area.begun < s.area.loops {
+        return Pass {
+            state: s,
+            records: 0,
+        };
     }
     pass_nodes(s, most)
 }
