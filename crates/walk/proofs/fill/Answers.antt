@@ -13,11 +13,11 @@ use Rattle.walk.proofs.fill.Goals.{After-next-s}
 pub loop-k-init : goal.loop-k-init
 loop-k-init c =
     let none : c.default-c.result ≡ no_counts = search rules in (
-  search rules,
-  c.at_start-s.ensures ∙ at_none _,
-  none ∙ counts_none _,
-  none_filled _ _ c.records_of-n.ensures.0 c.requires.total_value c.requires.areas_in_bounds,
-)
+      search rules,
+      c.at_start-s.ensures ∙ at_none _,
+      none ∙ counts_none _,
+      none_filled _ _ c.records_of-n.ensures.0 c.requires.total_value c.requires.areas_in_bounds,
+    )
 
 pub put_record-requires : goal.put_record-requires
 put_record-requires c =

@@ -11,7 +11,7 @@ returns-then-n-eq0 c = length_fine _ _ (grind (arith, nat_tests))
 pub returns : goal.returns
 returns c =
     length_broken _ _ (elim c.else-whole-ge1.branch [
-      else-whole-ge1-via-then-whole-ge1+then-whole-le6399936+else-n-eq0 w ↦ grind (arith, nat_tests)
-    | else-whole-ge1-via-then-whole-ge1+else-whole-le6399936 w ↦ grind (arith, nat_tests)
-    | else-whole-ge1-via-else-whole-ge1 w ↦ grind (arith, nat_tests)
+      | else-whole-ge1-via-then-whole-ge1+then-whole-le6399936+else-n-eq0 w ↦ grind (arith, nat_tests)
+      | else-whole-ge1-via-then-whole-ge1+else-whole-le6399936 w ↦ grind (arith, nat_tests)
+      | else-whole-ge1-via-else-whole-ge1 w ↦ grind (arith, nat_tests)
     ])
