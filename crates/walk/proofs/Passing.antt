@@ -91,32 +91,6 @@ quiet_is s j = by (ltb 0 s.line.points)
     by true = refl
     by false = refl
 
--- the state behind h coordinate records, with the points p left; behind h nodes
-pub past_points : (s : State) (h : ℕ) {p : ℕ} → 0 < s.line.points → p ≡ s.line.points - 7 * h
-    → (record { mesh = s.mesh; layer = s.layer; line = record { points = p }; area = s.area }) ≡ passed s h
-past_points s h l e = simp (lt-ltb 0 s.line.points l, e, add-zero)
-
-pub past_nodes : (s : State) (h : ℕ) {n : ℕ} → s.line.points ≤ 0 → n ≡ s.layer.node + h
-    → (record {
-      mesh = s.mesh;
-      layer = record {
-        code = s.layer.code;
-        nodes = s.layer.nodes;
-        node = n;
-        lines = s.layer.lines;
-        line = s.layer.line;
-        areas = s.layer.areas;
-        area = s.layer.area;
-        letters = s.layer.letters;
-      };
-      line = s.line;
-      area = s.area;
-    })
-    ≡ passed s h
-past_nodes s h l e =
-    let z : s.line.points - 7 * h ≡ s.line.points = omega arith in
-    simp (le-ltb 0 s.line.points l, e, z)
-
 -- ---- which are quiet
 
 -- the coordinate records of the points that are left
