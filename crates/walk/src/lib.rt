@@ -118,6 +118,7 @@ pub fn size_at(t: &[u8], c: Columns) -> usize
 }
 
 // What is due.
+#[tactic(auto, unfolding(crate::specs::States::due_of))]
 pub fn due(s: State) -> Due
     ensures { result ≡ due_of s }
 {
@@ -201,6 +202,7 @@ fn behind_layer(s: State, t: &[u8]) -> State
 }
 
 // The state behind the record `t`: each replaces a part.
+#[tactic(auto, using(crate::proofs::Walking::next_entries), unfolding(crate::specs::States::next_of, crate::specs::States::due_of))]
 pub fn next(s: State, t: &[u8]) -> State
     ensures { result ≡ next_of s t.now }
 {
@@ -396,6 +398,7 @@ fn stage_one(file: &[u8]) -> Verdict
 // ---- stage 2
 
 // The counts with a record more.
+#[tactic(auto, unfolding(crate::specs::States::layer_words))]
 fn counted(c: Counts, d: Due, t: &[u8]) -> Counts
     requires { Countable c }
     ensures { result ≡ counted_for d c t.now }
