@@ -42,6 +42,7 @@ fn row_word(table: &[u32], i: usize, j: usize) -> u32
 }
 
 // Word `j` of the rows before row `i`, added up.
+#[tactic(auto, unfolding(crate::specs::Naming::words_before))]
 fn words_before(table: &[u32], j: usize, i: usize) -> usize
     requires { (i ≤ 6399936) × (j < row_length) }
     ensures { (result ≡ words_before table.now j i) × (result ≤ 4294967296 * i) }
@@ -54,6 +55,7 @@ fn words_before(table: &[u32], j: usize, i: usize) -> usize
 }
 
 // Layer `i` of a table, counted from 0.
+#[tactic(auto, unfolding(crate::specs::Naming::layer_in))]
 pub fn layer_in(table: &[u32], b: Bases, i: usize) -> Layer
     ensures { result ≡ layer_in table.now b i }
 {
@@ -71,6 +73,7 @@ pub fn layer_in(table: &[u32], b: Bases, i: usize) -> Layer
 }
 
 // Whether a number is one of the serials 1 to `n`.
+#[tactic(auto, unfolding(crate::specs::Naming::names))]
 pub fn names(n: u32, v: i32) -> bool
     ensures { result ≡ names n v }
 {
@@ -78,6 +81,7 @@ pub fn names(n: u32, v: i32) -> bool
 }
 
 // Whether an entry, +n or -n, names one of the lines 1 to `n`.
+#[tactic(auto, unfolding(crate::specs::Naming::names_line))]
 pub fn names_line(n: u32, v: i32) -> bool
     ensures { result ≡ names_line n v }
 {
@@ -86,6 +90,7 @@ pub fn names_line(n: u32, v: i32) -> bool
 }
 
 // The N record that a number names in a layer; 0 where it names nothing.
+#[tactic(auto, unfolding(crate::specs::Naming::node_of))]
 pub fn node_of(l: Layer, v: i32) -> usize
     ensures { result ≡ node_of l v }
 {
@@ -103,6 +108,7 @@ fn word_in(table: &[u32], at: usize, i: usize) -> u32
 }
 
 // The L record that an entry names in a layer; 0 where it names nothing.
+#[tactic(auto, unfolding(crate::specs::Naming::line_of, crate::specs::Naming::names_line))]
 pub fn line_of(table: &[u32], l: Layer, v: i32) -> usize
     ensures { result ≡ line_of table.now l v }
 {
@@ -113,6 +119,7 @@ pub fn line_of(table: &[u32], l: Layer, v: i32) -> usize
 }
 
 // The A record that a number names in a layer; 0 where it names nothing.
+#[tactic(auto, unfolding(crate::specs::Naming::area_of, crate::specs::Naming::names, permitted::specs::Permitted::within))]
 pub fn area_of(table: &[u32], l: Layer, v: i32) -> usize
     ensures { result ≡ area_of table.now l v }
 {
