@@ -324,6 +324,7 @@ fn pass_nodes(s: State, most: usize) -> Pass
 
 // Passes the coordinate records that come next, or else the nodes, in one step: all of them, and no more
 // than `most`.
+#[tactic(auto, unfolding(crate::specs::Quiet::quiet_ahead))]
 pub fn pass_quiet(s: State, most: usize) -> Pass
     ensures { (result.records ≡ min most (quiet_ahead s)) × (result.state ≡ passed s result.records) }
 {
@@ -342,6 +343,7 @@ pub fn pass_quiet(s: State, most: usize) -> Pass
 // ---- stage 1
 
 // How many records are judged: those that there are, and no more than there may be.
+#[tactic(auto, using(std::proofs::lemmas::Bool::Decides::nat_tests), unfolding(crate::specs::Stages::records_of))]
 pub fn records_of(file: &[u8]) -> usize
     ensures { (result ≡ records_of file.now) × (result ≤ 6399936) }
 {
@@ -349,6 +351,7 @@ pub fn records_of(file: &[u8]) -> usize
 }
 
 // The line end of a record.
+#[tactic(auto, unfolding(crate::specs::Stages::end_checks, verdict::specs::Rules::first_broken, verdict::specs::Rules::block))]
 fn judge_end(t: &[u8], row: u32) -> Verdict
     ensures { result ≡ first_broken (block 1 row (end_checks t.now)) }
 {
@@ -370,6 +373,7 @@ fn judge_end(t: &[u8], row: u32) -> Verdict
 }
 
 // The length of a file; `row` is the record behind the last that is judged.
+#[tactic(auto, unfolding(crate::specs::Stages::length_checks, verdict::specs::Rules::first_broken, verdict::specs::Rules::block))]
 fn judge_length(n: usize, row: u32) -> Verdict
     ensures { result ≡ first_broken (block 1 row (length_checks n)) }
 {
@@ -446,6 +450,7 @@ fn counted_past(c: Counts, s: State, h: usize) -> Counts
 }
 
 // The end of a file where `d` is due: 4 but for a mesh.
+#[tactic(auto, unfolding(crate::specs::Stages::last_checks, verdict::specs::Rules::first_broken, verdict::specs::Rules::block))]
 fn judge_last(d: Due, row: u32) -> Verdict
     ensures { result ≡ first_broken (block 2 row (last_checks d)) }
 {
@@ -615,6 +620,7 @@ pub fn fill_table(file: &[u8], table: &mut [u32]) -> Result<Counts, Refused>
 // ---- the need
 
 // The words that a file needs; 0 for a file refused in stage 1 or 2.
+#[tactic(auto, unfolding(crate::specs::Stages::need_of))]
 pub fn need(file: &[u8]) -> usize
     ensures { result ≡ need_of file.now }
 {
