@@ -368,7 +368,7 @@ fn judge_record(d: Due, file: &[u8], table: &[u32], l: Layer, line: usize, r: us
             judge_points(file, l, q, r, left, row)
         }
         Due::Loop(_, _, _) => judge_entries(file, l, r, row),
-        _ => Ok(()),
+        Due::Mesh(_) | Due::Layer(_) | Due::Area(_, _) => Ok(()),
     }
 }
 
