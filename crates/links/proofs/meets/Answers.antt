@@ -1,5 +1,4 @@
 -- `links::meets` meets its contract: its tests are the definition's, in the same order. Assumes nothing.
-use borrow.Author.Tests.{not-true, not-false}
 use Rattle.permitted.specs.Permitted.{size}
 use Rattle.layers.specs.Naming.{names, names_line}
 use Rattle.links.specs.Links.{first_node, meets}

@@ -1,6 +1,5 @@
 use mathlib.Core.Path.{refl}
 use native.Mathlib.Omega.{arith}
-use Prim.Native.Nat.{◌-◌}
 use Rattle.std.proofs.lemmas.Result.{err_from_is_err_and}
 use Rattle.layers.proofs.Walks.{stands, records_are, quiet_most, are_quiet, stands_behind, stands_past, records_past}
 use Rattle.layers.proofs.Stages.{passed_first, passed_more, passed_past, stage_stops, stage_done}
