@@ -7,7 +7,4 @@ use Rattle.entries.specs.Keeping.{walked_to}
 use Rattle.entries.proofs.keep_measures.Given as goal
 
 abbrev pub invariant-loop-i : goal.invariant-loop-i
-invariant-loop-i l = (l.i ≤ l.l.lines) × (l.i ≤ length l.initial.kept) × (length l.kept ≡ length l.initial.kept) × (l.kept ≡ sets l.initial.kept 0 (walked_to l.file l.table l.l l.i))
-
-abbrev pub decreases-loop-i : goal.decreases-loop-i
-decreases-loop-i l = l.n - l.i
+invariant-loop-i l = (length l.kept ≡ length l.initial.kept) × (l.kept ≡ sets l.initial.kept 0 (walked_to l.file l.table l.l l.i))

@@ -10,7 +10,4 @@ use Rattle.entries.proofs.loop_measure.Given as goal
 
 abbrev pub invariant-loop-e : goal.invariant-loop-e
 invariant-loop-e l =
-    (l.e ≤ l.n) × Small (l.e * 200000000000000) l.sum × (l.sum ≡ loop_measure (kept_measure l.l l.kept) (entries_to l.file l.f l.e))
-
-abbrev pub decreases-loop-e : goal.decreases-loop-e
-decreases-loop-e l = l.n - l.e
+    Small (l.e * 200000000000000) l.sum × (l.sum ≡ loop_measure (kept_measure l.l l.kept) (entries_to l.file l.f l.e))

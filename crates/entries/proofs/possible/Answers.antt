@@ -1,12 +1,13 @@
--- `entries::possible` meets its contract: the two tests leave just the numbers that are small. Assumes nothing.
-use Rattle.entries.proofs.Keeping.{too_low, too_high, between}
+-- `entries::possible` meets its contract: it asks for the size of `m`, as the definition does. Assumes nothing.
+use native.Mathlib.Omega.{arith}
+use mir.Facts.{to_z-of_z}
+use Rattle.entries.specs.Keeping.{possible_of}
 use Rattle.entries.proofs.possible.Goals as goal
 
-pub returns-then-m-ltminus200000000000000 : goal.returns-then-m-ltminus200000000000000
-returns-then-m-ltminus200000000000000 c = too_low c.ranges.m c.if-m-ltminus200000000000000.true
+pub returns-then-unsigned_abs-le200000000000000 : goal.returns-then-unsigned_abs-le200000000000000
+unfolding possible_of
+returns-then-unsigned_abs-le200000000000000 c = grind (arith, to_z-of_z)
 
-pub returns-then-m-gt200000000000000 : goal.returns-then-m-gt200000000000000
-returns-then-m-gt200000000000000 c = too_high c.ranges.m c.if-m-gt200000000000000.true
-
-pub returns : goal.returns
-returns c = between c.ranges.m c.if-m-ltminus200000000000000.false c.if-m-gt200000000000000.false
+pub returns-else-unsigned_abs-le200000000000000 : goal.returns-else-unsigned_abs-le200000000000000
+unfolding possible_of
+returns-else-unsigned_abs-le200000000000000 c = grind (arith, to_z-of_z)

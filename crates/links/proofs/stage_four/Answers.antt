@@ -17,11 +17,6 @@ returns-in_err-judge_record c =
     let h = rw c.due.ensures at c.in_err-judge_record.ensures in
     rw (p.1, p.2) (stage_stops fifth (links_at _ _) _ _ _ c.loop-x.invariant.0.here c.records_of-n.ensures.0 c.loop-x-test.true h refl c.loop-x.invariant.1)
 
-pub loop-x-smaller : goal.loop-x-smaller
-loop-x-smaller c =
-    let y = c.behind-x.ensures c.loop-x.invariant.0.here (rw c.records_of-n.ensures.0 at c.loop-x-test.true) in
-    omega (arith, c.loop-x-test.true, records_are _ _ _ y, records_past _ _ c.past_quiet-x.ensures)
-
 pub loop-x-preserved : goal.loop-x-preserved
 loop-x-preserved c =
     let k = rw c.records_of-n.ensures.0 at c.loop-x-test.true in
