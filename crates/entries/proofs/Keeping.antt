@@ -1,21 +1,20 @@
 -- Line measures that are kept: what the code reads of a list is small whatever stands in it, and of a layer whose lines are well formed and
 -- all kept it is each line's measure. Assumes nothing.
-use mathlib.Core.Bool.{Bool, true, false, cond, ◌&&◌, false≢true}
+use mathlib.Core.Bool.{Bool, true, false, cond}
 use mathlib.Core.List.{List}
 use mathlib.Core.Path.{◌≡◌, refl, sym, ◌∙◌}
-use Prim.Native.Nat.{ℕ, suc, ◌+◌, ◌-◌, ◌^◌, ◌≤◌, ◌<◌, min}
-use native.Mathlib.Nat.{zero-add, min-eq_left, min-eq_right}
+use Prim.Native.Nat.{ℕ, ◌+◌, ◌-◌, ◌^◌, ◌≤◌, ◌<◌, min}
+use native.Mathlib.Nat.{zero-add, min-eq_left}
 use native.Mathlib.Omega.{arith}
-use lib.Dec.{leb, ltb}
-use lib.IntN.{ℤ, pos, negsuc, nat_abs}
-use lib.ListN.{length, take, set, get_or, get_or-eq_default}
+use lib.Dec.{leb}
+use lib.IntN.{ℤ, pos, nat_abs}
+use lib.ListN.{length, take, set, get_or}
 use lib.Seq.{sets, length-sets}
-use lib.Signed.{lt_z, mag}
+use lib.Signed.{mag}
 use mir.Facts.{to_z-of_z}
 use mir.Syntax.{w64}
-use mir.Val.{SFits, to_z, of_z, hbits}
-use borrow.Author.Tests.{le-leb, lt-leb, leb-true, ltb-true, ltb-false}
-use Rattle.verdict.proofs.Orders.{and_both}
+use mir.Val.{to_z, of_z, hbits}
+use borrow.Author.Tests.{le-leb, leb-true}
 use Rattle.permitted.specs.Permitted.{size}
 use Rattle.layers.specs.declared.Layer.{Layer}
 use Rattle.layers.specs.Naming.{names_line, line_of}

@@ -17,6 +17,7 @@ use layers::Layer;
 // ---- records
 
 // The records of a loop of `n` lines.
+#[tactic(auto, unfolding(crate::specs::Entries::records_for))]
 fn records_for(n: usize) -> usize
     ensures { result ≡ records_for n }
 {
@@ -24,6 +25,7 @@ fn records_for(n: usize) -> usize
 }
 
 // The line count of the loop whose first record is `f`.
+#[tactic(auto, using(crate::proofs::Slots::four_told), unfolding(crate::specs::Entries::count_at))]
 pub fn count_at(file: &[u8], f: usize) -> usize
     ensures { (result ≡ count_at file.now f) × (result ≤ 9999) }
 {
@@ -31,6 +33,7 @@ pub fn count_at(file: &[u8], f: usize) -> usize
 }
 
 // The records of the loop whose first one is `f`.
+#[tactic(auto, using(crate::proofs::Slots::records_few))]
 pub fn loop_records(file: &[u8], f: usize) -> usize
     ensures { (result ≡ records_for (count_at file.now f)) × (result ≤ 834) }
 {
@@ -38,6 +41,7 @@ pub fn loop_records(file: &[u8], f: usize) -> usize
 }
 
 // The loops of the A at record `a`.
+#[tactic(auto, using(crate::proofs::Slots::four_told), unfolding(crate::specs::Entries::loops_at))]
 pub fn loops_at(file: &[u8], a: usize) -> usize
     ensures { (result ≡ loops_at file.now a) × (result ≤ 9999) }
 {
@@ -74,6 +78,7 @@ pub fn keep_measures(file: &[u8], table: &[u32], l: Layer, kept: &mut [i64]) -> 
 
 // A kept measure. One that no line of an accepted file can have counts as 0, so that no sum can grow too
 // large.
+#[tactic(auto, unfolding(crate::specs::Keeping::possible_of))]
 fn possible(m: i64) -> i64
     ensures { result ≡ possible_of m }
 {

@@ -17,7 +17,6 @@ use Rattle.records.proofs.Codes.{code_on_lem}
 use Rattle.verdict.specs.Rules.{Verdict, Fine, Broken, Check, check, first_broken, block, rows}
 use Rattle.verdict.proofs.Parts.{part_passes, rows_pass, check_none, check_kept, check_broken}
 use Rattle.permitted.specs.Permitted.{size, is_zero}
-use Rattle.permitted.proofs.Signs.{passed_on}
 use Rattle.layers.specs.declared.Layer.{Layer}
 use Rattle.layers.specs.Naming.{names, names_line, node_of, area_of}
 use Rattle.links.specs.Links.{equal, serial_in, listed, link_fits, line_end_checks, side_checks, at_node}
@@ -153,35 +152,6 @@ module _ (file t : List ℕ) (l : Layer) (r : ℕ) (c a : Span) (row : ℕ) {z :
         kept _ _ _ _ _ (waits _ _ (area h) (alike ∙ eq-eqb _ _ u)) (kept _ _ _ _ _ (or_right (is_zero (number_on file r a)) _ (area h)) (check_none fifth row))
 
 -- ---- points
-
--- a says whether v names a node
-module _ (file : List ℕ) (l : Layer) (v : ℤ) (r i : ℕ) {a : Bool} (ok : InWord v) (n : a ≡ names l.nodes (handed_on v)) where
-  at_names : names l.nodes v ≡ a
-  at_names = answer_is (names l.nodes) ok refl n
-
-  pub at_unnamed : a ≡ false → true ≡ at_node file l v r i
-  unfolding at_node
-  at_unnamed t = rw (at_names ∙ t)
-
-  -- m is its record, x the point's X, and u the node's
-  module _ {m : ℕ} {x u : ℤ} (f : m ≡ node_of l (handed_on v)) (okx : InWord x) (ex : x ≡ slot_at file r column.points_x i)
-      (oku : InWord u) (eu : u ≡ value_at file m column.node_x) (t : a ≡ true) where
-    there : m ≡ node_of l v
-    there = f ∙ ap (node_of l) (passed_on ok refl)
-
-    x_is : eqb (of_z w32 x) (of_z w32 u) ≡ equal (slot_at file r column.points_x i) (value_at file (node_of l v) column.node_x)
-    x_is = compared okx ex oku (eu ∙ ap (λ m. value_at file m column.node_x) there)
-
-    pub at_apart : eqb (of_z w32 x) (of_z w32 u) ≡ false → eqb (of_z w32 x) (of_z w32 u) ≡ at_node file l v r i
-    unfolding at_node
-    at_apart p = rw (p, at_names ∙ t, sym x_is ∙ p)
-
-    -- y is its Y, and w the node's
-    pub at_named : {y w : ℤ} → InWord y → y ≡ slot_at file r column.points_y i → InWord w → w ≡ value_at file m column.node_y
-        → eqb (of_z w32 x) (of_z w32 u) ≡ true → eqb (of_z w32 y) (of_z w32 w) ≡ at_node file l v r i
-    unfolding at_node
-    at_named oky ey okw ew p =
-        rw (at_names ∙ t, sym x_is ∙ p) (compared oky ey okw (ew ∙ ap (λ m. value_at file m column.node_y) there))
 
 module _ (file : List ℕ) (l : Layer) (q r left row : ℕ) where
   -- one point is no first point

@@ -1,7 +1,4 @@
 use mathlib.Core.Path.{refl, ◌∙◌, ap}
-use Prim.Native.Nat.{◌-◌, ◌<◌}
-use native.Mathlib.Omega.{arith}
-use lib.ListN.{length}
 use lib.Seq.{length-sets}
 use mir.Facts.{to_z-of_z}
 use mir.Syntax.{w64}

@@ -1,6 +1,5 @@
 -- `entries::keep_measures` meets its contract: each turn stores what the next line measures. Assumes nothing.
 use mathlib.Core.Path.{◌≡◌}
-use Prim.Native.Nat.{◌-◌, ◌≤◌}
 use lib.ListN.{length}
 use lib.Seq.{sets}
 use Rattle.entries.specs.Keeping.{walked_to}

@@ -1,7 +1,6 @@
 -- `entries::loop_measure` meets its contract: the loop adds up the slots' measures, at most 10008, so the sum fits. Assumes nothing.
 use mathlib.Core.Path.{◌≡◌}
-use Prim.Native.Nat.{◌*◌, ◌-◌, ◌≤◌}
-use Rattle.measures.specs.Sum.{sum}
+use Prim.Native.Nat.{◌*◌}
 use Rattle.measures.specs.Walks.{Small}
 use Rattle.measures.specs.Measures.{loop_measure}
 use Rattle.entries.specs.Entries.{entries_to}

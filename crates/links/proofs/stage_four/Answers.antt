@@ -1,7 +1,7 @@
 use mathlib.Core.Path.{refl}
 use native.Mathlib.Omega.{arith}
 use Rattle.std.proofs.lemmas.Result.{err_from_is_err_and}
-use Rattle.layers.proofs.Walks.{stands, records_are, quiet_most, are_quiet, stands_behind, stands_past, records_past}
+use Rattle.layers.proofs.Walks.{stands, quiet_most, are_quiet, stands_behind, stands_past}
 use Rattle.layers.proofs.Stages.{passed_first, passed_more, passed_past, stage_stops, stage_done}
 use Rattle.links.specs.Links.{links_at, fifth, stage_four}
 use Rattle.links.proofs.StageLaws.{between_fine}
