@@ -11,6 +11,8 @@ use mir.Syntax.{w64}
 use mir.Val.{to_z, of_z, hbits}
 use borrow.Author.Tests.{not-true, not-false, lt-ltb, le-ltb}
 use Rattle.records.specs.Columns.{value_at, loop_serial, loop_entries, slot_column}
+use Rattle.std.specs.Prelude.{Err}
+use Rattle.verdict.specs.declared.Refusal.{Refusal}
 use Rattle.verdict.specs.Rules.{Verdict, Fine, Broken, Check, check, first_broken, block, spread}
 use Rattle.verdict.proofs.Parts.{fine_broken, stands, goes_on, block_append, check_none, check_kept, check_broken}
 use Rattle.permitted.specs.Permitted.{is, is_zero}
@@ -109,7 +111,7 @@ wind_kept file t l ms r left k e = rw (← loop_kept file t l ms k r) e
 module _ (file t : List ℕ) (l : Layer) (area count left r : ℕ) {v : Verdict}
     (e : v ≡ first_broken (block sixth r (wind_checks file (loop_measure_in file t l r) r left))) where
   -- its loop turns the wrong way round, and that is returned
-  pub loop_stops : {x y z : ℕ} → v ≡ Broken x y z → v ≡ first_broken (block sixth r (loop_checks file t l area count left r))
+  pub loop_stops : {e : Refusal} → v ≡ Err e → v ≡ first_broken (block sixth r (loop_checks file t l area count left r))
   unfolding loop_checks
   loop_stops h =
       stands (block sixth r (wind_checks file (loop_measure_in file t l r) r left)) _ h e

@@ -4,4 +4,4 @@ use Rattle.loops.proofs.area_record.Goals as goal
 
 pub returns : goal.returns
 unfolding area_record
-returns c = (rw (← c.less.ensures) c.area_word.ensures.0, c.area_word.ensures.1)
+returns c = (rw (← c.saturating_sub.ensures) c.area_word.ensures.0, c.area_word.ensures.1)

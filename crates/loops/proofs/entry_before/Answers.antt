@@ -7,7 +7,7 @@ use Rattle.loops.proofs.entry_before.Goals as goal
 pub returns-then-e-eq0 : goal.returns-then-e-eq0
 unfolding entry_before
 returns-then-e-eq0 c =
-    rw (eq-eqb _ _ c.if-e-eq0.true, ← c.count_at.ensures.0, ← c.less.ensures) (passed_on c.slot_of.type_inv c.slot_of.ensures)
+    rw (eq-eqb _ _ c.if-e-eq0.true, ← c.count_at.ensures.0, ← c.saturating_sub.ensures) (passed_on c.slot_of.type_inv c.slot_of.ensures)
 
 pub returns : goal.returns
 unfolding entry_before

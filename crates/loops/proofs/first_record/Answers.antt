@@ -5,7 +5,7 @@ use Rattle.loops.proofs.first_record.Goals as goal
 
 pub returns-then-left-gt0 : goal.returns-then-left-gt0
 unfolding first_record
-returns-then-left-gt0 c = rw (lt-ltb _ _ c.if-left-gt0.true, ← c.less.ensures) c.less-then-left-gt0.ensures
+returns-then-left-gt0 c = rw (lt-ltb _ _ c.if-left-gt0.true, ← c.saturating_sub.ensures) c.saturating_sub-then-left-gt0.ensures
 
 pub returns : goal.returns
 unfolding first_record

@@ -20,7 +20,7 @@ pub returns-then-not-joins : goal.returns-then-not-joins
 returns-then-not-joins c =
     let e = c.slot_of-v.ensures ∙ slot_first _ _ _ c.requires.0 in
     let d = not-false _ (sym c.requires.2 ∙ c.if-again.false) in
-    slot_fifteen _ _ _ _ _ _ _ _ d c.slot_of-v.type_inv e c.is_zero.ensures c.if-is_zero.false c.less.ensures c.joins.ensures
+    slot_fifteen _ _ _ _ _ _ _ _ d c.slot_of-v.type_inv e c.is_zero.ensures c.if-is_zero.false c.saturating_sub.ensures c.joins.ensures
     c.broken-then-not-joins.ensures c.if-not-joins.true-raw
 
 pub returns-then-not-is : goal.returns-then-not-is
@@ -28,7 +28,7 @@ unfolding area_on_hand
 returns-then-not-is c =
     let e = c.slot_of-v.ensures ∙ slot_first _ _ _ c.requires.0 in
     let d = not-false _ (sym c.requires.2 ∙ c.if-again.false) in
-    slot_seventeen _ _ _ _ _ _ _ _ d c.slot_of-v.type_inv e c.is_zero.ensures c.if-is_zero.false c.less.ensures c.joins.ensures c.if-not-joins.false-raw
+    slot_seventeen _ _ _ _ _ _ _ _ d c.slot_of-v.type_inv e c.is_zero.ensures c.if-is_zero.false c.saturating_sub.ensures c.joins.ensures c.if-not-joins.false-raw
     c.on_hand-right.type_inv c.on_hand-right.ensures c.is.ensures c.broken-then-not-is.ensures c.if-not-is.true-raw
 
 pub returns : goal.returns
@@ -36,5 +36,5 @@ unfolding area_on_hand
 returns c =
     let e = c.slot_of-v.ensures ∙ slot_first _ _ _ c.requires.0 in
     let d = not-false _ (sym c.requires.2 ∙ c.if-again.false) in
-    slot_fine _ _ _ _ _ _ _ _ d c.slot_of-v.type_inv e c.is_zero.ensures c.if-is_zero.false c.less.ensures c.joins.ensures c.if-not-joins.false-raw
+    slot_fine _ _ _ _ _ _ _ _ d c.slot_of-v.type_inv e c.is_zero.ensures c.if-is_zero.false c.saturating_sub.ensures c.joins.ensures c.if-not-joins.false-raw
     c.on_hand-right.type_inv c.on_hand-right.ensures c.is.ensures c.if-not-is.false-raw

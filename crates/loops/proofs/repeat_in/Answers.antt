@@ -5,8 +5,8 @@ use Rattle.loops.proofs.repeat_in.Goals as goal
 
 pub returns-then-from-known : goal.returns-then-from-known
 returns-then-from-known c =
-    rw (← c.less-from.ensures) (repeats_none _ _ _ c.requires.2 c.if-from-known.true)
+    rw (← c.saturating_sub-from.ensures) (repeats_none _ _ _ c.requires.2 c.if-from-known.true)
 
 pub returns : goal.returns
 returns c =
-    rw (← c.less-from.ensures) (c.first_repeat.ensures (omega (arith, c.less-from.ensures, c.requires.1)))
+    rw (← c.saturating_sub-from.ensures) (c.first_repeat.ensures (omega (arith, c.saturating_sub-from.ensures, c.requires.1)))
