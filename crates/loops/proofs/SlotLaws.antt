@@ -61,22 +61,22 @@ module _ (file t : List ℕ) (l : Layer) (a area f r i : ℕ) where
       joined : joins file t l f (slot_from f r i) (loop_entry file r i) ≡ b
       joined = asked (joins file t l f (slot_from f r i)) ok e (rw g at q) refl
 
-      pub slot_fifteen : {x : Verdict} → x ≡ Broken 15 r (slot_column loop_entries i) → not b ≡ true → x ≡ judged
+      pub slot_fifteen : {x : Verdict} → x ≡ Broken 15 r (slot_column loop_entries i) → b ≡ false → x ≡ judged
       unfolding loop_slot first_broken block clean repeats_area
-      slot_fifteen v u = v ∙ rw (d, asked is_zero ok e p h, joined, not-true b u)
+      slot_fifteen v u = v ∙ rw (d, asked is_zero ok e p h, joined, u)
 
       -- w is the area on its right hand, and k says whether that is `area`
-      module _ (u : not b ≡ false) {w : ℤ} {k : Bool} (okw : InWord w) (ew : w ≡ area_on_hand file t l (handed_on z)) (n : k ≡ is area (handed_on w)) where
+      module _ (u : b ≡ true) {w : ℤ} {k : Bool} (okw : InWord w) (ew : w ≡ area_on_hand file t l (handed_on z)) (n : k ≡ is area (handed_on w)) where
         right : is area (area_on_hand file t l (loop_entry file r i)) ≡ k
         right = asked (is area) okw (told (area_on_hand file t l) ok e ew) n refl
 
-        pub slot_seventeen : {x : Verdict} → x ≡ Broken 17 r (slot_column loop_entries i) → not k ≡ true → x ≡ judged
+        pub slot_seventeen : {x : Verdict} → x ≡ Broken 17 r (slot_column loop_entries i) → k ≡ false → x ≡ judged
         unfolding loop_slot first_broken block clean repeats_area
-        slot_seventeen v m = v ∙ rw (d, asked is_zero ok e p h, joined, not-false b u, right, not-true k m)
+        slot_seventeen v m = v ∙ rw (d, asked is_zero ok e p h, joined, u, right, m)
 
-        pub slot_fine : not k ≡ false → Fine ≡ judged
+        pub slot_fine : k ≡ true → Fine ≡ judged
         unfolding loop_slot first_broken block clean repeats_area
-        slot_fine m = rw (d, asked is_zero ok e p h, joined, not-false b u, right, not-false k m)
+        slot_fine m = rw (d, asked is_zero ok e p h, joined, u, right, m)
 
 -- ---- the way round
 
@@ -92,13 +92,13 @@ module _ (file : List ℕ) (x : ℤ) (r left : ℕ) where
     wound : winds (value_at file r loop_serial) x ≡ b
     wound = asked (λ v. winds v x) ok e (q ∙ rw (to_z-of_z {w = w64} {z = m} (record { sfits = okm }), em)) refl
 
-    pub wind_broken : not b ≡ true → Broken 16 r 1 ≡ first_broken (block sixth r (wind_checks file x r left))
+    pub wind_broken : b ≡ false → Broken 16 r 1 ≡ first_broken (block sixth r (wind_checks file x r left))
     unfolding wind_checks
-    wind_broken u = rw (le-ltb 0 left h) (sym (check_broken sixth r 1 16 _ [] (wound ∙ not-true b u)))
+    wind_broken u = rw (le-ltb 0 left h) (sym (check_broken sixth r 1 16 _ [] (wound ∙ u)))
 
-    pub wind_fine : not b ≡ false → Fine ≡ first_broken (block sixth r (wind_checks file x r left))
+    pub wind_fine : b ≡ true → Fine ≡ first_broken (block sixth r (wind_checks file x r left))
     unfolding wind_checks
-    wind_fine u = rw (le-ltb 0 left h) (check_none sixth r ∙ sym (check_kept sixth r 1 16 _ [] (wound ∙ not-false b u)))
+    wind_fine u = rw (le-ltb 0 left h) (check_none sixth r ∙ sym (check_kept sixth r 1 16 _ [] (wound ∙ u)))
 
 -- by what was kept of its lines, where that is their measures
 pub wind_kept : (file t : List ℕ) (l : Layer) (ms : List ℤ) (r left : ℕ) {v : Verdict}

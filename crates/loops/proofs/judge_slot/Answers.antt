@@ -21,20 +21,20 @@ returns-then-not-joins c =
     let e = c.slot_of-v.ensures ∙ slot_first _ _ _ c.requires.0 in
     let d = not-false _ (sym c.requires.2 ∙ c.if-again.false) in
     slot_fifteen _ _ _ _ _ _ _ _ d c.slot_of-v.type_inv e c.is_zero.ensures c.if-is_zero.false c.saturating_sub.ensures c.joins.ensures
-    c.broken-then-not-joins.ensures c.if-not-joins.true-raw
+    c.broken-then-not-joins.ensures c.if-not-joins.true
 
 pub returns-then-not-is : goal.returns-then-not-is
 unfolding area_on_hand
 returns-then-not-is c =
     let e = c.slot_of-v.ensures ∙ slot_first _ _ _ c.requires.0 in
     let d = not-false _ (sym c.requires.2 ∙ c.if-again.false) in
-    slot_seventeen _ _ _ _ _ _ _ _ d c.slot_of-v.type_inv e c.is_zero.ensures c.if-is_zero.false c.saturating_sub.ensures c.joins.ensures c.if-not-joins.false-raw
-    c.on_hand-right.type_inv c.on_hand-right.ensures c.is.ensures c.broken-then-not-is.ensures c.if-not-is.true-raw
+    slot_seventeen _ _ _ _ _ _ _ _ d c.slot_of-v.type_inv e c.is_zero.ensures c.if-is_zero.false c.saturating_sub.ensures c.joins.ensures c.if-not-joins.false
+    c.on_hand-right.type_inv c.on_hand-right.ensures c.is.ensures c.broken-then-not-is.ensures c.if-not-is.true
 
 pub returns : goal.returns
 unfolding area_on_hand
 returns c =
     let e = c.slot_of-v.ensures ∙ slot_first _ _ _ c.requires.0 in
     let d = not-false _ (sym c.requires.2 ∙ c.if-again.false) in
-    slot_fine _ _ _ _ _ _ _ _ d c.slot_of-v.type_inv e c.is_zero.ensures c.if-is_zero.false c.saturating_sub.ensures c.joins.ensures c.if-not-joins.false-raw
-    c.on_hand-right.type_inv c.on_hand-right.ensures c.is.ensures c.if-not-is.false-raw
+    slot_fine _ _ _ _ _ _ _ _ d c.slot_of-v.type_inv e c.is_zero.ensures c.if-is_zero.false c.saturating_sub.ensures c.joins.ensures c.if-not-joins.false
+    c.on_hand-right.type_inv c.on_hand-right.ensures c.is.ensures c.if-not-is.false
