@@ -79,6 +79,7 @@ fn repeat_in(file: &[u8], a: usize, r: usize, known: usize) -> usize
 // ---- slots
 
 // The entry before slot `e` of the loop whose first record is `f`; before the first one, the last.
+#[tactic(auto, unfolding(crate::specs::Loops::entry_before))]
 fn entry_before(file: &[u8], f: usize, e: usize) -> i32
     ensures { result ≡ entry_before file.now f e }
 {
@@ -162,6 +163,7 @@ fn judge_slots(
 // ---- loops
 
 // Whether a measure has the sign that the serial asks for.
+#[tactic(auto, unfolding(crate::specs::Loops::winds))]
 fn winds(serial: i32, m: i64) -> bool
     ensures { result ≡ winds serial m }
 {
@@ -193,6 +195,7 @@ fn judge_winding(file: &[u8], l: Layer, kept: &[i64], left: usize, r: usize) -> 
 }
 
 // The first record of a loop: of its `count` entries `left` are left.
+#[tactic(auto, unfolding(crate::specs::Loops::first_record))]
 fn first_record(r: usize, count: usize, left: usize) -> usize
     ensures { result ≡ first_record r count left }
 {
@@ -203,6 +206,7 @@ fn first_record(r: usize, count: usize, left: usize) -> usize
 }
 
 // The A of the layer's area `area`.
+#[tactic(auto, unfolding(crate::specs::Loops::area_record))]
 fn area_record(table: &[u32], l: Layer, area: usize) -> usize
     ensures { (result ≡ area_record table.now l area) × (result ≤ 4294967295) }
 {

@@ -18,7 +18,7 @@ invariant-loop-x l = record {
   all_kept : length l.kept ≡ 9999;
   all_marks : length l.marks ≡ 20000;
   lines : SoundTable l.file l.table l.b → 0 < l.x.rows → Kept l.file l.table l.x.layer (take l.have l.kept);
-  slots : Unrepeated l.file (area_record l.table l.x.layer l.x.state.layer.area) l.known
+  slots : Unrepeated l.file (area_record l.table l.x.layer l.x.state.layer.area) l.known;
 }
 
 abbrev pub decreases-loop-x : goal.decreases-loop-x
