@@ -2,7 +2,12 @@
 use mathlib.Core.Bool.{Bool, true, false, cond, not}
 use mathlib.Core.List.{List}
 use mathlib.Core.Path.{◌≡◌, refl, sym}
-use Prim.Native.Nat.{ℕ, ◌+◌, ◌^◌, ◌≤◌, ◌<◌, ◌/◌}
+use mathlib.Core.Path.{◌∙◌}
+use Prim.Native.Nat.{ℕ, zero, suc, ◌+◌, ◌^◌, ◌≤◌, ◌<◌, ◌/◌}
+use native.Mathlib.Nat.{zero-add}
+use Rattle.std.specs.Bool.{MatchBool}
+use Rattle.std.specs.List.{range_with_len, HoldsAt, AllWithin}
+use Rattle.std.proofs.lemmas.List.FromFn.{length-range_with_len, get_or-range_with_len}
 use native.Mathlib.Omega.{arith}
 use lib.Dec.{eqb, leb, ltb}
 use lib.IntN.{ℤ}
@@ -45,24 +50,23 @@ slot_small : (file : List ℕ) (f e : ℕ) → size (slot_of file f e) ≤ 99999
 unfolding slot_of loop_entry number_in size_in
 slot_small file f e = size_small (record_of file _) _ 5
 
--- the search: z is slot e, and b says whether it is the entry
-module _ (file : List ℕ) (a : ℕ) (back : Bool) (n : ℕ) where
-  pub lists_start : some 0 (slot_is file a back n) ≡ false
-  lists_start = some_none (slot_is file a back n)
+some_never : (n : ℕ) (f : ℕ → Bool) → ((j : ℕ) → j < n → f j ≡ false) → some n f ≡ false
+unfolding some
+some_never zero f h = refl
+some_never (suc n) f h = rw (some_never n f (λ j l. h j (omega arith)), h n (omega arith))
 
-  module _ {slots : ℕ} (s : slots ≡ slots_of file a) where
-    pub lists_done : (e : ℕ) → e ≤ slots → slots ≤ e → some e (slot_is file a back n) ≡ false → false ≡ lists file a back n
-    unfolding lists
-    lists_done e l m h = let q : slots_of file a ≡ e = omega (arith, s) in rw q (sym h)
-
-    pub lists_hit : (e : ℕ) {z : ℤ} {b : Bool} → mag z < 2 ^ hbits w32 → z ≡ slot_of file (a + 1) e
-        → b ≡ entry_is back n (to_z w32 (of_z w32 z)) → e < slots → b ≡ true → true ≡ lists file a back n
-    unfolding lists
-    lists_hit e ok q h l t = sym (some_hit (slots_of file a) e (slot_is file a back n) (rw s at l) (asked (entry_is back n) ok q h t))
-
-  pub lists_pass : (e : ℕ) {z : ℤ} {b : Bool} → mag z < 2 ^ hbits w32 → z ≡ slot_of file (a + 1) e → b ≡ entry_is back n (to_z w32 (of_z w32 z))
-      → some e (slot_is file a back n) ≡ false → b ≡ false → some (e + 1) (slot_is file a back n) ≡ false
-  lists_pass e ok q h f t = some_more e (slot_is file a back n) f (asked (entry_is back n) ok q h t)
+pub any_told : (n m : ℕ) (f : ℕ → Bool) → n ≤ m → (r : Bool)
+    → MatchBool r ((k : ℕ) × (k < length (range_with_len 0 n)) × HoldsAt (λ j. j < m → f j ≡ true) (range_with_len 0 n) k)
+    (AllWithin (λ j. j < m → f j ≡ false) (range_with_len 0 n) 0 (length (range_with_len 0 n)))
+    → r ≡ some n f
+any_told n m f l true h =
+    let k : h.0 < n = omega (arith, length-range_with_len 0 n, h.1) in
+    let g : get_or (range_with_len 0 n) h.0 0 ≡ h.0 = get_or-range_with_len 0 n h.0 0 k ∙ zero-add h.0 in
+    sym (some_hit n h.0 f k (rw g at (h.2 0) (omega arith)))
+any_told n m f l false h =
+    sym (some_never n f (λ j i.
+    let g : get_or (range_with_len 0 n) j 0 ≡ j = get_or-range_with_len 0 n j 0 i ∙ zero-add j in
+    rw g at (h j 0 (omega arith) (omega (arith, length-range_with_len 0 n))) (omega arith)))
 
 -- ---- an entry lists itself
 
