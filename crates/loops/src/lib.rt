@@ -109,6 +109,7 @@ fn broken(number: u32, r: usize, i: usize) -> Verdict
 
 // Slot `i` of the loop record `r`, of the area `area`, in the loop whose first record is `f`; `again` says
 // that it repeats an earlier one of the area, whose A is record `a`.
+#[tactic(auto, using(links::proofs::Scans::slot_first), unfolding(crate::specs::Loops::loop_slot, crate::specs::Loops::repeats_area, crate::specs::Loops::area_on_hand, links::specs::Scanning::clean, verdict::specs::Rules::first_broken, verdict::specs::Rules::block))]
 fn judge_slot(
     file: &[u8],
     table: &[u32],
@@ -175,6 +176,7 @@ fn winds(serial: i32, m: i64) -> bool
 
 // The way round of the loop that begins at record `r`, by the line measures `kept` of its layer; nothing of
 // a later record.
+#[tactic(auto, unfolding(crate::specs::Loops::wind_checks, verdict::specs::Rules::first_broken, verdict::specs::Rules::block))]
 fn judge_winding(file: &[u8], l: Layer, kept: &[i64], left: usize, r: usize) -> Verdict
     requires { r ≤ 6399936 }
     ensures { result ≡ first_broken (block sixth r (wind_checks file.now (kept_loop file.now l kept.now r) r left)) }
@@ -237,6 +239,7 @@ fn judge_loop(
 // ---- the stage
 
 // Record `r`, due as `d`, in the layer `l`; its last area is `area`.
+#[tactic(auto, using(verdict::proofs::Parts::check_none))]
 fn judge_record(
     d: Due,
     file: &[u8],
@@ -272,6 +275,7 @@ fn kept_behind(d: Due, file: &[u8], table: &[u32], l: Layer, have: usize, kept: 
 
 // How many slots of the layer's last area are known to repeat none, behind a record that was due as `d`:
 // behind an A, the one behind the first `area`, they are looked at; a loop record leaves them as they were.
+#[tactic(auto, using(crate::proofs::StageLaws::next_area))]
 fn known_behind(
     d: Due,
     file: &[u8],

@@ -122,6 +122,7 @@ fn unlisted(r: usize, c: Columns) -> Verdict
 }
 
 // Both sides of line `n`, whose L is record `r`.
+#[tactic(auto, unfolding(crate::specs::Sides::list_checks, verdict::specs::Rules::first_broken, verdict::specs::Rules::block))]
 fn judge_line(file: &[u8], table: &[u32], l: Layer, r: usize, n: usize, marks: &[usize]) -> Verdict
     requires { (r ≤ 6399936) × Marks file.now marks.now }
     ensures { result ≡ first_broken (block seventh r (list_checks file.now table.now l r n)) }
@@ -138,6 +139,7 @@ fn judge_line(file: &[u8], table: &[u32], l: Layer, r: usize, n: usize, marks: &
 // ---- the stage
 
 // Record `r`, due as `d`, in the layer `l`.
+#[tactic(auto, using(verdict::proofs::Parts::check_none))]
 fn judge_record(d: Due, file: &[u8], table: &[u32], l: Layer, r: usize, marks: &[usize]) -> Verdict
     requires { (r ≤ 6399936) × LineCountable d × Marks file.now marks.now }
     ensures { result ≡ first_broken (block seventh r (line_list_checks d file.now table.now l r)) }

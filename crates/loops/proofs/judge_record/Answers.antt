@@ -1,7 +1,0 @@
--- `loops::judge_record` meets its contract: only a loop record is judged. Assumes nothing.
-use borrow.Author.Rules.{rules}
-use Rattle.verdict.proofs.Parts.{check_none}
-use Rattle.loops.proofs.judge_record.Goals as goal
-
-pub returns-in_default : goal.returns-in_default
-returns-in_default c = search (rules, check_none)
