@@ -1,8 +1,9 @@
 -- The slots of a loop record and the way round of its loop: what the verdicts on them come to for the record. Assumes nothing.
-use mathlib.Core.Bool.{Bool, true, false, not}
+use mathlib.Core.Bool.{Bool, true, false, cond, ◌||◌}
 use mathlib.Core.List.{List, [], ◌∷◌}
 use mathlib.Core.Path.{◌≡◌, refl, sym, ◌∙◌, ap}
 use Prim.Native.Nat.{ℕ, ◌+◌, ◌-◌, ◌*◌, ◌≤◌, ◌<◌, ◌^◌}
+use native.Mathlib.Omega.{arith}
 use lib.IntN.{ℤ}
 use lib.Signed.{mag}
 use mir.Facts.{to_z-of_z}
@@ -27,15 +28,20 @@ use Rattle.loops.specs.Loops.{repeats_area, joins, area_on_hand, slot_from, loop
 
 -- ---- a slot's checks
 
+-- the first that is broken, in the order of the code that judges them
+pub slot_judged : (file t : List ℕ) (l : Layer) (a area f r i : ℕ) → first_broken (block sixth r (loop_slot file t l a area f r i))
+    ≡ cond (clean (slot_of file (a + 1)) (slot_from (a + 1) r i))
+      (cond (is_zero (loop_entry file r i) || joins file t l f (slot_from f r i) (loop_entry file r i))
+      (cond (is_zero (loop_entry file r i) || is area (area_on_hand file t l (loop_entry file r i))) Fine (Broken 17 r (slot_column loop_entries i)))
+      (Broken 15 r (slot_column loop_entries i)))
+      (Broken 13 r (slot_column loop_entries i))
+unfolding loop_slot first_broken block clean repeats_area
+slot_judged file t l a area f r i = refl
+
 -- a slot that is fine is no entry or repeats none
 pub slot_clean : (file t : List ℕ) (l : Layer) (a area f r i : ℕ) → first_broken (block sixth r (loop_slot file t l a area f r i)) ≡ Fine
     → clean (slot_of file (a + 1)) (slot_from (a + 1) r i) ≡ true
-unfolding loop_slot clean repeats_area
-slot_clean file t l a area f r i = first (clean (slot_of file (a + 1)) (slot_from (a + 1) r i)) _
-  where
-    first : (b : Bool) (cs : List Check) → first_broken (block sixth r (check (slot_column loop_entries i) 13 b ∷ cs)) ≡ Fine → b ≡ true
-    first true cs h = refl
-    first false cs h = fine_broken h (check_broken sixth r _ 13 false cs refl)
+slot_clean file t l a area f r i h = grind (arith, slot_judged)
 
 -- ---- the way round
 

@@ -109,7 +109,7 @@ fn broken(number: u32, r: usize, i: usize) -> Verdict
 
 // Slot `i` of the loop record `r`, of the area `area`, in the loop whose first record is `f`; `again` says
 // that it repeats an earlier one of the area, whose A is record `a`.
-#[tactic(auto, using(links::proofs::Scans::slot_first), unfolding(crate::specs::Loops::loop_slot, crate::specs::Loops::repeats_area, crate::specs::Loops::area_on_hand, links::specs::Scanning::clean, verdict::specs::Rules::first_broken, verdict::specs::Rules::block))]
+#[tactic(auto, using(crate::proofs::SlotLaws::slot_judged, links::proofs::Scans::slot_first), unfolding(crate::specs::Loops::area_on_hand))]
 fn judge_slot(
     file: &[u8],
     table: &[u32],
