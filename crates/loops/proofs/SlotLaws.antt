@@ -31,10 +31,10 @@ use Rattle.loops.specs.Loops.{repeats_area, joins, area_on_hand, slot_from, loop
 -- the first that is broken, in the order of the code that judges them
 pub slot_judged : (file t : List ℕ) (l : Layer) (a area f r i : ℕ) → first_broken (block sixth r (loop_slot file t l a area f r i))
     ≡ cond (clean (slot_of file (a + 1)) (slot_from (a + 1) r i))
-      (cond (is_zero (loop_entry file r i) || joins file t l f (slot_from f r i) (loop_entry file r i))
-      (cond (is_zero (loop_entry file r i) || is area (area_on_hand file t l (loop_entry file r i))) Fine (Broken 17 r (slot_column loop_entries i)))
-      (Broken 15 r (slot_column loop_entries i)))
-      (Broken 13 r (slot_column loop_entries i))
+    (cond (is_zero (loop_entry file r i) || joins file t l f (slot_from f r i) (loop_entry file r i))
+    (cond (is_zero (loop_entry file r i) || is area (area_on_hand file t l (loop_entry file r i))) Fine (Broken 17 r (slot_column loop_entries i)))
+    (Broken 15 r (slot_column loop_entries i)))
+    (Broken 13 r (slot_column loop_entries i))
 unfolding loop_slot first_broken block clean repeats_area
 slot_judged file t l a area f r i = refl
 

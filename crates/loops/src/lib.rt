@@ -90,6 +90,7 @@ fn entry_before(file: &[u8], f: usize, e: usize) -> i32
 }
 
 // Whether the entry `v` in slot `e` begins where the one before it ends.
+#[tactic(auto, unfolding(crate::specs::Loops::joins, crate::specs::Loops::last_node, links::specs::Links::first_node))]
 fn joins(file: &[u8], table: &[u32], l: Layer, f: usize, e: usize, v: i32) -> bool
     ensures { result ≡ joins file.now table.now l f e v }
 {
@@ -216,6 +217,7 @@ fn area_record(table: &[u32], l: Layer, area: usize) -> usize
 }
 
 // The loop record `r` of the area `area`, of which the first `known` slots are known to repeat none.
+#[tactic(auto, using(crate::proofs::SlotLaws::wind_kept, crate::proofs::SlotLaws::loop_stops, crate::proofs::SlotLaws::loop_passes))]
 fn judge_loop(
     file: &[u8],
     table: &[u32],

@@ -22,5 +22,5 @@ returns c =
     let n = c.area_slots.result in
     let slot = slot_is c.args.file.now c.args.a c.args.back c.args.n in
     let h = cases_from_any _ _ _ (λ i. i < n → slot i ≡ true) (λ i. i < n → slot i ≡ false)
-        c.any.ensures.ran (YieldsList-from_range 0 n n refl (omega arith)) (λ i q k l. search (rules, passed_on)) (λ i q k. search (rules, passed_on)) in
+    c.any.ensures.ran (YieldsList-from_range 0 n n refl (omega arith)) (λ i q k l. search (rules, passed_on)) (λ i q k. search (rules, passed_on)) in
     rw (← c.area_slots.ensures.0) (any_told n n slot (le_refl n) _ h)
