@@ -4,6 +4,7 @@ use mathlib.Core.List.{List, [], ◌∷◌, ◌++◌}
 use mathlib.Core.Path.{◌≡◌, refl, sym, ◌∙◌, ap}
 use Prim.Native.Nat.{ℕ, ◌+◌, ◌-◌, ◌≤◌, ◌<◌, ◌^◌}
 use native.Mathlib.Omega.{arith}
+use lib.Dec.{eqb}
 use lib.IntN.{ℤ}
 use lib.Signed.{mag}
 use mir.Syntax.{w32}
@@ -14,15 +15,15 @@ use Rattle.records.specs.Columns as column
 use Rattle.records.proofs.Named.{start_there}
 use Rattle.records.proofs.Codes.{code_on_lem}
 use Rattle.verdict.specs.Rules.{Verdict, Fine, Broken, Check, check, first_broken, block, rows}
-use Rattle.verdict.proofs.Parts.{stands, goes_on, rows_pass, block_append, check_none, check_kept, check_broken}
+use Rattle.verdict.proofs.Parts.{part_passes, rows_pass, check_none, check_kept, check_broken}
 use Rattle.permitted.specs.Permitted.{size, is_zero}
 use Rattle.permitted.proofs.Signs.{passed_on}
 use Rattle.layers.specs.declared.Layer.{Layer}
 use Rattle.layers.specs.Naming.{names, names_line, node_of, area_of}
-use Rattle.links.specs.Links.{equal, entry_is, some, serial_in, node_entry, listed, link_fits, line_end_checks, side_checks, at_node}
+use Rattle.links.specs.Links.{equal, serial_in, listed, link_fits, line_end_checks, side_checks, at_node}
 use Rattle.links.specs.Links.{first_point_checks, last_point_checks, point_checks, loop_entry, entry_checks, fifth}
-use Rattle.links.proofs.Numbers.{asked, told_both}
-use Rattle.links.proofs.Scans.{some_none, some_more, some_hit, slot_rules, slots_stop, slots_done}
+use Rattle.links.proofs.Numbers.{asked, told_both, compared}
+use Rattle.links.proofs.Scans.{slot_rules, slots_stop, slots_done}
 
 -- ---- answers
 
@@ -43,14 +44,14 @@ answer_is g h e q = asked g h e q refl
 waits : (a b : Bool) {t : Bool} → a ≡ true → b ≡ t → (not a || b) ≡ t
 waits a b p q = rw (p, q)
 
-or_left : (a b : Bool) → a ≡ true → (a || b) ≡ true
+pub or_left : (a b : Bool) → a ≡ true → (a || b) ≡ true
 or_left a b p = rw p
 
-or_right : (a b : Bool) → b ≡ true → (a || b) ≡ true
+pub or_right : (a b : Bool) → b ≡ true → (a || b) ≡ true
 or_right true b q = refl
 or_right false b q = q
 
-or_none : (a b : Bool) → a ≡ false → b ≡ false → (a || b) ≡ false
+pub or_none : (a b : Bool) → a ≡ false → b ≡ false → (a || b) ≡ false
 or_none a b p q = rw (p, q)
 
 module _ (row c n : ℕ) (b : Bool) (cs : List Check) where
@@ -59,38 +60,6 @@ module _ (row c n : ℕ) (b : Bool) (cs : List Check) where
 
   broke : {v : Verdict} → b ≡ false → v ≡ Broken n row c → v ≡ first_broken (block fifth row (check c n b ∷ cs))
   broke h q = q ∙ sym (check_broken fifth row c n b cs h)
-
-module _ (row : ℕ) (xs ys : List Check) where
-  -- the first part's verdict v is broken and is returned
-  pub part_stops : {v : Verdict} {a b c : ℕ} → v ≡ Broken a b c → v ≡ first_broken (block fifth row xs) → v ≡ first_broken (block fifth row (xs ++ ys))
-  part_stops h e = stands (block fifth row xs) (block fifth row ys) h e ∙ ap first_broken (sym (block_append fifth row xs ys))
-
-  -- it is fine, and the second part's verdict w is returned
-  pub part_passes : {v w : Verdict} → v ≡ Fine → v ≡ first_broken (block fifth row xs)
-      → w ≡ first_broken (block fifth row ys) → w ≡ first_broken (block fifth row (xs ++ ys))
-  part_passes h e q = goes_on (block fifth row xs) (block fifth row ys) h e q ∙ ap first_broken (sym (block_append fifth row xs ys))
-
--- ---- what an N lists
-
--- slot i is +n or, backwards, -n
-abbrev pub slot_is : List ℕ → ℕ → Bool → ℕ → ℕ → Bool
-slot_is file r back n i = entry_is back n (node_entry file r i)
-
-module _ (file : List ℕ) (r : ℕ) (back : Bool) (n : ℕ) where
-  pub listed_start : some 0 (slot_is file r back n) ≡ false
-  listed_start = some_none (slot_is file r back n)
-
-  pub listed_done : (i : ℕ) → i ≤ 9 → 9 ≤ i → some i (slot_is file r back n) ≡ false → false ≡ listed file r back n
-  unfolding listed
-  listed_done i l m h = let e : 9 ≡ i = omega arith in rw e (sym h)
-
-  module _ (i : ℕ) {z : ℤ} {b : Bool} (ok : InWord z) (e : z ≡ node_entry file r i) (q : b ≡ entry_is back n (handed_on z)) where
-    pub listed_hit : i < 9 → b ≡ true → true ≡ listed file r back n
-    unfolding listed
-    listed_hit l t = sym (some_hit 9 i (slot_is file r back n) l (answer_is (entry_is back n) ok e q ∙ t))
-
-    pub listed_pass : some i (slot_is file r back n) ≡ false → b ≡ false → some (i + 1) (slot_is file r back n) ≡ false
-    listed_pass h t = some_more i (slot_is file r back n) h (answer_is (entry_is back n) ok e q ∙ t)
 
 -- ---- a refusal of a slot
 
@@ -165,23 +134,23 @@ module _ (file t : List ℕ) (l : Layer) (r : ℕ) (c a : Span) (row : ℕ) {z :
     side_unnamed u v =
         kept _ _ _ _ _ (unnamed h) (broke _ _ _ _ _ (or_none _ _ (answer_is is_zero ok e q ∙ u) (answer_is (names l.areas) ok e n ∙ not-true b h)) v)
 
-  -- m is the area's record, y the line's code, w the area's, and d says whether they are equal
-  module _ {m : ℕ} {y w : ℤ} {d : Bool} (f : m ≡ area_of t l (handed_on z)) (oky : InWord y) (ey : y ≡ number_on file r c)
-      (okw : InWord w) (ew : w ≡ value_at file m column.area_code) (q : d ≡ equal (handed_on y) (handed_on w)) where
-    alike : equal (code_on file r c) (code_on file (area_of t l (number_on file r a)) (span_of column.area_code)) ≡ d
+  -- m is the area's record, y the line's code, w the area's
+  module _ {m : ℕ} {y w : ℤ} (f : m ≡ area_of t l (handed_on z)) (oky : InWord y) (ey : y ≡ number_on file r c)
+      (okw : InWord w) (ew : w ≡ value_at file m column.area_code) where
+    alike : equal (code_on file r c) (code_on file (area_of t l (number_on file r a)) (span_of column.area_code)) ≡ eqb (of_z w32 y) (of_z w32 w)
     alike =
         rw (code_on_lem file r c, code_on_lem file (area_of t l (number_on file r a)) (span_of column.area_code))
-        (told_both equal oky ey okw (ew ∙ ap (λ m. value_at file m column.area_code) (sym (answer_is (area_of t l) ok e f))) q)
+        (sym (compared oky ey okw (ew ∙ ap (λ m. value_at file m column.area_code) (sym (answer_is (area_of t l) ok e f)))))
 
-    pub side_unlike : {x : Verdict} → not b ≡ false → not d ≡ true → x ≡ Broken 12 row c.start
+    pub side_unlike : {x : Verdict} → not b ≡ false → (of_z w32 y ≡ of_z w32 w → ⊥) → x ≡ Broken 12 row c.start
         → x ≡ first_broken (block fifth row (side_checks file t l r c a))
     unfolding side_checks
-    side_unlike h u v = broke _ _ _ _ _ (waits _ _ (area h) (alike ∙ not-true d u)) v
+    side_unlike h u v = broke _ _ _ _ _ (waits _ _ (area h) (alike ∙ ne_eqb _ _ u)) v
 
-    pub side_fine : not b ≡ false → not d ≡ false → Fine ≡ first_broken (block fifth row (side_checks file t l r c a))
+    pub side_fine : not b ≡ false → of_z w32 y ≡ of_z w32 w → Fine ≡ first_broken (block fifth row (side_checks file t l r c a))
     unfolding side_checks
     side_fine h u =
-        kept _ _ _ _ _ (waits _ _ (area h) (alike ∙ not-false d u)) (kept _ _ _ _ _ (or_right (is_zero (number_on file r a)) _ (area h)) (check_none fifth row))
+        kept _ _ _ _ _ (waits _ _ (area h) (alike ∙ eq-eqb _ _ u)) (kept _ _ _ _ _ (or_right (is_zero (number_on file r a)) _ (area h)) (check_none fifth row))
 
 -- ---- points
 
@@ -194,25 +163,25 @@ module _ (file : List ℕ) (l : Layer) (v : ℤ) (r i : ℕ) {a : Bool} (ok : In
   unfolding at_node
   at_unnamed t = rw (at_names ∙ not-true a t)
 
-  -- m is its record, x and y are the point, u and w the node's place
-  module _ {m : ℕ} {x y u w : ℤ} {b d : Bool} (f : m ≡ node_of l (handed_on v))
-      (okx : InWord x) (ex : x ≡ slot_at file r column.points_x i) (oky : InWord y) (ey : y ≡ slot_at file r column.points_y i)
-      (oku : InWord u) (eu : u ≡ value_at file m column.node_x) (okw : InWord w) (ew : w ≡ value_at file m column.node_y)
-      (p : b ≡ equal (handed_on x) (handed_on u)) (q : d ≡ equal (handed_on y) (handed_on w)) where
-    at_node_lem : m ≡ node_of l v
-    at_node_lem = f ∙ ap (node_of l) (passed_on ok refl)
+  -- m is its record, x the point's X, and u the node's
+  module _ {m : ℕ} {x u : ℤ} (f : m ≡ node_of l (handed_on v)) (okx : InWord x) (ex : x ≡ slot_at file r column.points_x i)
+      (oku : InWord u) (eu : u ≡ value_at file m column.node_x) (t : not a ≡ false) where
+    there : m ≡ node_of l v
+    there = f ∙ ap (node_of l) (passed_on ok refl)
 
-    both_at : (equal (slot_at file r column.points_x i) (value_at file (node_of l v) column.node_x)
-        && equal (slot_at file r column.points_y i) (value_at file (node_of l v) column.node_y))
-        ≡ (b && d)
-    both_at = rw (
-      told_both equal okx ex oku (eu ∙ ap (λ m. value_at file m column.node_x) at_node_lem) p,
-      told_both equal oky ey okw (ew ∙ ap (λ m. value_at file m column.node_y) at_node_lem) q,
-    )
+    x_is : eqb (of_z w32 x) (of_z w32 u) ≡ equal (slot_at file r column.points_x i) (value_at file (node_of l v) column.node_x)
+    x_is = compared okx ex oku (eu ∙ ap (λ m. value_at file m column.node_x) there)
 
-    pub at_named : not a ≡ false → (b && d) ≡ at_node file l v r i
+    pub at_apart : eqb (of_z w32 x) (of_z w32 u) ≡ false → eqb (of_z w32 x) (of_z w32 u) ≡ at_node file l v r i
     unfolding at_node
-    at_named t = sym (waits _ _ (at_names ∙ not-false a t) both_at)
+    at_apart p = rw (p, at_names ∙ not-false a t, sym x_is ∙ p)
+
+    -- y is its Y, and w the node's
+    pub at_named : {y w : ℤ} → InWord y → y ≡ slot_at file r column.points_y i → InWord w → w ≡ value_at file m column.node_y
+        → eqb (of_z w32 x) (of_z w32 u) ≡ true → eqb (of_z w32 y) (of_z w32 w) ≡ at_node file l v r i
+    unfolding at_node
+    at_named oky ey okw ew p =
+        rw (at_names ∙ not-false a t, sym x_is ∙ p) (compared oky ey okw (ew ∙ ap (λ m. value_at file m column.node_y) there))
 
 module _ (file : List ℕ) (l : Layer) (q r left row : ℕ) where
   -- one point is no first point
@@ -267,36 +236,24 @@ module _ (file : List ℕ) (l : Layer) (q r left row : ℕ) where
   pub points_later : {z : ℤ} {n : ℕ} → 7 < left → left < n → InWord z → z ≡ value_at file q column.line_points
       → n ≡ size (handed_on z) → Fine ≡ first_broken (block fifth row (point_checks file l q r left))
   unfolding point_checks
-  points_later h u ok e s = part_passes row _ _ refl (first_later (omega arith) ok e s (λ i. omega arith)) (last_later (λ i. omega arith) h)
+  points_later h u ok e s = part_passes fifth row _ _ refl (first_later (omega arith) ok e s (λ i. omega arith)) (last_later (λ i. omega arith) h)
 
 -- ---- entries of a loop record
-
-both_not : (a b : Bool) → (not a && not b) ≡ true → (a || b) ≡ false
-both_not true b h = sym h
-both_not false b h = not-true b h
-
-not_both : (a b : Bool) → (not a && not b) ≡ false → (a || b) ≡ true
-not_both true b h = refl
-not_both false b h = not-false b h
 
 abbrev pub entry_slot : List ℕ → Layer → ℕ → ℕ → List Check
 entry_slot file l r i = check (slot_column column.loop_entries i) 11 (is_zero (loop_entry file r i) || names_line l.lines (loop_entry file r i)) ∷ []
 
 module _ (file : List ℕ) (l : Layer) (r row : ℕ) where
-  -- a says whether the entry z is 0, and b whether it names a line
-  module _ (i : ℕ) {z : ℤ} {a b : Bool} (ok : InWord z) (e : z ≡ loop_entry file r i)
-      (p : a ≡ is_zero (handed_on z)) (n : b ≡ names_line l.lines (handed_on z)) where
-    entry_is_lem : (is_zero (loop_entry file r i) || names_line l.lines (loop_entry file r i)) ≡ (a || b)
-    entry_is_lem = rw (answer_is is_zero ok e p, answer_is (names_line l.lines) ok e n)
+  pub entries_stop : (i : ℕ) {x : Verdict} → x ≡ Broken 11 row (slot_column column.loop_entries i)
+      → (is_zero (loop_entry file r i) || names_line l.lines (loop_entry file r i)) ≡ false → i < 12
+      → first_broken (rows i (slot_rules fifth row (entry_slot file l r))) ≡ Fine → x ≡ first_broken (block fifth row (entry_checks file l r))
+  unfolding entry_checks
+  entries_stop i v t k f = slots_stop fifth row 12 (entry_slot file l r) i v (broke _ _ _ _ _ t v) f k
 
-    pub entries_stop : {x : Verdict} → x ≡ Broken 11 row (slot_column column.loop_entries i) → (not a && not b) ≡ true → i < 12
-        → first_broken (rows i (slot_rules fifth row (entry_slot file l r))) ≡ Fine → x ≡ first_broken (block fifth row (entry_checks file l r))
-    unfolding entry_checks
-    entries_stop v t k f = slots_stop fifth row 12 (entry_slot file l r) i v (broke _ _ _ _ _ (entry_is_lem ∙ both_not a b t) v) f k
-
-    pub entries_pass : (not a && not b) ≡ false → first_broken (rows i (slot_rules fifth row (entry_slot file l r))) ≡ Fine
-        → first_broken (rows (i + 1) (slot_rules fifth row (entry_slot file l r))) ≡ Fine
-    entries_pass t f = rows_pass (slot_rules fifth row (entry_slot file l r)) i f (kept _ _ _ _ _ (entry_is_lem ∙ not_both a b t) (check_none fifth row)) refl
+  pub entries_pass : (i : ℕ) → (is_zero (loop_entry file r i) || names_line l.lines (loop_entry file r i)) ≡ true
+      → first_broken (rows i (slot_rules fifth row (entry_slot file l r))) ≡ Fine
+      → first_broken (rows (i + 1) (slot_rules fifth row (entry_slot file l r))) ≡ Fine
+  entries_pass i t f = rows_pass (slot_rules fifth row (entry_slot file l r)) i f (kept _ _ _ _ _ t (check_none fifth row)) refl
 
   pub entries_done : (i : ℕ) → first_broken (rows i (slot_rules fifth row (entry_slot file l r))) ≡ Fine → i ≤ 12 → 12 ≤ i
       → Fine ≡ first_broken (block fifth row (entry_checks file l r))

@@ -1,34 +1,30 @@
 -- Rows of slots, of an N or of an area: which slots are clean, at which one the scan for a repeated entry stops, and slots that are judged
 -- one by one. Assumes nothing.
-use mathlib.Core.Bool.{Bool, true, false, cond, not, ◌||◌, false≢true}
+use mathlib.Core.Bool.{Bool, true, false, not, not-not, ◌||◌, false≢true}
 use mathlib.Core.List.{List}
 use mathlib.Core.Logic.{⊎_elim}
 use mathlib.Core.Path.{◌≡◌, refl, sym, ◌∙◌}
 use Prim.Native.Nat.{ℕ, zero, suc, ◌+◌, ◌/◌, ◌%◌, ◌≤◌, ◌<◌}
-use native.Mathlib.Nat.{le_of_suc-le-suc, not-suc-le-zero, eq-or-lt_of_le}
+use native.Mathlib.Nat.{add-zero, zero-add, le_of_suc-le-suc, not-suc-le-zero, eq-or-lt_of_le}
 use native.Mathlib.Numerals.{add-one}
 use native.Mathlib.Omega.{arith}
 use lib.Dec.{eqb}
 use lib.IntN.{ℤ, pos}
-use lib.ListN.{length}
+use lib.ListN.{length, get_or}
 use borrow.Author.Tests.{eq-eqb, ne_eqb}
+use Rattle.std.specs.Bool.{MatchBool}
+use Rattle.std.specs.List.{range_with_len, HoldsAt, AllWithin}
+use Rattle.std.proofs.lemmas.List.FromFn.{length-range_with_len, get_or-range_with_len}
 use Rattle.records.proofs.Numbers.{record_past, number_none}
-use Rattle.verdict.specs.Rules.{Verdict, Fine, Broken, Rule, Check, first_broken, block, rows, spread}
+use Rattle.std.specs.Prelude.{Err}
+use Rattle.verdict.specs.declared.Refusal.{Refusal}
+use Rattle.verdict.specs.Rules.{Verdict, Fine, Rule, Check, first_broken, block, rows, spread}
 use Rattle.verdict.proofs.Parts.{spread_rows, rows_stop, rows_done}
 use Rattle.permitted.specs.Permitted.{is_zero}
 use Rattle.links.specs.Links.{equal, some, loop_entry, slot_of}
 use Rattle.links.specs.Scanning.{clean, FirstRepeat}
 
 -- ---- some of the first n
-
-pub some_none : (f : ℕ → Bool) → some 0 f ≡ false
-unfolding some
-some_none f = refl
-
--- nor is it number n
-pub some_more : (n : ℕ) (f : ℕ → Bool) → some n f ≡ false → f n ≡ false → some (n + 1) f ≡ false
-unfolding some
-some_more n f h e = rw (add-one, h, e)
 
 pub some_hit : (n j : ℕ) (f : ℕ → Bool) → j < n → f j ≡ true → some n f ≡ true
 unfolding some
@@ -43,34 +39,37 @@ some_hit (suc n) j f l e =
     at_end true b e = refl
     at_end false b e = e
 
+pub some_never : (n : ℕ) (f : ℕ → Bool) → ((j : ℕ) → j < n → f j ≡ false) → some n f ≡ false
+unfolding some
+some_never zero f h = refl
+some_never (suc n) f h = rw (some_never n f (λ j l. h j (omega arith)), h n (omega arith))
+
+-- as code has it: the answer r of `any` over the first n, each told where it is below m
+pub any_told : (n m : ℕ) (f : ℕ → Bool) → n ≤ m → (r : Bool)
+    → MatchBool r ((k : ℕ) × (k < length (range_with_len 0 n)) × HoldsAt (λ j. j < m → f j ≡ true) (range_with_len 0 n) k)
+    (AllWithin (λ j. j < m → f j ≡ false) (range_with_len 0 n) 0 (length (range_with_len 0 n)))
+    → r ≡ some n f
+any_told n m f l true h =
+    let k : h.0 < n = omega (arith, length-range_with_len 0 n, h.1) in
+    let g : get_or (range_with_len 0 n) h.0 0 ≡ h.0 = get_or-range_with_len 0 n h.0 0 k ∙ zero-add h.0 in
+    sym (some_hit n h.0 f k (rw g at (h.2 0) (omega arith)))
+any_told n m f l false h =
+    sym (some_never n f (λ j i.
+    let g : get_or (range_with_len 0 n) j 0 ≡ j = get_or-range_with_len 0 n j 0 i ∙ zero-add j in
+    rw g at (h j 0 (omega arith) (omega (arith, length-range_with_len 0 n))) (omega arith)))
+
 -- ---- clean slots
 
--- no more than the slots before slot e are compared with it
-pub earlier_less : (b : Bool) (e : ℕ) {stop : ℕ} → stop ≡ cond b 0 e → stop ≤ e
-earlier_less true e h = omega arith
-earlier_less false e h = omega arith
-
--- by whether the slot is 0, b; f says which earlier slots are like it
-none_before : (b : Bool) (e j : ℕ) (f : ℕ → Bool) → j ≡ cond b 0 e → some j f ≡ false → b || not (some e f) ≡ true
-none_before true e j f q h = refl
-none_before false e j f q h = rw (← q, h)
-
-one_before : (b : Bool) (e j : ℕ) (f : ℕ → Bool) → j < cond b 0 e → f j ≡ true → b || not (some e f) ≡ false
-one_before true e j f l h = absurd (not-suc-le-zero l)
-one_before false e j f l h = rw (some_hit e j f l h)
-
-module _ (f : ℕ → ℤ) (e : ℕ) {stop : ℕ} (p : stop ≡ cond (is_zero (f e)) 0 e) (j : ℕ) where
-  -- the scan compared all slots that it had to
-  pub clean_passed : j ≤ stop → stop ≤ j → some j (λ j. equal (f e) (f j)) ≡ false → clean f e ≡ true
+module _ (f : ℕ → ℤ) (e : ℕ) {r : Bool} where
+  -- an entry is not clean where an earlier slot is like it
+  pub entry_repeats : is_zero (f e) ≡ false → r ≡ some e (λ j. equal (f e) (f j)) → r ≡ not (clean f e)
   unfolding clean
-  clean_passed l m h =
-      let q : j ≡ stop = omega arith in
-      none_before (is_zero (f e)) e j (λ j. equal (f e) (f j)) (q ∙ p) h
+  entry_repeats z h = rw (z, not-not (some e (λ j. equal (f e) (f j)))) h
 
-  -- slot j is like slot e
-  pub clean_not : j < stop → equal (f e) (f j) ≡ true → clean f e ≡ false
+  -- what is no entry is clean
+  pub none_repeats : is_zero (f e) ≡ true → r ≡ true → not r ≡ not (clean f e)
   unfolding clean
-  clean_not l h = one_before (is_zero (f e)) e j (λ j. equal (f e) (f j)) (rw p at l) h
+  none_repeats z h = rw (z, h)
 
 -- ---- the slot at which the scan stopped
 
@@ -100,7 +99,7 @@ slot_rules turn row g i = block turn row (g i)
 
 module _ (turn row n : ℕ) (g : ℕ → List Check) where
   -- the verdict v of slot i is broken and is returned
-  pub slots_stop : (i : ℕ) {v : Verdict} {a b c : ℕ} → v ≡ Broken a b c → v ≡ first_broken (slot_rules turn row g i)
+  pub slots_stop : (i : ℕ) {v : Verdict} {e : Refusal} → v ≡ Err e → v ≡ first_broken (slot_rules turn row g i)
       → first_broken (rows i (slot_rules turn row g)) ≡ Fine → i < n → v ≡ first_broken (block turn row (spread n g))
   slots_stop i q h f m = rw (spread_rows turn row n g) (rows_stop (slot_rules turn row g) n i m f h q)
 

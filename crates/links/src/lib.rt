@@ -4,13 +4,13 @@
 // The contracts cite `specs/Links.antt`.
 #![tactic(auto)]
 
-ghost use Rattle.std.specs.Prelude.{◌≡◌, false, true, cond, not, ◌+◌, ◌-◌, ◌≤◌, ◌<◌, get_or};
+ghost use Rattle.std.specs.Prelude.{◌≡◌, ℕ, ℤ, false, true, not, ◌+◌, ◌-◌, ◌≤◌, ◌<◌, get_or};
 ghost use Rattle.verdict.specs.Rules.{Broken, first_broken, block};
-ghost use Rattle.permitted.specs.Permitted.{size, is_zero};
+ghost use Rattle.permitted.specs.Permitted.{size};
 ghost use Rattle.records.specs.View.{number_in};
 ghost use Rattle.records.specs.Columns.{span_from, slot_start};
-ghost use Rattle.links.specs.Links.{equal, entry_is, node_entry, hand_in, meets, node_slot, node_checks, listed, link_fits, line_end_checks, side_checks, line_checks, at_node, first_point_checks, last_point_checks, point_checks, slot_of, entry_checks, link_checks, fifth, stage_four};
-ghost use Rattle.links.specs.Scanning.{slot_by, slot_count, clean, FirstRepeat, Between};
+ghost use Rattle.links.specs.Links.{entry_is, node_entry, hand_in, meets, node_slot, node_checks, listed, link_fits, line_end_checks, side_checks, line_checks, at_node, first_point_checks, last_point_checks, point_checks, slot_of, entry_checks, link_checks, fifth, stage_four};
+ghost use Rattle.links.specs.Scanning.{clean, FirstRepeat, Between};
 
 use layers::{Bases, Layer};
 use records::{Columns, Slots};
@@ -20,19 +20,11 @@ use walk::State;
 
 // ---- numbers
 
-// The same sign and size.
-pub fn equal(a: i32, b: i32) -> bool
-    ensures { result ≡ equal a b }
-{
-    permitted::same(permitted::natural(a), permitted::natural(b))
-        & (permitted::size(a) == permitted::size(b))
-}
-
 // The entry +n or, backwards, -n.
 pub fn entry_is(back: bool, n: usize, v: i32) -> bool
     ensures { result ≡ entry_is back n v }
 {
-    (permitted::size(v) == n) & permitted::same(back, !permitted::natural(v))
+    permitted::size(v) == n && back == !permitted::natural(v)
 }
 
 // A record's own serial, in the columns `c`.
@@ -44,7 +36,7 @@ fn serial_in(file: &[u8], r: usize, c: Columns) -> usize
 
 // A refusal at a column.
 fn broken(number: u32, row: u32, column: usize) -> Verdict
-    requires { column ≤ 74 }
+    requires { column ≤ 65280 }
     ensures { result ≡ Broken number row column }
 {
     Err(Refusal {
@@ -58,12 +50,7 @@ fn broken(number: u32, row: u32, column: usize) -> Verdict
 pub fn slot_broken(number: u32, row: u32, slots: Slots, i: usize) -> Verdict
     ensures { result ≡ Broken number row (slot_start slots.0 slots.1 slots.2 i) }
 {
-    let column = records::slot_column(slots, i);
-    Err(Refusal {
-        number,
-        place: row,
-        column: column as u32,
-    })
+    broken(number, row, records::slot_column(slots, i))
 }
 
 // ---- slots
@@ -85,69 +72,27 @@ pub fn slot_of(file: &[u8], f: usize, e: usize) -> i32
     records::slot_at(file, f + e / 12, records::LOOP_ENTRIES, e % 12)
 }
 
-// Whose slots they are: those of an N; or those of the loop records of an area.
-#[derive(Clone, Copy)]
-pub enum Owner {
-    Node,
-    Area,
+// Whether slot `e` of a row is an entry that an earlier slot of the row has too.
+fn repeats<F: Fn(usize) -> i32>(e: usize, slot: &F) -> bool
+    requires { F.IsAlwaysCallable slot.now }
+    ensures { (f : ℕ → ℤ) → ((i : ℕ) (v : ℤ) → i ≤ e → F.post slot.now i v → v ≡ f i) → result ≡ not (clean f e) }
+{
+    let v = slot(e);
+    !permitted::is_zero(v) && (0..e).any(|i| v == slot(i))
 }
 
-// How many of them a record has.
-fn slot_count(o: Owner) -> usize
-    ensures { (result ≡ slot_count o) × (result ≤ 12) }
+// Of the slots from number `from` to the one before `to`, the first that repeats an earlier slot of the
+// row; or `to`.
+pub fn first_repeat<F: Fn(usize) -> i32>(from: usize, to: usize, slot: F) -> usize
+    requires { F.IsAlwaysCallable slot }
+    ensures { (f : ℕ → ℤ) → ((i : ℕ) (v : ℤ) → i < to → F.post slot i v → v ≡ f i) → from ≤ to → (from ≤ result) × FirstRepeat f from (to - from) (result - from) }
 {
-    match o {
-        Owner::Node => 9,
-        Owner::Area => 12,
-    }
-}
-
-// Slot `e` of those that begin at record `f`.
-fn slot_by(o: Owner, file: &[u8], f: usize, e: usize) -> i32
-    ensures { result ≡ slot_by o file.now f e }
-{
-    match o {
-        Owner::Node => node_entry(file, f, e),
-        Owner::Area => slot_of(file, f, e),
-    }
-}
-
-// How many earlier slots the entry `v` of slot `e` is compared with: none where it is no entry.
-fn earlier(v: i32, e: usize) -> usize
-    ensures { result ≡ cond (is_zero v) 0 e }
-{
-    if permitted::is_zero(v) {
-        return 0;
-    }
-    e
-}
-
-// Of the slots of one record, from slot `from` on, the first that repeats an earlier slot; or how many
-// they are. `f` is the record where the slots begin.
-pub fn first_repeat(o: Owner, file: &[u8], f: usize, from: usize) -> usize
-    ensures { from ≤ 4294967295 → FirstRepeat (slot_by o file.now f) from (slot_count o) result }
-{
-    let n = slot_count(o);
-    let mut at = n;
-    if 4294967295 < from {
-        return at;
-    }
-    let mut i: usize = 0;
-    'scan: while i < n {
-        let v = slot_by(o, file, f, from + i);
-        let stop = earlier(v, from + i);
-        let mut j: usize = 0;
-        while j < stop {
-            let w = slot_by(o, file, f, j);
-            if equal(v, w) {
-                at = i;
-                break 'scan;
-            }
-            j += 1;
+    for e in from..to {
+        if repeats(e, &slot) {
+            return e;
         }
-        i += 1;
     }
-    at
+    to
 }
 
 // ---- N
@@ -211,11 +156,9 @@ fn judge_slot(
 fn judge_node(file: &[u8], table: &[u32], l: Layer, r: usize, row: u32) -> Verdict
     ensures { result ≡ first_broken (block fifth row (node_checks file.now table.now l r)) }
 {
-    let at = first_repeat(Owner::Node, file, r, 0);
-    let mut i: usize = 0;
-    while i < 9 {
+    let at = first_repeat(0, 9, |i| node_entry(file, r, i));
+    for i in 0..9 {
         judge_slot(file, table, l, r, i, i == at, row)?;
-        i += 1;
     }
     Ok(())
 }
@@ -226,22 +169,14 @@ fn judge_node(file: &[u8], table: &[u32], l: Layer, r: usize, row: u32) -> Verdi
 fn listed(file: &[u8], r: usize, back: bool, n: usize) -> bool
     ensures { result ≡ listed file.now r back n }
 {
-    let mut i: usize = 0;
-    while i < 9 {
-        let v = node_entry(file, r, i);
-        if entry_is(back, n, v) {
-            return true;
-        }
-        i += 1;
-    }
-    false
+    (0..9).any(|i| entry_is(back, n, node_entry(file, r, i)))
 }
 
 // 0 exactly where the frame is.
 fn link_fits(link: i32, frame: i32) -> bool
     ensures { result ≡ link_fits link frame }
 {
-    permitted::same(permitted::is_zero(link), permitted::is_zero(frame))
+    permitted::is_zero(link) == permitted::is_zero(frame)
 }
 
 // One end of the line at record `r`: its node number in the columns `c`, its link in the columns `k`.
@@ -297,7 +232,7 @@ fn judge_side(
     let area = layers::area_of(table, l, v);
     let code = records::value_at(file, r, c);
     let other = records::value_at(file, area, records::AREA_CODE);
-    if !equal(code, other) {
+    if code != other {
         return broken(12, row, c.0);
     }
     Ok(())
@@ -349,8 +284,8 @@ fn at_node(file: &[u8], l: Layer, v: i32, r: usize, i: usize) -> bool
     let node = layers::node_of(l, v);
     let x = records::slot_at(file, r, records::POINTS_X, i);
     let y = records::slot_at(file, r, records::POINTS_Y, i);
-    equal(x, records::value_at(file, node, records::NODE_X))
-        & equal(y, records::value_at(file, node, records::NODE_Y))
+    x == records::value_at(file, node, records::NODE_X)
+        && y == records::value_at(file, node, records::NODE_Y)
 }
 
 // The first point, where all points of the line are left; the L is record `q`.
@@ -401,13 +336,11 @@ fn judge_points(file: &[u8], l: Layer, q: usize, r: usize, left: usize, row: u32
 fn judge_entries(file: &[u8], l: Layer, r: usize, row: u32) -> Verdict
     ensures { result ≡ first_broken (block fifth row (entry_checks file.now l r)) }
 {
-    let mut i: usize = 0;
-    while i < 12 {
+    for i in 0..12 {
         let v = slot_of(file, r, i);
-        if !permitted::is_zero(v) & !layers::names_line(l.lines, v) {
+        if !permitted::is_zero(v) && !layers::names_line(l.lines, v) {
             return slot_broken(11, row, records::LOOP_ENTRIES, i);
         }
-        i += 1;
     }
     Ok(())
 }
@@ -418,11 +351,7 @@ fn judge_entries(file: &[u8], l: Layer, r: usize, row: u32) -> Verdict
 fn current_line(table: &[u32], l: Layer, line: usize) -> usize
     ensures { result ≡ get_or table.now (l.line + (line - 1)) 0 }
 {
-    let mut i: usize = 0;
-    if 0 < line {
-        i = line - 1;
-    }
-    layers::line_word(table, l, i)
+    layers::line_word(table, l, line.saturating_sub(1))
 }
 
 // Record `r`, due as `d`, in the layer `l`; `line` lines of the layer came before it.
@@ -432,16 +361,14 @@ fn judge_record(d: Due, file: &[u8], table: &[u32], l: Layer, line: usize, r: us
 {
     let row = r as u32;
     match d {
-        Due::Mesh(_) => Ok(()),
-        Due::Layer(_) => Ok(()),
         Due::Node(_, _) => judge_node(file, table, l, r, row),
         Due::Line(_, _, _) => judge_line(file, table, l, r, row),
         Due::Coordinates(left) => {
             let q = current_line(table, l, line);
             judge_points(file, l, q, r, left, row)
         }
-        Due::Area(_, _) => Ok(()),
         Due::Loop(_, _, _) => judge_entries(file, l, r, row),
+        Due::Mesh(_) | Due::Layer(_) | Due::Area(_, _) => Ok(()),
     }
 }
 
@@ -467,13 +394,16 @@ pub fn stage_four(file: &[u8], table: &[u32], b: Bases) -> Verdict
     let n = walk::records_of(file);
     let mut x = layers::at_first(table, b);
     while x.records < n {
-        let s = x.state;
-        let l = x.layer;
-        judge_record(walk::due(s), file, table, l, s.layer.line, x.records + 1)?;
+        judge_record(
+            walk::due(x.state),
+            file,
+            table,
+            x.layer,
+            x.state.layer.line,
+            x.records + 1,
+        )?;
         x = layers::behind(file, table, b, x);
-        let next = x.state;
-        let layer = x.layer;
-        x = layers::past_quiet(file, x, between(file, table, layer, next));
+        x = layers::past_quiet(file, x, between(file, table, x.layer, x.state));
     }
     Ok(())
 }

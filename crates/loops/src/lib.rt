@@ -16,7 +16,6 @@ ghost use Rattle.loops.specs.Loops.{entry_before, joins, slot_from, loop_slot, w
 ghost use Rattle.loops.specs.Scanning.{mark_of, Unrepeated, Marking, KeptFor, KeptBehind, SoundTable, KnownBehind};
 
 use layers::{Bases, Layer};
-use links::Owner;
 use rules::Due;
 use verdict::{Refusal, Verdict};
 
@@ -73,7 +72,7 @@ fn repeat_in(file: &[u8], a: usize, r: usize, known: usize) -> usize
     if from + 12 <= known {
         return 12;
     }
-    links::first_repeat(Owner::Area, file, a + 1, from)
+    links::first_repeat(from, from + 12, |e| links::slot_of(file, a + 1, e)) - from
 }
 
 // ---- slots
@@ -97,7 +96,7 @@ fn joins(file: &[u8], table: &[u32], l: Layer, f: usize, e: usize, v: i32) -> bo
     let w = entry_before(file, f, e);
     let last = links::on_hand(file, table, l, records::END_NODE, records::START_NODE, w);
     let first = links::on_hand(file, table, l, records::START_NODE, records::END_NODE, v);
-    links::equal(first, last)
+    first == last
 }
 
 // A refusal of slot `i`.

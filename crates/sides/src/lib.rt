@@ -155,7 +155,7 @@ fn mark_behind(d: Due, file: &[u8], table: &[u32], l: Layer, marks: &mut [usize]
     requires { Marks file.now marks.old }
     ensures { Marks file.now marks.new }
 {
-    if matches!(d, Due::Layer(_)) {
+    if layers::is_layer(d) {
         mark_layer(file, table, l, marks);
     }
 }

@@ -1,6 +1,6 @@
 -- `links::judge_entries` meets its contract: the loop leaves at the first entry that names nothing. Assumes nothing.
 use mathlib.Core.Path.{◌≡◌}
-use Prim.Native.Nat.{◌-◌, ◌≤◌}
+use Prim.Native.Nat.{◌≤◌}
 use Rattle.verdict.specs.Rules.{Fine, first_broken, rows}
 use Rattle.links.specs.Links.{fifth}
 use Rattle.links.proofs.Scans.{slot_rules}
@@ -8,7 +8,4 @@ use Rattle.links.proofs.LineLaws.{entry_slot}
 use Rattle.links.proofs.judge_entries.Given as goal
 
 abbrev pub invariant-loop-i : goal.invariant-loop-i
-invariant-loop-i l = (l.i ≤ 12) × (first_broken (rows l.i (slot_rules fifth l.row (entry_slot l.file l.l l.r))) ≡ Fine)
-
-abbrev pub decreases-loop-i : goal.decreases-loop-i
-decreases-loop-i l = 12 - l.i
+invariant-loop-i l = first_broken (rows l.i (slot_rules fifth l.row (entry_slot l.file l.l l.r))) ≡ Fine

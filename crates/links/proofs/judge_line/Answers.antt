@@ -1,28 +1,24 @@
 -- `links::judge_line` meets its contract: its parts in a row, the first broken one returned. Assumes nothing.
+use borrow.Author.Rules.{rules}
+use mathlib.Core.Path.{refl}
 use Rattle.links.specs.Links.{line_checks}
-use Rattle.links.proofs.LineLaws.{part_stops, part_passes}
+use Rattle.verdict.proofs.Parts.{part_stops, part_passes}
 use Rattle.links.proofs.judge_line.Goals as goal
 
-pub returns-in-Broken : goal.returns-in-Broken
+pub returns-in_err-judge_end : goal.returns-in_err-judge_end
 unfolding line_checks
-returns-in-Broken c = part_stops _ _ _ c.in-Broken.is c.judge_end-start.ensures
+returns-in_err-judge_end c = search (rules, part_stops, part_passes)
 
-pub returns-in-Broken-end : goal.returns-in-Broken-end
+pub returns-in_err-judge_end-2 : goal.returns-in_err-judge_end-2
 unfolding line_checks
-returns-in-Broken-end c =
-    part_passes _ _ _ c.in_default.is c.judge_end-start.ensures
-    (part_stops _ _ _ c.in-Broken-end.is c.judge_end-end.ensures)
+returns-in_err-judge_end-2 c = search (rules, part_stops, part_passes)
 
-pub returns-in-Broken-left : goal.returns-in-Broken-left
+pub returns-in_err-judge_side : goal.returns-in_err-judge_side
 unfolding line_checks
-returns-in-Broken-left c =
-    part_passes _ _ _ c.in_default.is c.judge_end-start.ensures
-    (part_passes _ _ _ c.in_default-end.is c.judge_end-end.ensures
-    (part_stops _ _ _ c.in-Broken-left.is c.judge_side-left.ensures))
+returns-in_err-judge_side c = search (rules, part_stops, part_passes)
 
 pub returns : goal.returns
 unfolding line_checks
 returns c =
-    part_passes _ _ _ c.in_default.is c.judge_end-start.ensures
-    (part_passes _ _ _ c.in_default-end.is c.judge_end-end.ensures
-    (part_passes _ _ _ c.in_default-left.is c.judge_side-left.ensures c.judge_side.ensures))
+    part_passes _ _ _ _ refl c.in_ok-judge_end.ensures
+    (part_passes _ _ _ _ refl c.in_ok-judge_end-2.ensures (part_passes _ _ _ _ refl c.in_ok-judge_side.ensures c.judge_side-2.ensures))

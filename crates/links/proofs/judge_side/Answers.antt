@@ -12,14 +12,14 @@ returns-then-not-names c =
     side_unnamed _ _ _ _ _ _ _ c.value_at-v.type_inv c.value_at-v.ensures c.names.ensures
     c.if-not-names.true-raw c.is_zero.ensures c.if-is_zero.false c.broken.ensures
 
-pub returns-then-not-equal : goal.returns-then-not-equal
-returns-then-not-equal c =
+pub returns-then-code-other : goal.returns-then-code-other
+returns-then-code-other c =
     side_unlike _ _ _ _ _ _ _ c.value_at-v.type_inv c.value_at-v.ensures c.names.ensures
     c.area_of-area.ensures c.value_at-code.type_inv c.value_at-code.ensures c.value_at-other.type_inv
-    c.value_at-other.ensures c.equal.ensures c.if-not-names.false-raw c.if-not-equal.true-raw c.broken-then-not-equal.ensures
+    c.value_at-other.ensures c.if-not-names.false-raw c.if-code-other.true c.broken-then-code-other.ensures
 
 pub returns : goal.returns
 returns c =
     side_fine _ _ _ _ _ _ _ c.value_at-v.type_inv c.value_at-v.ensures c.names.ensures
     c.area_of-area.ensures c.value_at-code.type_inv c.value_at-code.ensures
-    c.value_at-other.type_inv c.value_at-other.ensures c.equal.ensures c.if-not-names.false-raw c.if-not-equal.false-raw
+    c.value_at-other.type_inv c.value_at-other.ensures c.if-not-names.false-raw c.if-code-other.false

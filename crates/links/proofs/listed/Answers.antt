@@ -1,23 +1,20 @@
-use mathlib.Core.Bool.{false}
-use Prim.Native.Nat.{◌-◌}
-use Rattle.links.proofs.LineLaws.{listed_start, listed_hit, listed_pass, listed_done}
+-- `links::listed` meets its contract: it asks the nine slots in their order. Assumes nothing.
+use mathlib.Core.Bool.{true, false}
+use mathlib.Core.Path.{◌≡◌, refl}
+use Prim.Native.Nat.{◌<◌}
+use native.Mathlib.Nat.{le_refl}
 use borrow.Author.Rules.{rules}
+use Rattle.std.proofs.lemmas.Iterator.{cases_from_any, YieldsList-from_range}
+use Rattle.permitted.proofs.Signs.{passed_on}
+use Rattle.links.specs.Links.{listed, entry_is, node_entry}
+use Rattle.links.proofs.Scans.{any_told}
 use Rattle.links.proofs.listed.Goals as goal
 
-pub loop-i-init : goal.loop-i-init
-loop-i-init c = (search rules, listed_start _ _ _ _)
-
-pub returns-then-entry_is : goal.returns-then-entry_is
-returns-then-entry_is c =
-    listed_hit _ _ _ _ _ c.node_entry-v.type_inv c.node_entry-v.ensures
-    c.entry_is.ensures c.loop-i-test.true c.if-entry_is.true
-
-pub loop-i-preserved : goal.loop-i-preserved
-loop-i-preserved c = (
-  search rules,
-  listed_pass _ _ _ _ _ c.node_entry-v.type_inv c.node_entry-v.ensures
-      c.entry_is.ensures c.loop-i.invariant.1 c.if-entry_is.false,
-)
-
 pub returns : goal.returns
-returns c = listed_done _ _ _ _ _ c.loop-i.invariant.0 c.loop-i-test.false c.loop-i.invariant.1
+unfolding listed
+returns c =
+    let a = c.args in
+    let h = cases_from_any _ _ _ (λ i. i < 9 → entry_is a.back a.n (node_entry a.file.now a.r i) ≡ true)
+    (λ i. i < 9 → entry_is a.back a.n (node_entry a.file.now a.r i) ≡ false)
+    c.any.ensures.ran (YieldsList-from_range 0 9 9 refl refl) (λ i q k l. search (rules, passed_on)) (λ i q k. search (rules, passed_on)) in
+    any_told 9 9 _ (le_refl 9) _ h
