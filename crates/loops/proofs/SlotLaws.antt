@@ -1,30 +1,23 @@
 -- The slots of a loop record and the way round of its loop: what the verdicts on them come to for the record. Assumes nothing.
-use mathlib.Core.Bool.{Bool, true, false, cond, ◌||◌}
-use mathlib.Core.List.{List, [], ◌∷◌}
+use mathlib.Core.Bool.{true, cond, ◌||◌}
+use mathlib.Core.List.{List}
 use mathlib.Core.Path.{◌≡◌, refl, sym, ◌∙◌, ap}
-use Prim.Native.Nat.{ℕ, ◌+◌, ◌-◌, ◌*◌, ◌≤◌, ◌<◌, ◌^◌}
+use Prim.Native.Nat.{ℕ, ◌+◌}
 use native.Mathlib.Omega.{arith}
 use lib.IntN.{ℤ}
-use lib.Signed.{mag}
-use mir.Facts.{to_z-of_z}
-use mir.Syntax.{w64}
-use mir.Val.{to_z, of_z, hbits}
-use borrow.Author.Tests.{not-true, not-false, lt-ltb, le-ltb}
-use Rattle.records.specs.Columns.{value_at, loop_serial, loop_entries, slot_column}
+use Rattle.records.specs.Columns.{loop_entries, slot_column}
 use Rattle.std.specs.Prelude.{Err}
 use Rattle.verdict.specs.declared.Refusal.{Refusal}
-use Rattle.verdict.specs.Rules.{Verdict, Fine, Broken, Check, check, first_broken, block, spread}
-use Rattle.verdict.proofs.Parts.{fine_broken, stands, goes_on, block_append, check_none, check_kept, check_broken}
+use Rattle.verdict.specs.Rules.{Verdict, Fine, Broken, first_broken, block, spread}
+use Rattle.verdict.proofs.Parts.{stands, goes_on, block_append}
 use Rattle.permitted.specs.Permitted.{is, is_zero}
 use Rattle.layers.specs.declared.Layer.{Layer}
 use Rattle.links.specs.Links.{loop_entry, slot_of}
 use Rattle.links.specs.Scanning.{clean}
-use Rattle.links.proofs.Numbers.{told, asked}
-use Rattle.links.proofs.LineLaws.{InWord, handed_on}
 use Rattle.entries.specs.Loops.{loop_measure_in}
 use Rattle.entries.specs.Keeping.{kept_loop, Kept}
 use Rattle.entries.proofs.Keeping.{loop_kept}
-use Rattle.loops.specs.Loops.{repeats_area, joins, area_on_hand, slot_from, loop_slot, winds, wind_checks, first_record, area_record, loop_checks, sixth}
+use Rattle.loops.specs.Loops.{repeats_area, joins, area_on_hand, slot_from, loop_slot, wind_checks, first_record, area_record, loop_checks, sixth}
 
 -- ---- a slot's checks
 

@@ -89,7 +89,7 @@ fn entry_before(file: &[u8], f: usize, e: usize) -> i32
 }
 
 // Whether the entry `v` in slot `e` begins where the one before it ends.
-#[tactic(auto, unfolding(crate::specs::Loops::joins, crate::specs::Loops::last_node, links::specs::Links::first_node))]
+#[tactic(auto, using(links::proofs::Numbers::compared), unfolding(crate::specs::Loops::joins, crate::specs::Loops::last_node, links::specs::Links::first_node))]
 fn joins(file: &[u8], table: &[u32], l: Layer, f: usize, e: usize, v: i32) -> bool
     ensures { result ≡ joins file.now table.now l f e v }
 {

@@ -1,13 +1,8 @@
 -- Marks: where they stand, that marking an area's entry keeps them true, and that a mark answers for the search. Assumes nothing.
 use mathlib.Core.Bool.{Bool, true, false, cond, not}
 use mathlib.Core.List.{List}
-use mathlib.Core.Path.{◌≡◌, refl, sym}
-use mathlib.Core.Path.{◌∙◌}
-use Prim.Native.Nat.{ℕ, zero, suc, ◌+◌, ◌^◌, ◌≤◌, ◌<◌, ◌/◌}
-use native.Mathlib.Nat.{zero-add}
-use Rattle.std.specs.Bool.{MatchBool}
-use Rattle.std.specs.List.{range_with_len, HoldsAt, AllWithin}
-use Rattle.std.proofs.lemmas.List.FromFn.{length-range_with_len, get_or-range_with_len}
+use mathlib.Core.Path.{◌≡◌, refl}
+use Prim.Native.Nat.{ℕ, ◌+◌, ◌^◌, ◌≤◌, ◌<◌, ◌/◌}
 use native.Mathlib.Omega.{arith}
 use lib.Dec.{eqb, leb, ltb}
 use lib.IntN.{ℤ}
@@ -16,16 +11,15 @@ use lib.Seq.{get_or-set_same, get_or-set_other}
 use lib.Signed.{mag}
 use mir.Syntax.{w32}
 use mir.Val.{to_z, of_z, hbits}
-use borrow.Author.Tests.{ltb-true, leb-false, leb-true, eqb-true, eqb-false, eq-eqb}
+use borrow.Author.Tests.{ltb-true, eqb-true, eqb-false, eq-eqb}
 use Rattle.records.specs.View.{record_of, number_in}
 use Rattle.verdict.proofs.Orders.{and_both}
 use Rattle.permitted.specs.Permitted.{natural, size, same}
 use Rattle.permitted.proofs.Signs.{passed_on}
 use Rattle.walk.specs.States.{size_in}
 use Rattle.walk.proofs.Walking.{size_small}
-use Rattle.links.specs.Links.{entry_is, some, loop_entry}
-use Rattle.links.proofs.Numbers.{asked}
-use Rattle.links.proofs.Scans.{some_none, some_more, some_hit}
+use Rattle.links.specs.Links.{entry_is, loop_entry}
+use Rattle.links.proofs.Scans.{some_hit}
 use Rattle.entries.specs.Entries.{slot_of, slots_of}
 use Rattle.entries.proofs.Slots.{slots_none}
 use Rattle.sides.specs.Sides.{lists}
@@ -39,34 +33,12 @@ slot_is file a back n e = entry_is back n (slot_of file (a + 1) e)
 
 -- a record with slots is one that the file has
 pub area_there : (file : List ℕ) (a e : ℕ) {slots : ℕ} → slots ≡ slots_of file a → e < slots → a ≤ length file / 74
-area_there file a e q l = by (leb a (length file / 74)) refl
-  where
-    by : (b : Bool) → leb a (length file / 74) ≡ b → a ≤ length file / 74
-    by true h = leb-true a (length file / 74) h
-    by false h = absurd (omega (arith, q, l, slots_none file a (leb-false a (length file / 74) h)))
+area_there file a e q l = grind (arith, slots_none)
 
 -- a slot's number has at most 6 digits
 slot_small : (file : List ℕ) (f e : ℕ) → size (slot_of file f e) ≤ 999999
 unfolding slot_of loop_entry number_in size_in
 slot_small file f e = size_small (record_of file _) _ 5
-
-some_never : (n : ℕ) (f : ℕ → Bool) → ((j : ℕ) → j < n → f j ≡ false) → some n f ≡ false
-unfolding some
-some_never zero f h = refl
-some_never (suc n) f h = rw (some_never n f (λ j l. h j (omega arith)), h n (omega arith))
-
-pub any_told : (n m : ℕ) (f : ℕ → Bool) → n ≤ m → (r : Bool)
-    → MatchBool r ((k : ℕ) × (k < length (range_with_len 0 n)) × HoldsAt (λ j. j < m → f j ≡ true) (range_with_len 0 n) k)
-    (AllWithin (λ j. j < m → f j ≡ false) (range_with_len 0 n) 0 (length (range_with_len 0 n)))
-    → r ≡ some n f
-any_told n m f l true h =
-    let k : h.0 < n = omega (arith, length-range_with_len 0 n, h.1) in
-    let g : get_or (range_with_len 0 n) h.0 0 ≡ h.0 = get_or-range_with_len 0 n h.0 0 k ∙ zero-add h.0 in
-    sym (some_hit n h.0 f k (rw g at (h.2 0) (omega arith)))
-any_told n m f l false h =
-    sym (some_never n f (λ j i.
-    let g : get_or (range_with_len 0 n) j 0 ≡ j = get_or-range_with_len 0 n j 0 i ∙ zero-add j in
-    rw g at (h j 0 (omega arith) (omega (arith, length-range_with_len 0 n))) (omega arith)))
 
 -- ---- an entry lists itself
 

@@ -9,7 +9,8 @@ use borrow.Author.Rules.{rules}
 use Rattle.std.proofs.lemmas.Iterator.{cases_from_any, serves_from_Range, YieldsList-from_range}
 use Rattle.permitted.proofs.Signs.{passed_on}
 use Rattle.sides.specs.Sides.{lists}
-use Rattle.sides.proofs.Marked.{any_told, slot_is, area_there}
+use Rattle.links.proofs.Scans.{any_told}
+use Rattle.sides.proofs.Marked.{slot_is, area_there}
 use Rattle.sides.proofs.lists.Goals as goal
 
 pub any-requires-clause-callable : goal.any-requires-clause-callable

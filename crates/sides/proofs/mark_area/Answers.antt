@@ -1,4 +1,3 @@
-use mathlib.Core.Path.{refl, ◌∙◌}
 use native.Mathlib.Omega.{arith}
 use Rattle.sides.proofs.Marked.{area_there, marked_small, marked_more}
 use Rattle.sides.proofs.mark_area.Goals as goal
