@@ -66,11 +66,8 @@ fn mark_layer(file: &[u8], table: &[u32], l: Layer, marks: &mut [usize])
 fn lists(file: &[u8], a: usize, back: bool, n: usize) -> bool
     ensures { result ≡ lists file.now a back n }
 {
-    (0..entries::area_slots(file, a)).any(|e| links::entry_is(
-        back,
-        n,
-        links::slot_of(file, a + 1, e),
-    ))
+    let slots = entries::area_slots(file, a);
+    (0..slots).any(|e| links::entry_is(back, n, links::slot_of(file, a + 1, e)))
 }
 
 // Whether +n or, backwards, -n bears the mark `a`.
