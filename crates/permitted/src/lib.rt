@@ -37,8 +37,7 @@ pub fn is_zero(v: i32) -> bool
 pub fn within(v: i32, low: usize, high: usize) -> bool
     ensures { result ≡ within low high v }
 {
-    let n = size(v);
-    natural(v) & ((low <= n) & (n <= high))
+    natural(v) & (low..=high).contains(&size(v))
 }
 
 // Just `n`.
@@ -101,7 +100,7 @@ pub fn is_date(v: i32) -> bool
     ensures { result ≡ is_date v }
 {
     let n = size(v);
-    natural(v) & ((n == 0) | ((n / 100 <= 99) & ((1 <= n % 100) & (n % 100 <= 12))))
+    natural(v) & ((n == 0) | ((n / 100 <= 99) & matches!(n % 100, 1..=12)))
 }
 
 fn node_item_one(n: usize) -> bool
@@ -132,7 +131,7 @@ pub fn is_node_item(layer: usize, v: i32) -> bool
 fn on_frame(x: usize, y: usize) -> bool
     ensures { result ≡ on_frame x y }
 {
-    ((x == 0) | (x == 10000)) | ((y == 0) | (y == 10000))
+    matches!(x, 0 | 10000) | matches!(y, 0 | 10000)
 }
 
 // 1 exactly if X or Y is 0 or 10000, else 0.
@@ -224,7 +223,7 @@ fn code_size(layer: usize, n: usize) -> bool
     ensures { result ≡ layered layer (leb 1 n && leb n 99999) (leb n 99999) }
 {
     match layer {
-        1 => (1 <= n) & (n <= 99999),
+        1 => matches!(n, 1..=99999),
         5 => n <= 99999,
         _ => false,
     }
@@ -251,10 +250,7 @@ pub fn is_side(code: i32, v: i32) -> bool
 pub fn of_areas(letters: u32, v: i32, ok: bool) -> bool
     ensures { result ≡ of_areas letters v ok }
 {
-    if letters == 1 {
-        return is(v, 0);
-    }
-    ok
+    if letters == 1 { is(v, 0) } else { ok }
 }
 
 // An A's code: never 88888.
@@ -270,11 +266,7 @@ pub fn is_area_code(layer: usize, v: i32) -> bool
 pub fn is_slot(counted: bool, v: i32) -> bool
     ensures { result ≡ is_slot counted v }
 {
-    let n = size(v);
-    if counted {
-        return n != 0;
-    }
-    n == 0
+    (size(v) != 0) == counted
 }
 
 // 0 to 10000 within the count, 0 past it.
@@ -283,9 +275,10 @@ pub fn is_point(counted: bool, v: i32) -> bool
     ensures { result ≡ is_point counted v }
 {
     if counted {
-        return within(v, 0, 10000);
+        within(v, 0, 10000)
+    } else {
+        is_zero(v)
     }
-    size(v) == 0
 }
 
 // The serial behind `last`.
@@ -293,11 +286,7 @@ pub fn is_point(counted: bool, v: i32) -> bool
 pub fn is_next(last: usize, v: i32) -> bool
     ensures { result ≡ is_next last v }
 {
-    let n = size(v);
-    if n == 0 {
-        return false;
-    }
-    natural(v) & (n - 1 == last)
+    natural(v) & (size(v).checked_sub(1) == Some(last))
 }
 
 // The serial of loop `n`: 1, -2, -3 and on.
