@@ -7,7 +7,7 @@
 ghost use Rattle.std.specs.Prelude.{◌≡◌, [], ◌∷◌, ◌+◌, ◌≤◌, ◌<◌, eqb};
 ghost use Rattle.verdict.specs.Rules.{check, first_broken, block};
 ghost use Rattle.walk.specs.States.{size_in, state_at};
-ghost use Rattle.totals.specs.Totals.{rank_of, no_sums, one_more, layer_more, loop_more, added_for, sums_behind, mesh_totals, total_checks, fourth, stage_three};
+ghost use Rattle.totals.specs.Totals.{rank_of, one_more, layer_more, loop_more, added_for, sums_behind, mesh_totals, total_checks, fourth, stage_three};
 ghost use Rattle.totals.specs.Adding.{Addable};
 
 use records::Columns;
@@ -35,7 +35,8 @@ const NO_SUMS: Sums = Sums {
     entries: 0,
 };
 
-// 0 for an M, 1 for an H, 3 for a loop record, 2 for the others.
+// 0 for an M, 1 for an H, 3 for a loop record, 2 for the others. Sums of a rank end at the next record of
+// that number or a smaller one.
 fn rank_of(d: Due) -> usize
     ensures { result ≡ rank_of d }
 {
