@@ -64,7 +64,7 @@ stage_two file =
 
 -- ---- both
 
--- RULES 9.1: the counts are 0 if refused
+-- the counts, or the refusal
 abbrev pub walked_by : Verdict → Counts → Result Counts Refusal
 walked_by (Ok tt) c = Ok c
 walked_by (Err r) c = Err r
@@ -73,6 +73,7 @@ abbrev pub verdict_in : Result Counts Refusal → Verdict
 verdict_in (Ok c) = Fine
 verdict_in (Err r) = Err r
 
+-- RULES 9.1: the counts are 0 if refused
 abbrev pub counts_in : Result Counts Refusal → Counts
 counts_in (Ok c) = c
 counts_in (Err r) = no_counts
