@@ -247,13 +247,11 @@ module _ (t : List ℕ) (b : Bases) where
       pub same_room : i ≤ n → length ss ≡ length entry
       same_room h = rw q (filled_length (pairs_to file t b i) entry (rw (pairs_many i) (omega arith)))
 
-      -- the two sums of the next layer l, stored
-      pub pair_put : i < n → {l : Layer} {x y : ℤ} → l ≡ layer_in t b i → (x, y) ≡ (areas_sum file t l, outside_sum file t l)
-          → mag x < 2 ^ hbits w64 → mag y < 2 ^ hbits w64
-          → set (set ss (2 * i) (to_z w64 (of_z w64 x))) (2 * i + 1) (to_z w64 (of_z w64 y)) ≡ filled (pairs_to file t b (i + 1)) entry
+      -- the two sums s of the next layer l, stored
+      pub pair_put : i < n → {l : Layer} {s : ℤ × ℤ} → l ≡ layer_in t b i → ◌≡◌ {A = ℤ × ℤ} s (areas_sum file t l, outside_sum file t l)
+          → mag s.0 < 2 ^ hbits w64 → mag s.1 < 2 ^ hbits w64
+          → set (set ss (2 * i) (to_z w64 (of_z w64 s.0))) (2 * i + 1) (to_z w64 (of_z w64 s.1)) ≡ filled (pairs_to file t b (i + 1)) entry
       unfolding pairs_to
-      pair_put h {l} {x} {y} e g u v =
-          let p : x ≡ areas_sum file t l = ap (λ (s : ℤ × ℤ). s.0) g in
-          let r : y ≡ outside_sum file t l = ap (λ (s : ℤ × ℤ). s.1) g in
-          rw (to_z-of_z {w = w64} (record { sfits = u }), to_z-of_z {w = w64} (record { sfits = v }), p, r, e, q, add-one, add-one, ← pairs_many i)
+      pair_put h e g u v =
+          rw (to_z-of_z {w = w64} (record { sfits = u }), to_z-of_z {w = w64} (record { sfits = v }), g, e, q, add-one, add-one, ← pairs_many i)
           (more_filled (pairs_to file t b i) (pair_of file t (layer_in t b i)) entry (rw (pairs_many i) (omega arith)))
