@@ -294,10 +294,10 @@ fn sums_of(judged: Result<(i64, i64), Refused>) -> Sums
             areas,
             outside,
         },
-        Err(r) => Sums {
-            number: r.refusal.number,
-            place: r.refusal.place,
-            column: r.refusal.column,
+        Err(Refused { refusal, .. }) => Sums {
+            number: refusal.number,
+            place: refusal.place,
+            column: refusal.column,
             areas: 0,
             outside: 0,
         },

@@ -1,7 +1,6 @@
 -- `judge::area_measure` meets its contract: the loop adds up the loops' measures one by one, and every partial sum fits. Assumes nothing.
 use mathlib.Core.Path.{◌≡◌}
 use Prim.Native.Nat.{◌+◌, ◌*◌, ◌≤◌}
-use Rattle.measures.specs.Sum.{sum}
 use Rattle.measures.specs.Measures.{area_measure}
 use Rattle.entries.specs.Entries.{loops_to, records_to}
 use Rattle.entries.specs.Keeping.{kept_measure}

@@ -2,7 +2,7 @@ use mathlib.Core.Path.{refl, ◌∙◌}
 use native.Mathlib.Omega.{arith}
 use Rattle.layers.specs.Naming.{words_before}
 use Rattle.entries.proofs.Keeping.{kept_length, kept_lines}
-use Rattle.judge.proofs.Adding.{none_filled, next_summable, same_many, room, at_more, layer_put}
+use Rattle.judge.proofs.Adding.{none_filled, next_summable, room, at_more, layer_put}
 use Rattle.judge.proofs.fill_measures.Goals as goal
 
 pub loop-i-init : goal.loop-i-init
