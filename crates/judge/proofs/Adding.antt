@@ -18,7 +18,6 @@ use mir.Syntax.{w32, w64}
 use mir.Val.{SFits, to_z, of_z, hbits}
 use Rattle.records.specs.Columns.{left_area, right_area, value_at}
 use Rattle.permitted.specs.Permitted.{size, same, is_zero}
-use Rattle.verdict.specs.Rules.{Fine}
 use Rattle.walk.specs.Row.{areas_word}
 use Rattle.walk.specs.Table.{filled}
 use Rattle.walk.proofs.Stores.{more_filled, filled_length}
@@ -42,8 +41,7 @@ use Rattle.entries.specs.Keeping.{kept_measure, Kept}
 use Rattle.entries.proofs.Keeping.{most, kept_small, entries_kept}
 use Rattle.entries.proofs.Summing.{turned_fits, turned_back}
 use Rattle.ground.specs.Layers.{area_of_layer, areas_sum, left_area_of, right_area_of, outside_sum, measures_to}
-use Rattle.judge.specs.Outcomes.{sums_with, pair_of, pairs_to}
-use Rattle.judge.specs.declared.Sums.{Sums}
+use Rattle.judge.specs.Outcomes.{pair_of, pairs_to}
 use Rattle.judge.specs.Measuring.{Fits, Measurable, kept_area, outside_at, Summable, SummableTo}
 
 -- ---- the two sides of a line
@@ -249,10 +247,10 @@ module _ (t : List ℕ) (b : Bases) where
       pub same_room : i ≤ n → length ss ≡ length entry
       same_room h = rw q (filled_length (pairs_to file t b i) entry (rw (pairs_many i) (omega arith)))
 
-      -- the answer s about the next layer l, stored
-      pub pair_put : i < n → {l : Layer} {s : Sums} → l ≡ layer_in t b i → s ≡ sums_with Fine (areas_sum file t l) (outside_sum file t l)
-          → mag s.areas < 2 ^ hbits w64 → mag s.outside < 2 ^ hbits w64
-          → set (set ss (2 * i) (to_z w64 (of_z w64 s.areas))) (2 * i + 1) (to_z w64 (of_z w64 s.outside)) ≡ filled (pairs_to file t b (i + 1)) entry
+      -- the two sums s of the next layer l, stored
+      pub pair_put : i < n → {l : Layer} {s : ℤ × ℤ} → l ≡ layer_in t b i → ◌≡◌ {A = ℤ × ℤ} s (areas_sum file t l, outside_sum file t l)
+          → mag s.0 < 2 ^ hbits w64 → mag s.1 < 2 ^ hbits w64
+          → set (set ss (2 * i) (to_z w64 (of_z w64 s.0))) (2 * i + 1) (to_z w64 (of_z w64 s.1)) ≡ filled (pairs_to file t b (i + 1)) entry
       unfolding pairs_to
       pair_put h e g u v =
           rw (to_z-of_z {w = w64} (record { sfits = u }), to_z-of_z {w = w64} (record { sfits = v }), g, e, q, add-one, add-one, ← pairs_many i)

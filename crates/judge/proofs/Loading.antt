@@ -2,25 +2,26 @@
 use mathlib.Core.Bool.{true, false}
 use mathlib.Core.List.{List, ◌++◌}
 use mathlib.Core.Path.{◌≡◌, refl, sym, ◌∙◌, ap}
-use Prim.Native.Nat.{ℕ, ◌≤◌}
+use Prim.Native.Nat.{ℕ, ◌<◌, ◌≤◌}
 use native.Mathlib.Omega.{arith}
 use lib.Dec.{leb}
 use lib.ListN.{length, take, drop, length-append}
 use lib.Seq.{take-append_seam}
-use borrow.Author.Tests.{lt-leb}
-use Rattle.std.specs.Prelude.{Err}
-use Rattle.verdict.specs.Rules.{Verdict, Fine, Broken, first_broken}
+use borrow.Author.Tests.{lt-leb, ne_eqb}
+use Rattle.std.specs.Prelude.{Ok, Err}
+use Rattle.verdict.specs.declared.Refusal.{Refusal}
+use Rattle.verdict.specs.Rules.{Verdict, Fine, first_broken}
 use Rattle.verdict.proofs.Parts.{stands, goes_on, both_fine}
 use Rattle.verdict.proofs.Orders.{and_both}
 use Rattle.verdict.proofs.Numbers.{between, unlike, up_to9, ten_to18, between_both, Numbered, append_numbered, broken_number}
-use Rattle.walk.specs.declared.Tabled.{Tabled}
 use Rattle.walk.specs.declared.Counts.{Counts}
+use Rattle.walk.specs.declared.Refused.{Refused}
 use Rattle.walk.specs.States.{counts_at}
-use Rattle.walk.specs.Stages.{records_of, stage_one, stage_two, room_rule, walked_of, need_of, early}
-use Rattle.walk.specs.Table.{table_of, filled, filled_by, tabled_of}
+use Rattle.walk.specs.Stages.{records_of, stage_one, stage_two, room_rule, walked_of, verdict_in, need_of, early}
+use Rattle.walk.specs.Table.{table_of, filled, filled_by, tabled_by, tabled_of}
 use Rattle.walk.proofs.Walking.{counts_small}
 use Rattle.walk.proofs.Judging.{records_small, walked_verdict, walked_fine}
-use Rattle.walk.proofs.Room.{table_need}
+use Rattle.walk.proofs.Room.{need_words, table_need}
 use Rattle.walk.proofs.InOrder.{early_numbered}
 use Rattle.totals.specs.Totals.{stage_three}
 use Rattle.totals.proofs.Summing.{three_numbered}
@@ -47,6 +48,10 @@ late_numbered file =
     (append_numbered ten_to18 (stage_four file t b) _ (four_numbered file t b)
     (append_numbered ten_to18 (stage_five file t b) (stage_six file t b) (five_numbered file t b) (six_numbered file t b)))
 
+-- so a refusal of theirs is above 9
+late_above : (file : List ℕ) {r : Refusal} → Err r ≡ first_broken (late file) → 9 < r.number
+late_above file {r} h = (between_both 10 18 r.number (broken_number ten_to18 (late file) (late_numbered file) (sym h))).0
+
 -- the counts of a file are small
 pub counts_few : (file : List ℕ) {c : Counts} → c ≡ counts_at file (records_of file) → (c.layers ≤ 6399936) × (c.lines ≤ 6399936)
 counts_few file e =
@@ -60,122 +65,124 @@ module _ (file : List ℕ) {t : List ℕ} {c : Counts} {b : Bases} (f : t ≡ ta
   bases_are : b ≡ bases_in file
   bases_are = h ∙ ap bases_of g
 
-  -- stage 3 answers u
-  module _ {u : Verdict} (e : u ≡ first_broken (stage_three file)) where
-    pub third_broken : {x y z : ℕ} → u ≡ Broken x y z → u ≡ first_broken (late file)
+  pub third_broken : {r : Refusal} → Err r ≡ first_broken (stage_three file) → Err r ≡ first_broken (late file)
+  unfolding late
+  third_broken e = stands (stage_three file) _ refl e
+
+  -- stage 3 is kept
+  module _ (e : Fine ≡ first_broken (stage_three file)) where
+    four_is : {v : Verdict} → v ≡ first_broken (stage_four file t b) → v ≡ first_broken (stage_four file (table_of file) (bases_in file))
+    four_is i = rw (← f, ← bases_are) i
+
+    pub fourth_broken : {r : Refusal} → Err r ≡ first_broken (stage_four file t b) → Err r ≡ first_broken (late file)
     unfolding late
-    third_broken q = stands (stage_three file) _ q e
+    fourth_broken i = goes_on (stage_three file) _ refl e (stands (stage_four file (table_of file) (bases_in file)) _ refl (four_is i))
 
-    -- stage 4 answers v
-    module _ (q : u ≡ Fine) {v : Verdict} (i : v ≡ first_broken (stage_four file t b)) where
-      four_is : v ≡ first_broken (stage_four file (table_of file) (bases_in file))
-      four_is = rw (← f, ← bases_are) i
+    -- and stage 4, of a file that keeps stage 2
+    module _ (i : Fine ≡ first_broken (stage_four file t b)) (two : first_broken (stage_two file) ≡ Fine) where
+      five_is : {v : Verdict} → (SoundTable file t b → v ≡ first_broken (stage_five file t b)) → v ≡ first_broken (stage_five file (table_of file) (bases_in file))
+      five_is j = rw (← f, ← bases_are) (j (rw (f, bases_are) (table_sound file two)))
 
-      pub fourth_broken : {x y z : ℕ} → v ≡ Broken x y z → v ≡ first_broken (late file)
+      pub fifth_broken : {r : Refusal} → (SoundTable file t b → Err r ≡ first_broken (stage_five file t b)) → Err r ≡ first_broken (late file)
       unfolding late
-      fourth_broken r = goes_on (stage_three file) _ q e (stands (stage_four file (table_of file) (bases_in file)) _ r four_is)
+      fifth_broken j =
+          goes_on (stage_three file) _ refl e
+          (goes_on (stage_four file (table_of file) (bases_in file)) _ refl (four_is i)
+          (stands (stage_five file (table_of file) (bases_in file)) _ refl (five_is j)))
 
-      -- stage 5 answers w, of a file that keeps stage 2
-      module _ (r : v ≡ Fine) (two : first_broken (stage_two file) ≡ Fine) {w : Verdict} (j : SoundTable file t b → w ≡ first_broken (stage_five file t b)) where
-        five_is : w ≡ first_broken (stage_five file (table_of file) (bases_in file))
-        five_is = rw (← f, ← bases_are) (j (rw (f, bases_are) (table_sound file two)))
+      -- and stage 5: stage 6 answers v
+      pub sixth_speaks : (SoundTable file t b → Fine ≡ first_broken (stage_five file t b)) → {v : Verdict} → v ≡ first_broken (stage_six file t b) → v ≡ first_broken (late file)
+      unfolding late
+      sixth_speaks j k =
+          goes_on (stage_three file) _ refl e
+          (goes_on (stage_four file (table_of file) (bases_in file)) _ refl (four_is i)
+          (goes_on (stage_five file (table_of file) (bases_in file)) _ refl (five_is j) (rw (← f, ← bases_are) k)))
 
-        pub fifth_broken : {x y z : ℕ} → w ≡ Broken x y z → w ≡ first_broken (late file)
-        unfolding late
-        fifth_broken s =
-            goes_on (stage_three file) _ q e
-            (goes_on (stage_four file (table_of file) (bases_in file)) _ r four_is
-            (stands (stage_five file (table_of file) (bases_in file)) _ s five_is))
+-- ---- an answer by the verdict v, the counts c and the need n
 
-        pub sixth_speaks : w ≡ Fine → {x : Verdict} → x ≡ first_broken (stage_six file t b) → x ≡ first_broken (late file)
-        unfolding late
-        sixth_speaks s k =
-            goes_on (stage_three file) _ q e
-            (goes_on (stage_four file (table_of file) (bases_in file)) _ r four_is
-            (goes_on (stage_five file (table_of file) (bases_in file)) _ s five_is (rw (← f, ← bases_are) k)))
+pub refused_by : (v : Verdict) (c : Counts) (n : ℕ) {x : Refused} → Err x ≡ tabled_by v c n → v ≡ Err x.refusal
+refused_by Fine c n e = let z : ◌≡◌ {A = ℕ} 0 1 = cc in absurd (omega arith)
+refused_by (Err r) c n e = cc
 
--- ---- all stages
+pub accepted_by : (v : Verdict) (c : Counts) (n : ℕ) {d : Counts} → Ok d ≡ tabled_by v c n → (v ≡ Fine) × (d ≡ c)
+accepted_by Fine c n e = (refl, cc)
+accepted_by (Err r) c n e = let z : ◌≡◌ {A = ℕ} 0 1 = cc in absurd (omega arith)
 
-module _ (file : List ℕ) (room : ℕ) {t : Tabled} (e : t ≡ tabled_of file room) where
-  tabled : t.verdict ≡ first_broken (early file room)
-  unfolding tabled_of
-  tabled = ap (λ (x : Tabled). x.verdict) e
+-- ---- all stages, behind refusal 9, where a table is lent that holds `words`
 
-  counted : t.counts ≡ counts_in (walked_of file)
-  unfolding tabled_of
-  counted = ap (λ (x : Tabled). x.counts) e
-
-  -- what is answered, with the verdict v of all rules
-  judged_is : {v : Verdict} → v ≡ first_broken (rules_of file room) → record { verdict = v; counts = t.counts } ≡ judged_of file room
-  unfolding judged_of
-  judged_is h = rw (h, counted)
-
+module _ (file words : List ℕ) where
   -- refused with 1 to 9: that stands
-  module _ {n r c : ℕ} (q : t.verdict ≡ Broken n r c) where
-    early_verdict : t.verdict ≡ first_broken (rules_of file room)
+  module _ {x : Refused} (e : Err x ≡ tabled_of file (length words)) where
+    early_is : first_broken (early file (length words)) ≡ Err x.refusal
+    unfolding tabled_of
+    early_is = refused_by _ _ _ e
+
+    early_stands : first_broken (early file (length words)) ≡ first_broken (rules_of file (length words))
     unfolding rules_of
-    early_verdict = stands (early file room) (late file) q tabled
+    early_stands = stands (early file (length words)) (late file) early_is refl
 
-    pub early_judged : t ≡ judged_of file room
-    early_judged = judged_is early_verdict
+    pub early_judged : Err x ≡ judged_of file (length words)
+    unfolding tabled_of judged_of
+    early_judged = e ∙ ap (λ v. tabled_by v (counts_at file (records_of file)) (need_of file)) early_stands
 
-    pub early_table : (words after : List ℕ) → room ≡ length words
-        → after ≡ filled_by (first_broken (early file room)) file words → after ≡ table_judged file words
+    pub early_table : {after : List ℕ} → after ≡ filled_by (first_broken (early file (length words))) file words → after ≡ table_judged file words
     unfolding table_judged
-    early_table words after l h =
-        let v : first_broken (early file room) ≡ Broken n r c = sym tabled ∙ q in
-        let u : first_broken (rules_of file room) ≡ Broken n r c = sym early_verdict ∙ q in
-        let g = and_both (between 1 9 n) (unlike 7 n) (broken_number up_to9 (early file room) (early_numbered file room) v) in
+    early_table h =
+        let n = x.refusal.number in
+        let g = and_both (between 1 9 n) (unlike 7 n) (broken_number up_to9 (early file (length words)) (early_numbered file (length words)) early_is) in
         let b : leb n 9 ≡ true = (and_both (leb 1 n) (leb n 9) g.0).1 in
-        rw (← l, u, b) (rw v at h)
+        rw (← early_stands, early_is, b) (rw early_is at h)
 
   -- not refused so: the counts are those of all records, and the first words of the table are the file's table
-  module _ (q : t.verdict ≡ Fine) where
+  module _ {c : Counts} (e : Ok c ≡ tabled_of file (length words)) where
+    early_kept : first_broken (early file (length words)) ≡ Fine
+    unfolding tabled_of
+    early_kept = (accepted_by _ _ _ e).0
+
     kept : verdict_in (walked_of file) ≡ Fine
     unfolding early
-    kept = walked_verdict file ∙ (both_fine (stage_one file ++ stage_two file) (room_rule file room) (sym tabled ∙ q)).0
+    kept = walked_verdict file ∙ (both_fine (stage_one file ++ stage_two file) (room_rule file (length words)) early_kept).0
 
     pub two_kept : first_broken (stage_two file) ≡ Fine
     two_kept = (walked_fine file kept).1
 
-    pub all_counts : t.counts ≡ counts_at file (records_of file)
-    all_counts = counted ∙ (walked_fine file kept).2
+    pub all_counts : c ≡ counts_at file (records_of file)
+    unfolding tabled_of
+    all_counts = (accepted_by _ _ _ e).1
 
-    table_words : length (table_of file) ≡ t.counts.words
-    unfolding need_of
-    table_words = table_need file kept ∙ sym (ap (λ (c : Counts). c.words) counted)
+    table_words : length (table_of file) ≡ c.words
+    table_words = table_need file kept ∙ need_words file kept ∙ sym (ap (λ (c : Counts). c.words) all_counts)
 
-    pub words_fit : (words after : List ℕ) → after ≡ filled_by (first_broken (early file room)) file words → t.counts.words ≤ length after
-    words_fit words after h =
-        let f : first_broken (early file room) ≡ Fine = sym tabled ∙ q in
-        let g : after ≡ filled (table_of file) words = rw f at h in
-        rw (g, length-append) (omega (arith, table_words))
+    module _ {after : List ℕ} (h : after ≡ filled_by (first_broken (early file (length words))) file words) where
+      table_is : after ≡ filled (table_of file) words
+      table_is = rw early_kept at h
 
-    pub words_are : (words after : List ℕ) → after ≡ filled_by (first_broken (early file room)) file words → take t.counts.words after ≡ table_of file
-    words_are words after h =
-        let f : first_broken (early file room) ≡ Fine = sym tabled ∙ q in
-        let g : after ≡ filled (table_of file) words = rw f at h in
-        rw (g, ← table_words) (take-append_seam (table_of file) (drop (length (table_of file)) words))
+      pub words_fit : c.words ≤ length after
+      words_fit = rw (table_is, length-append) (omega (arith, table_words))
+
+      pub words_are : take c.words after ≡ table_of file
+      words_are = rw (table_is, ← table_words) (take-append_seam (table_of file) (drop (length (table_of file)) words))
 
     -- and the later stages speak
-    module _ {v : Verdict} (k : v ≡ first_broken (late file)) where
-      late_verdict : v ≡ first_broken (rules_of file room)
-      unfolding rules_of
-      late_verdict = goes_on (early file room) (late file) q tabled k
+    late_is : {v : Verdict} → v ≡ first_broken (late file) → v ≡ first_broken (rules_of file (length words))
+    unfolding rules_of
+    late_is k = goes_on (early file (length words)) (late file) refl (sym early_kept) k
 
-      pub late_judged : record { verdict = v; counts = t.counts } ≡ judged_of file room
-      late_judged = judged_is late_verdict
+    pub late_broken : {r : Refusal} → Err r ≡ first_broken (late file) → Err (record { refusal = r; need = 0 }) ≡ judged_of file (length words)
+    unfolding judged_of
+    late_broken {r} k =
+        let above = late_above file k in
+        rw (← late_is k, ne_eqb r.number 9 (λ z. omega arith))
 
-      stood : (v : Verdict) (words : List ℕ) → v ≡ first_broken (late file) → filled (table_of file) words ≡ table_by v file words
-      stood Fine words h = refl
-      stood (Err r) words h =
-          let b = between_both 10 18 n (broken_number ten_to18 (late file) (late_numbered file) (sym h)) in
-          let d : leb n 9 ≡ false = lt-leb n 9 b.0 in
-          rw d
+    pub late_kept : Fine ≡ first_broken (late file) → Ok c ≡ judged_of file (length words)
+    unfolding judged_of
+    late_kept k = rw (← late_is k, all_counts)
 
-      pub late_table : (words after : List ℕ) → room ≡ length words
-          → after ≡ filled_by (first_broken (early file room)) file words → after ≡ table_judged file words
-      unfolding table_judged
-      late_table words after l h =
-          let f : first_broken (early file room) ≡ Fine = sym tabled ∙ q in
-          rw (← l, ← late_verdict) ((rw f at h) ∙ stood v words k)
+    pub late_table : {v : Verdict} → v ≡ first_broken (late file) → {after : List ℕ}
+        → after ≡ filled_by (first_broken (early file (length words))) file words → after ≡ table_judged file words
+    unfolding table_judged
+    late_table {v} k h = rw (← late_is k) ((rw early_kept at h) ∙ stood v k)
+      where
+        stood : (v : Verdict) → v ≡ first_broken (late file) → filled (table_of file) words ≡ table_by v file words
+        stood Fine h = refl
+        stood (Err r) h = rw (lt-leb r.number 9 (late_above file h))

@@ -14,7 +14,7 @@ use Rattle.verdict.proofs.Numbers.{unlike, between_unlike, given_unlike, numbere
 use Rattle.verdict.proofs.Parts.{◌or_else◌, in_turn, both_fine, check_none, check_kept}
 use Rattle.walk.specs.declared.Counts.{Counts}
 use Rattle.walk.specs.States.{counts_at}
-use Rattle.walk.specs.Stages.{records_of, stage_one, stage_two, walked_of, need_of, third, words_of, room_rule, early}
+use Rattle.walk.specs.Stages.{records_of, stage_one, stage_two, walked_of, verdict_in, need_of, third, words_of, room_rule, early}
 use Rattle.walk.proofs.InOrder.{stages_numbered}
 use Rattle.walk.proofs.Judging.{walked_verdict}
 use Rattle.walk.proofs.Room.{need_words, need_counted}

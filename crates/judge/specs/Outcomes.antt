@@ -68,6 +68,26 @@ abbrev pub outcome_by : Verdict → Counts → ℕ → ℕ → Outcome
 outcome_by Fine c records n = outcome_with Fine c records n
 outcome_by (Err r) c records n = outcome_with (Err r) no_counts 0 n
 
+-- RULES 6.1, 9.1: behind all stages and what a call asks, the counts, or the refusal, with the need where it is 9
+unfoldable pub told_behind : List ℕ → ℕ → (Counts → Check) → Result Counts Refused
+told_behind file room last = tabled_by (call_verdict file room last) (counts_at file (records_of file)) (need_of file)
+
+-- RULES 9.1: such an answer of a call by refusal numbers, with r records if it accepts
+abbrev pub outcome_told : Result Counts Refused → ℕ → Outcome
+outcome_told (Ok c) r = outcome_by Fine c r 0
+outcome_told (Err x) r = record {
+  number = x.refusal.number;
+  place = x.refusal.place;
+  column = x.refusal.column;
+  meshes = 0;
+  layers = 0;
+  nodes = 0;
+  lines = 0;
+  areas = 0;
+  records = 0;
+  need = x.need;
+}
+
 -- RULES 9.1, 9.11: counted over the whole file
 unfoldable pub outcome_behind : List ℕ → ℕ → (Counts → Check) → Outcome
 outcome_behind file room last = outcome_by (call_verdict file room last) (counts_at file (records_of file)) (records_of file) (need_of file)
@@ -108,6 +128,16 @@ abbrev pub sums_by : Verdict → List ℕ → ℕ → Sums
 sums_by Fine file i =
     sums_with Fine (areas_sum file (table_of file) (layer_of file (i - 1))) (outside_sum file (table_of file) (layer_of file (i - 1)))
 sums_by (Err r) file i = sums_with (Err r) (pos 0) (pos 0)
+
+-- RULES 9.2: where the call accepts, the two sums of layer number i
+abbrev pub layer_told : Result Counts Refused → List ℕ → ℕ → Result (ℤ × ℤ) Refused
+layer_told (Ok c) file i = Ok (areas_sum file (table_of file) (layer_of file (i - 1)), outside_sum file (table_of file) (layer_of file (i - 1)))
+layer_told (Err x) file i = Err x
+
+-- RULES 9.2: such an answer by refusal numbers
+abbrev pub sums_told : Result (ℤ × ℤ) Refused → Sums
+sums_told (Ok s) = sums_with Fine s.0 s.1
+sums_told (Err x) = sums_with (Err x.refusal) (pos 0) (pos 0)
 
 -- RULES 9.2: the answer of the layer sums
 unfoldable pub sums_of : List ℕ → ℕ → ℕ → Sums

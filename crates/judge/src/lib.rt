@@ -6,9 +6,9 @@
 // what each lent buffer holds afterwards.
 #![tactic(auto)]
 
-ghost use Rattle.std.specs.Prelude.{◌≡◌, suc, ◌+◌, ◌*◌, ◌≤◌, pos, length};
+ghost use Rattle.std.specs.Prelude.{◌≡◌, [], ◌∷◌, suc, ◌+◌, ◌*◌, ◌≤◌, length, IfOk};
 ghost use Rattle.std.proofs.lemmas.List.Edits.{sets};
-ghost use Rattle.verdict.specs.Rules.{Fine, check, first_broken};
+ghost use Rattle.verdict.specs.Rules.{Fine, check, block, first_broken};
 ghost use Rattle.walk.specs.Row.{areas_word};
 ghost use Rattle.walk.specs.States.{counts_at, Countable};
 ghost use Rattle.walk.specs.Stages.{records_of, stage_two};
@@ -18,14 +18,14 @@ ghost use Rattle.layers.specs.Passing.{bases_of};
 ghost use Rattle.measures.specs.Points.{first_of};
 ghost use Rattle.entries.specs.Keeping.{kept_measure, Kept};
 ghost use Rattle.ground.specs.Layers.{area_of_layer, areas_sum, outside_sum, measures_to};
-ghost use Rattle.judge.specs.Rulebook.{late};
-ghost use Rattle.judge.specs.Outcomes.{judged_of, table_judged, asked_by, outcome_by, outcome_of, table_after, measures_after};
-ghost use Rattle.judge.specs.Outcomes.{sums_with, sums_of, table_after_sums, outcome_of_all, table_after_all, pairs_to, sums_after};
+ghost use Rattle.judge.specs.Rulebook.{late, eighth, measure_rule, layer_rule, pair_rule};
+ghost use Rattle.judge.specs.Outcomes.{judged_of, table_judged, told_behind, outcome_told, outcome_of, table_after, measures_after};
+ghost use Rattle.judge.specs.Outcomes.{layer_told, sums_told, sums_of, table_after_sums, outcome_of_all, table_after_all, pairs_to, sums_after};
 ghost use Rattle.judge.specs.Measuring.{Measurable, kept_area, outside_at, Summable, SummableTo};
 
 use layers::{Bases, Layer};
 use verdict::{Refusal, Verdict};
-use walk::{Counts, Tabled};
+use walk::{Counts, Refused};
 
 // What is answered: a refusal's number and place, or 0 at 0, 0; the file's meshes, layers, nodes, lines,
 // areas and records, 0 where it is refused; and the words that it needs where the table is too short (9),
@@ -115,14 +115,11 @@ fn area_measure(file: &[u8], l: Layer, kept: &[i64], a: usize) -> i64
     requires { (a ≤ 4294967295) × Measurable file.now (kept_measure l kept.now) a }
     ensures { result ≡ kept_area file.now l kept.now a }
 {
-    let n = entries::loops_at(file, a);
     let mut sum: i64 = 0;
     let mut f = a + 1;
-    let mut i: usize = 0;
-    while i < n {
+    for _ in 0..entries::loops_at(file, a) {
         sum += entries::loop_measure(file, l, kept, f);
         f += entries::loop_records(file, f);
-        i += 1;
     }
     sum
 }
@@ -132,11 +129,8 @@ fn fill_layer(file: &[u8], table: &[u32], l: Layer, kept: &[i64], at: usize, mea
     requires { (at + l.areas ≤ length measures.old) × Kept file.now table.now l kept.now × Summable file.now table.now l }
     ensures { measures.new ≡ sets measures.old at (first_of (λ a. area_of_layer file.now table.now l (suc a)) l.areas) }
 {
-    let n = l.areas as usize;
-    let mut a: usize = 0;
-    while a < n {
+    for a in 0..l.areas as usize {
         measures[at + a] = area_measure(file, l, kept, layers::area_word(table, l, a));
-        a += 1;
     }
 }
 
@@ -147,13 +141,11 @@ fn fill_measures(file: &[u8], table: &[u32], b: Bases, n: usize, measures: &mut 
 {
     let mut kept = [0i64; 9999];
     let mut at: usize = 0;
-    let mut i: usize = 0;
-    while i < n {
+    for i in 0..n {
         let l = layers::layer_in(table, b, i);
         let have = entries::keep_measures(file, table, l, &mut kept);
         fill_layer(file, table, l, &kept[..have], at, measures);
         at += l.areas as usize;
-        i += 1;
     }
 }
 
@@ -162,12 +154,9 @@ fn areas_sum(file: &[u8], table: &[u32], l: Layer, kept: &[i64]) -> i64
     requires { Kept file.now table.now l kept.now × Summable file.now table.now l }
     ensures { result ≡ areas_sum file.now table.now l }
 {
-    let n = l.areas as usize;
     let mut sum: i64 = 0;
-    let mut a: usize = 0;
-    while a < n {
+    for a in 0..l.areas as usize {
         sum += area_measure(file, l, kept, layers::area_word(table, l, a));
-        a += 1;
     }
     sum
 }
@@ -197,31 +186,25 @@ fn outside_sum(file: &[u8], table: &[u32], l: Layer, kept: &[i64]) -> i64
     requires { Kept file.now table.now l kept.now × Summable file.now table.now l }
     ensures { result ≡ outside_sum file.now table.now l }
 {
-    let n = l.lines as usize;
     let mut sum: i64 = 0;
-    let mut i: usize = 0;
-    while i < n {
+    for i in 0..l.lines as usize {
         sum += outside_at(file, table, l, kept, i + 1);
-        i += 1;
     }
     sum
 }
 
-// The sums of a layer of an accepted file; `table` is its table. `measures` has a place for each line;
-// what they hold before does not matter.
-fn sums_in(file: &[u8], table: &[u32], l: Layer, measures: &mut [i64]) -> Sums
+// The sum of a layer's areas' measures, and its outside sum; `table` is the table of an accepted file.
+// `measures` has a place for each line; what they hold before does not matter.
+fn sums_in(file: &[u8], table: &[u32], l: Layer, measures: &mut [i64]) -> (i64, i64)
     requires { Summable file.now table.now l × (9999 ≤ length measures.old) }
-    ensures { result ≡ sums_with Fine (areas_sum file.now table.now l) (outside_sum file.now table.now l) }
+    ensures { result ≡ (areas_sum file.now table.now l, outside_sum file.now table.now l) }
 {
     let have = entries::keep_measures(file, table, l, measures);
     let kept = &measures[..have];
-    Sums {
-        number: 0,
-        place: 0,
-        column: 0,
-        areas: areas_sum(file, table, l, kept),
-        outside: outside_sum(file, table, l, kept),
-    }
+    (
+        areas_sum(file, table, l, kept),
+        outside_sum(file, table, l, kept),
+    )
 }
 
 // The two sums of each of the first `n` layers, in file order.
@@ -230,23 +213,19 @@ fn fill_sums(file: &[u8], table: &[u32], b: Bases, n: usize, sums: &mut [i64])
     ensures { sums.new ≡ filled (pairs_to file.now table.now b n) sums.old }
 {
     let mut measures = [0i64; 9999];
-    let mut i: usize = 0;
-    while i < n {
-        let s = sums_in(file, table, layers::layer_in(table, b, i), &mut measures);
-        let areas = s.areas;
-        let outside = s.outside;
+    for i in 0..n {
+        let (areas, outside) = sums_in(file, table, layers::layer_in(table, b, i), &mut measures);
         sums[2 * i] = areas;
         sums[2 * i + 1] = outside;
-        i += 1;
     }
 }
 
 // ---- the calls
 
-// What a call answers: the counts and records of acceptance, or the refusal by its number, with the need where it is
-// told.
+// What a call answers: the counts and records of acceptance, or the refusal by its number, with the need
+// where it is told.
 fn outcome_of(file: &[u8], judged: Result<Counts, Refused>) -> Outcome
-    requires { Countable (counts_told judged) }
+    requires { IfOk judged Countable }
     ensures { result ≡ outcome_told judged (records_of file.now) }
 {
     match judged {
@@ -279,7 +258,9 @@ fn outcome_of(file: &[u8], judged: Result<Counts, Refused>) -> Outcome
 
 // Judges a file, asks for a place for each measure, and fills them in.
 fn judge_measures(file: &[u8], table: &mut [u32], measures: &mut [i64]) -> Result<Counts, Refused>
-    ensures { (result ≡ told_behind file.now (length table.old) (measure_rule (length measures.old))) × (table.new ≡ table_after file.now (length measures.old) table.old) × (measures.new ≡ measures_after file.now (length table.old) measures.old) }
+    ensures told { result ≡ told_behind file.now (length table.old) (measure_rule (length measures.old)) }
+    ensures table { table.new ≡ table_after file.now (length measures.old) table.old }
+    ensures measures { measures.new ≡ measures_after file.now (length table.old) measures.old }
 {
     let counts = judge_file(file, table)?;
     asked(19, counts.areas <= measures.len())?;
@@ -298,22 +279,43 @@ fn judge_measures(file: &[u8], table: &mut [u32], measures: &mut [i64]) -> Resul
 pub fn load(file: &[u8], table: &mut [u32], measures: &mut [i64]) -> Outcome
     ensures { (result ≡ outcome_of file.now (length table.old) (length measures.old)) × (table.new ≡ table_after file.now (length measures.old) table.old) × (measures.new ≡ measures_after file.now (length table.old) measures.old) }
 {
-    let judged = judge_measures(file, table, measures);
-    outcome_of(file, judged)
+    outcome_of(file, judge_measures(file, table, measures))
 }
 
-// A refusal, and no sums.
-fn no_sums(v: Verdict) -> Sums
-    ensures { result ≡ sums_with v (pos 0) (pos 0) }
+// What the layer sums answer: the two sums, or the refusal by its number and two sums of 0.
+fn sums_of(judged: Result<(i64, i64), Refused>) -> Sums
+    ensures { result ≡ sums_told judged }
 {
-    let refusal = verdict::by_number(v);
-    Sums {
-        number: refusal.number,
-        place: refusal.place,
-        column: refusal.column,
-        areas: 0,
-        outside: 0,
+    match judged {
+        Ok((areas, outside)) => Sums {
+            number: 0,
+            place: 0,
+            column: 0,
+            areas,
+            outside,
+        },
+        Err(Refused { refusal, .. }) => Sums {
+            number: refusal.number,
+            place: refusal.place,
+            column: refusal.column,
+            areas: 0,
+            outside: 0,
+        },
     }
+}
+
+// Judges a file, asks for layer number `layer`, and adds up its two sums.
+fn judge_layer(file: &[u8], table: &mut [u32], layer: u32) -> Result<(i64, i64), Refused>
+    ensures told { result ≡ layer_told (told_behind file.now (length table.old) (layer_rule layer)) file.now layer }
+    ensures table { table.new ≡ table_after_sums file.now layer table.old }
+{
+    let counts = judge_file(file, table)?;
+    let i = layer as usize;
+    asked(22, (1 <= i) & (i <= counts.layers))?;
+    let mut measures = [0i64; 9999];
+    let words = &table[..counts.words];
+    let l = layers::layer_in(words, bases_of(counts), i - 1);
+    Ok(sums_in(file, words, l, &mut measures))
 }
 
 // Judges a file and gives the two sums of layer number `layer`, 1 being the file's first: the sum of its
@@ -322,18 +324,25 @@ fn no_sums(v: Verdict) -> Sums
 pub fn layer_sums(file: &[u8], table: &mut [u32], layer: u32) -> Sums
     ensures { (result ≡ sums_of file.now (length table.old) layer) × (table.new ≡ table_after_sums file.now layer table.old) }
 {
-    let t = judge_file(file, table);
-    let counts = t.counts;
-    let stages = t.verdict;
-    let i = layer as usize;
-    let v = asked(stages, 22, (1 <= i) & (i <= counts.layers));
-    if let Err(_) = v {
-        return no_sums(v);
-    }
-    let mut measures = [0i64; 9999];
-    let words = &table[..counts.words];
-    let l = layers::layer_in(words, bases_of(counts), i - 1);
-    sums_in(file, words, l, &mut measures)
+    sums_of(judge_layer(file, table, layer))
+}
+
+// Judges a file, asks for two places for each layer, and fills the sums in.
+fn judge_sums(file: &[u8], table: &mut [u32], sums: &mut [i64]) -> Result<Counts, Refused>
+    ensures told { result ≡ told_behind file.now (length table.old) (pair_rule (length sums.old)) }
+    ensures table { table.new ≡ table_after_all file.now (length sums.old) table.old }
+    ensures sums { sums.new ≡ sums_after file.now (length table.old) sums.old }
+{
+    let counts = judge_file(file, table)?;
+    asked(48, 2 * counts.layers <= sums.len())?;
+    fill_sums(
+        file,
+        &table[..counts.words],
+        bases_of(counts),
+        counts.layers,
+        sums,
+    );
+    Ok(counts)
 }
 
 // Judges a file once for all of its layers, and leaves the two sums of each, in file order, in the first
@@ -342,19 +351,5 @@ pub fn layer_sums(file: &[u8], table: &mut [u32], layer: u32) -> Sums
 pub fn all_sums(file: &[u8], table: &mut [u32], sums: &mut [i64]) -> Outcome
     ensures { (result ≡ outcome_of_all file.now (length table.old) (length sums.old)) × (table.new ≡ table_after_all file.now (length sums.old) table.old) × (sums.new ≡ sums_after file.now (length table.old) sums.old) }
 {
-    let t = judge_file(file, table);
-    let counts = t.counts;
-    let stages = t.verdict;
-    let v = asked(stages, 48, 2 * counts.layers <= sums.len());
-    if let Err(_) = v {
-        return outcome_of(file, v, counts);
-    }
-    fill_sums(
-        file,
-        &table[..counts.words],
-        bases_of(counts),
-        counts.layers,
-        sums,
-    );
-    outcome_of(file, v, counts)
+    outcome_of(file, judge_sums(file, table, sums))
 }

@@ -1,67 +1,14 @@
--- `judge::all_sums` meets its contract: a refusal stands, of the stages or for too few places, and else the sums are filled in.
--- Assumes nothing.
-use mathlib.Core.Path.{◌≡◌, refl, sym}
-use native.Mathlib.Omega.{arith}
-use lib.Seq.{length-take-le}
-use borrow.Author.Tests.{leb-true}
-use Rattle.verdict.specs.Rules.{Fine}
+-- `judge::all_sums` meets its contract: the answer of `judge_sums` by refusal numbers. Assumes nothing.
+use mathlib.Core.Path.{◌∙◌}
+use lib.ListN.{length}
 use Rattle.judge.specs.Rulebook.{pair_rule}
-use Rattle.judge.specs.Outcomes.{sums_after}
-use Rattle.judge.proofs.Loading.{counts_few}
-use Rattle.judge.proofs.Calling.{judged_countable, judged_counts, judged_fit, judged_words, summable_to, pairs_are}
-use Rattle.judge.proofs.Calling.{outcome_told, table_told, lent_refused, stages_fine, last_kept, lent_kept}
+use Rattle.judge.proofs.Calling.{told_countable, outcome_is}
 use Rattle.judge.proofs.all_sums.Goals as goal
-use Rattle.judge.proofs.all_sums.Goals.{In_default}
-
--- accepted: they are kept
-kept : (c : In_default) → c.judge_file-t.result.verdict ≡ Fine
-kept c = stages_fine _ _ c.judge_file-t.ensures.0 (pair_rule _) c.asked-v.ensures c.in_default.is
-
-pub overflow_mul-counts : goal.overflow_mul-counts
-overflow_mul-counts c = omega (arith, (judged_countable _ _ c.judge_file-t.ensures.0).layers)
 
 pub outcome_of-requires : goal.outcome_of-requires
-outcome_of-requires c = judged_countable _ _ c.judge_file-t.ensures.0
-
-pub returns-in-Broken : goal.returns-in-Broken
-unfolding sums_after
-returns-in-Broken c =
-    let j = c.judge_file-t.ensures in (
-      outcome_told _ _ j.0 (pair_rule _) c.asked-v.ensures c.outcome_of.ensures,
-      table_told _ _ j.0 (pair_rule _) c.asked-v.ensures refl _ refl j.1,
-      lent_refused _ _ j.0 (pair_rule _) c.asked-v.ensures c.in-Broken.is _ _,
-    )
-
-pub slice_bounds-fill_sums-end : goal.slice_bounds-fill_sums-end
-slice_bounds-fill_sums-end c =
-    let j = c.judge_file-t.ensures in
-    judged_fit _ _ j.0 (kept (goal.at.slice_bounds-fill_sums-end c).In_default) _ refl j.1
-
-pub slice_bounds-fill_sums-end-2 : goal.slice_bounds-fill_sums-end-2
-slice_bounds-fill_sums-end-2 c =
-    let j = c.judge_file-t.ensures in
-    sym (length-take-le _ _ (judged_fit _ _ j.0 (kept (goal.at.slice_bounds-fill_sums-end-2 c).In_default) _ refl j.1))
-
-pub bases_of-requires : goal.bases_of-requires
-bases_of-requires c = counts_few _ (judged_counts _ _ c.judge_file-t.ensures.0 (kept (goal.at.bases_of-requires c).In_default))
-
-pub fill_sums-requires : goal.fill_sums-requires
-fill_sums-requires c =
-    let j = c.judge_file-t.ensures in
-    let w = judged_words _ _ j.0 (kept (goal.at.fill_sums-requires c).In_default) _ refl j.1 in
-    let l = leb-true _ _ (last_kept _ _ j.0 (pair_rule _) c.asked-v.ensures c.in_default.is) in
-    (summable_to _ _ j.0 (kept (goal.at.fill_sums-requires c).In_default) w c.bases_of.ensures, l)
-
-pub outcome_of-requires-2 : goal.outcome_of-requires-2
-outcome_of-requires-2 c = judged_countable _ _ c.judge_file-t.ensures.0
+outcome_of-requires c = told_countable _ _ (pair_rule (length c.args.sums.now)) c.judge_sums.ensures.told
 
 pub returns : goal.returns
-unfolding sums_after
 returns c =
-    let j = c.judge_file-t.ensures in
-    let w = judged_words _ _ j.0 (kept (goal.at.returns c).In_default) _ refl j.1 in
-    let f = pairs_are _ _ j.0 (kept (goal.at.returns c).In_default) w c.bases_of.ensures in (
-      outcome_told _ _ j.0 (pair_rule _) c.asked-v.ensures c.outcome_of-2.ensures,
-      table_told _ _ j.0 (pair_rule _) c.asked-v.ensures refl _ refl j.1,
-      lent_kept _ _ j.0 (pair_rule _) c.asked-v.ensures c.in_default.is _ _ (rw f at c.fill_sums.ensures),
-    )
+    let j = c.judge_sums.ensures in
+    (c.outcome_of.ensures ∙ outcome_is _ _ (pair_rule (length c.args.sums.now)) j.told, j.table, j.sums)

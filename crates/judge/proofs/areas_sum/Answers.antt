@@ -1,5 +1,5 @@
 use mathlib.Core.Path.{◌≡◌, sym, ◌∙◌, ap}
-use Prim.Native.Nat.{◌+◌, ◌-◌}
+use Prim.Native.Nat.{◌+◌}
 use native.Mathlib.Omega.{arith}
 use mir.Syntax.{w64}
 use mir.Val.{to_z}
@@ -19,11 +19,11 @@ next : (c : After-area_measure-sum)
 next c =
     let h = c.loop-a-test.true in
     let l = c.loop-a in
-    sum_added _ _ l.a c.requires.1.areas h l.invariant.1 c.area_measure-sum.type_inv
+    sum_added _ _ l.a c.requires.1.areas h l.invariant c.area_measure-sum.type_inv
     (area_told _ _ _ h c.area_word.ensures.0 c.requires.0 c.area_measure-sum.ensures)
 
 pub loop-a-init : goal.loop-a-init
-loop-a-init c = (omega arith, sym (sum_to_none _))
+loop-a-init c = sym (sum_to_none _)
 
 pub area_measure-sum-requires : goal.area_measure-sum-requires
 area_measure-sum-requires c =
@@ -33,11 +33,11 @@ pub overflow_add-sum : goal.overflow_add-sum
 overflow_add-sum c = (next (goal.at.overflow_add-sum c).After-area_measure-sum).fits
 
 pub loop-a-preserved : goal.loop-a-preserved
-loop-a-preserved c = (omega (arith, c.loop-a-test.true), (next (goal.at.loop-a-preserved c).After-area_measure-sum).is)
+loop-a-preserved c = (next (goal.at.loop-a-preserved c).After-area_measure-sum).is
 
 pub returns : goal.returns
 unfolding areas_sum
 returns c =
     let a = c.args in
     let e : c.loop-a.a ≡ a.l.areas = omega (arith, c.loop-a-test.false) in
-    c.loop-a.invariant.1 ∙ ap (λ n. sum_to n (area_of_layer a.file.now a.table.now a.l)) e
+    c.loop-a.invariant ∙ ap (λ n. sum_to n (area_of_layer a.file.now a.table.now a.l)) e

@@ -1,5 +1,5 @@
 use mathlib.Core.Path.{◌≡◌, sym, ◌∙◌, ap}
-use Prim.Native.Nat.{◌+◌, ◌-◌}
+use Prim.Native.Nat.{◌+◌}
 use native.Mathlib.Numerals.{add-one}
 use native.Mathlib.Omega.{arith}
 use mir.Syntax.{w64}
@@ -20,32 +20,21 @@ next : (c : After-outside_at-sum)
     c.args.table.now c.args.l))
 next c =
     let l = c.loop-i in
-    sum_added _ _ l.i c.requires.1.outside c.loop-i-test.true l.invariant.1
+    sum_added _ _ l.i c.requires.1.outside c.loop-i-test.true l.invariant
     c.outside_at-sum.type_inv (c.outside_at-sum.ensures ∙ ap (outside_at _ _ _) (add-one l.i))
 
 pub loop-i-init : goal.loop-i-init
-loop-i-init c = (omega arith, sym (sum_to_none _))
-
-pub overflow_add-i : goal.overflow_add-i
-overflow_add-i c = omega (arith, c.loop-i-test.true, c.requires.1.sound.few)
-
-pub outside_at-sum-requires : goal.outside_at-sum-requires
-outside_at-sum-requires c =
-    let p = c.requires in
-    (omega (arith, c.loop-i-test.true, p.1.sound.few), p.0)
+loop-i-init c = sym (sum_to_none _)
 
 pub overflow_add-sum : goal.overflow_add-sum
 overflow_add-sum c = (next (goal.at.overflow_add-sum c).After-outside_at-sum).fits
 
-pub overflow_add-i-in-loop-i : goal.overflow_add-i-in-loop-i
-overflow_add-i-in-loop-i c = omega (arith, c.loop-i-test.true, c.requires.1.sound.few)
-
 pub loop-i-preserved : goal.loop-i-preserved
-loop-i-preserved c = (omega (arith, c.loop-i-test.true), (next (goal.at.loop-i-preserved c).After-outside_at-sum).is)
+loop-i-preserved c = (next (goal.at.loop-i-preserved c).After-outside_at-sum).is
 
 pub returns : goal.returns
 unfolding outside_sum outside_at
 returns c =
     let a = c.args in
     let e : c.loop-i.i ≡ a.l.lines = omega (arith, c.loop-i-test.false) in
-    c.loop-i.invariant.1 ∙ ap (λ n. sum_to n (outside_at a.file.now a.table.now a.l)) e
+    c.loop-i.invariant ∙ ap (λ n. sum_to n (outside_at a.file.now a.table.now a.l)) e

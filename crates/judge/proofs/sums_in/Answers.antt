@@ -1,11 +1,10 @@
 -- `judge::sums_in` meets its contract: the lines' measures are kept once, for both sums. Assumes nothing.
 use mathlib.Core.Path.{sym, ◌∙◌, ap₂}
 use lib.Seq.{length-take-le}
+use lib.IntN.{ℤ}
 use mir.Facts.{to_z-of_z}
 use mir.Syntax.{w64}
-use Rattle.verdict.specs.Rules.{Fine}
 use Rattle.entries.proofs.Keeping.{kept_room, kept_lines}
-use Rattle.judge.specs.Outcomes.{sums_with}
 use Rattle.judge.proofs.sums_in.Goals as goal
 
 pub slice_bounds-kept-end-2 : goal.slice_bounds-kept-end-2
@@ -23,5 +22,6 @@ outside_sum-requires c =
 
 pub returns : goal.returns
 returns c =
-    ap₂ (sums_with Fine) (to_z-of_z {w = w64} (record { sfits = c.areas_sum.type_inv }) ∙ c.areas_sum.ensures)
+    let pair : ℤ → ℤ → ℤ × ℤ = λ x y. (x, y) in
+    ap₂ pair (to_z-of_z {w = w64} (record { sfits = c.areas_sum.type_inv }) ∙ c.areas_sum.ensures)
     (to_z-of_z {w = w64} (record { sfits = c.outside_sum.type_inv }) ∙ c.outside_sum.ensures)
