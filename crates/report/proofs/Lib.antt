@@ -2,3 +2,6 @@
 -- `Programs` that what they read settles what they print. The others serve the proofs.
 pub mod Decimals
 pub mod Signs
+pub mod Areas
+pub mod Lent
+pub mod Accepted

@@ -108,7 +108,7 @@ fn areas_page(file: &[u8], measures: &[i64]) -> Page
     let mut a: usize = 0;
     for k in 0..walk::records_of(file) {
         let t = records::record_view(file, k + 1);
-        if matches!(walk::due(s), Due::Area(_, _)) {
+        if let Due::Area(..) = walk::due(s) {
             let m = measures.get(a).copied().unwrap_or(0);
             put_area(&mut page, shown_of(s, t), m);
             a += 1;
