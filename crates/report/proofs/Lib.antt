@@ -3,5 +3,7 @@
 pub mod Decimals
 pub mod Signs
 pub mod Areas
+pub mod Answers
+pub mod Programs
 pub mod Lent
 pub mod Accepted
