@@ -10,7 +10,6 @@ use borrow.Author.Tests.{lt-ltb, le-ltb, eq-eqb, ne_eqb}
 use Rattle.walk.specs.Stages.{records_of}
 use Rattle.walk.specs.Row.{row_length}
 use Rattle.judge.specs.declared.Outcome.{Outcome}
-use Rattle.judge.specs.Rulebook.{verdict_of}
 use Rattle.judge.specs.Outcomes.{outcome_of, measures_of, measures_after}
 use Rattle.judge.proofs.Answers.{zero_accepts}
 use Rattle.judge.proofs.Measures.{measures_areas}

@@ -1,7 +1,7 @@
 -- The areas' lines, record by record: how many areas came, and the text so far. Assumes nothing.
-use mathlib.Core.Path.{◌≡◌, refl, ◌∙◌, ap, ap₂}
+use mathlib.Core.Path.{◌≡◌, refl, ap₂}
 use mathlib.Core.List.{List, [], ◌++◌}
-use Prim.Native.Nat.{ℕ, zero, suc, ◌+◌, ◌/◌, ◌≤◌, ◌<◌}
+use Prim.Native.Nat.{ℕ, zero, suc, ◌+◌, ◌/◌, ◌≤◌}
 use native.Mathlib.Numerals.{add-one}
 use native.Mathlib.Omega.{arith}
 use lib.IntN.{ℤ, pos}
@@ -16,7 +16,6 @@ use Rattle.walk.specs.declared.Counts.{Counts}
 use Rattle.walk.specs.States.{due_of, state_at, counted_for, counts_at}
 use Rattle.walk.specs.Stages.{records_of}
 use Rattle.walk.proofs.Dues.{grown}
-use Rattle.walk.proofs.Walking.{counts_small}
 use Rattle.report.specs.Texts.{shown_in, area_text, record_text, area_count, areas_text}
 
 -- the bound of the programs' input

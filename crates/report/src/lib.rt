@@ -11,12 +11,11 @@ ghost use Rattle.walk.specs.Stages.{records_of};
 ghost use Rattle.report.specs.Texts.{status_too_long, refused_text, ok_text, shown_in, area_text, areas_text, check_text, measure_text};
 
 use judge::Outcome;
+pub use page::Page;
 use rules::Due;
 use std::io::{Read, Write};
 use streams::Told;
 use walk::State;
-
-pub use page::Page;
 
 mod page;
 
