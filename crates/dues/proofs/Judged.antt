@@ -21,20 +21,20 @@ use Rattle.records.proofs.RecordLaws.{fault_free}
 use Rattle.verdict.specs.Rules.{Fine, Broken, first_broken, check, block, rows}
 use Rattle.verdict.proofs.Parts.{in_turn, both_fine, check_none, check_kept, check_broken}
 use Rattle.verdict.proofs.Holding.{Holding, all_hold, both_hold, row_fine}
+use Rattle.std.specs.Prelude.{Some}
 use Rattle.asks.specs.Asks.{Ask}
 use Rattle.rules.specs.declared.Due.{Due}
 use Rattle.rules.specs.declared.Due.TheVariants as due
 use Rattle.rules.specs.Checks.{kind_of, asked_of, form_checks, value_checks, with_number, with_code, along, checks_of}
 use Rattle.walk.specs.States.{due_of, state_at}
-use Rattle.walk.specs.Stages.{records_of, end_checks, stage_one, last_checks, stage_two, may_end, walked_of}
+use Rattle.walk.specs.Stages.{records_of, end_checks, stage_one, last_checks, stage_two, may_end, walked_of, verdict_in}
 use Rattle.walk.proofs.Judging.{ends_of, stage_two_rules, two_holds, whole, walked_verdict}
-use Rattle.dues.specs.declared.Owed.TheVariants.{A}
 use Rattle.dues.specs.Dues.{due_at}
 use Rattle.dues.proofs.Told.{told}
 
 -- ---- stage 2
 
-module _ (file : List ℕ) (k : ℕ) {j : Kind} (e : due_at file (k + 1) ≡ A j) where
+module _ (file : List ℕ) (k : ℕ) {j : Kind} (e : due_at file (k + 1) ≡ Some j) where
   told_is : k ≤ records_of file → kind_of (due_of (state_at file k)) ≡ j
   told_is l = let t = sym (told file k l) ∙ e in cc
 
@@ -87,7 +87,7 @@ module _ (t : List ℕ) where
 
 -- READ AS TOLD: in a file that keeps stages 1 and 2 each record is read by the kind that is told of it, without a refusal
 pub read_as_told : (file : List ℕ) → first_broken (stage_one file) ≡ Fine → first_broken (stage_two file) ≡ Fine
-    → (k : ℕ) → k < records_of file → {j : Kind} → due_at file (k + 1) ≡ A j → (reading_of j (record_of file (k + 1))).number ≡ 0
+    → (k : ℕ) → k < records_of file → {j : Kind} → due_at file (k + 1) ≡ Some j → (reading_of j (record_of file (k + 1))).number ≡ 0
 unfolding stage_one end_checks checks_of fields_of reading_of
 read_as_told file one two k l {j} e =
     let t = record_of file (k + 1) in
@@ -126,7 +126,7 @@ last_by r false = check_broken 2 r 1 4 false [] refl
 -- ENDED AS TOLD: where a file keeps stage 1 and each of its records the rules of stage 2, its end is fine if an M is told behind the last record;
 -- if any other record is, it is 4 there
 pub ended_as_told : (file : List ℕ) → first_broken (stage_one file) ≡ Fine → first_broken (rows (records_of file) (stage_two_rules file)) ≡ Fine
-    → {j : Kind} → due_at file (records_of file + 1) ≡ A j → verdict_in (walked_of file) ≡ cond (is_mesh j) Fine (Broken 4 (records_of file + 1) 1)
+    → {j : Kind} → due_at file (records_of file + 1) ≡ Some j → verdict_in (walked_of file) ≡ cond (is_mesh j) Fine (Broken 4 (records_of file + 1) 1)
 unfolding stage_two last_checks
 ended_as_told file one two e =
     let n = records_of file in

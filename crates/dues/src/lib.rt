@@ -11,20 +11,15 @@ ghost use Rattle.dues.specs.Dues.{due_at};
 use records::Kind;
 use walk::State;
 
-// What is told of a record: the kind that is due there, or nothing.
-#[derive(Clone, Copy)]
-pub enum Owed {
-    A(Kind),
-    Nothing,
-}
-
 // Where the walk stands behind the first `n` records; a quiet run is one step.
+#[tactic(auto, using(walk::proofs::Passing::pass_most))]
 fn behind(file: &[u8], n: usize) -> State
     requires { n ≤ 4294967295 }
     ensures { result ≡ state_at file.now n }
 {
     let mut s = walk::at_start();
     let mut k: usize = 0;
+    // a quiet run is one step, so no range counts this
     while k < n {
         s = walk::next(s, records::record_view(file, k + 1));
         k += 1;
@@ -36,17 +31,14 @@ fn behind(file: &[u8], n: usize) -> State
 }
 
 // The kind of record that is due at record `row`: of each record that is looked at, and of the first one
-// behind them.
-pub fn due_at(file: &[u8], row: u32) -> Owed
+// behind them; `None` elsewhere.
+pub fn due_at(file: &[u8], row: u32) -> Option<Kind>
     ensures { result ≡ due_at file.now row }
 {
-    let r = row as usize;
-    if r == 0 {
-        return Owed::Nothing;
+    let before = (row as usize).checked_sub(1)?;
+    if walk::records_of(file) < before {
+        return None;
     }
-    if walk::records_of(file) + 1 < r {
-        return Owed::Nothing;
-    }
-    let s = behind(file, r - 1);
-    Owed::A(rules::kind_of(walk::due(s)))
+    let s = behind(file, before);
+    Some(rules::kind_of(walk::due(s)))
 }

@@ -11,22 +11,17 @@ use mir.Facts.{to_z-of_z}
 use mir.Syntax.{Width}
 use mir.Val.{SFits, to_z, of_z, hbits}
 use borrow.Author.Tests.{ltb-true}
+use Rattle.std.proofs.lemmas.Int.{unsigned_abs-mul}
 use Rattle.measures.specs.Walks.{Small}
 
 -- ---- the magnitude
 
-pub abs_neg : (z : ℤ) → nat_abs (neg_ℤ z) ≡ nat_abs z
+abs_neg : (z : ℤ) → nat_abs (neg_ℤ z) ≡ nat_abs z
 abs_neg (pos zero) = refl
 abs_neg (pos (suc n)) = refl
 abs_neg (negsuc n) = refl
 
-pub abs_mul : (a b : ℤ) → nat_abs (a *ℤ b) ≡ nat_abs a * nat_abs b
-abs_mul (pos a) (pos b) = refl
-abs_mul (pos a) (negsuc b) = abs_neg (pos (a * suc b))
-abs_mul (negsuc a) (pos b) = abs_neg (pos (suc a * b))
-abs_mul (negsuc a) (negsuc b) = refl
-
-pub abs_add : (a b : ℤ) → nat_abs (a +ℤ b) ≤ nat_abs a + nat_abs b
+abs_add : (a b : ℤ) → nat_abs (a +ℤ b) ≤ nat_abs a + nat_abs b
 abs_add (pos a) (pos b) = omega arith
 abs_add (pos a) (negsuc b) = by_less a (suc b) (ltb a (suc b)) refl
   where
@@ -42,7 +37,7 @@ abs_add (negsuc a) (negsuc b) = omega arith
 
 -- a bound on each operation's result
 pub mul_small : {a b : ℤ} {m n : ℕ} → Small m a → Small n b → Small (m * n) (a *ℤ b)
-mul_small {a} {b} p q = record { small = rw (abs_mul a b) (mul-le-mul p.small q.small) }
+mul_small {a} {b} p q = record { small = rw (unsigned_abs-mul a b) (mul-le-mul p.small q.small) }
 
 pub neg_small : {a : ℤ} {m : ℕ} → Small m a → Small m (neg_ℤ a)
 neg_small {a} p = record { small = omega (arith, abs_neg a, p.small) }

@@ -1,29 +1,27 @@
 -- What the code's walk finds: each step fits, since what it reads as a coordinate is 166665 at most, and the walk's sum is the line's measure
 -- by the coordinates so read. Assumes nothing.
-use mathlib.Core.Bool.{Bool, true, false}
 use mathlib.Core.List.{List, [], append_assoc}
 use mathlib.Core.Path.{◌≡◌, refl, sym, ap, ◌∙◌}
 use Prim.Native.Nat.{ℕ, zero, suc, ◌+◌, ◌-◌, ◌*◌, ◌/◌, ◌%◌, ◌≤◌, ◌<◌}
 use native.Mathlib.Nat.{add-suc, add-zero}
 use native.Mathlib.Numerals.{add-one}
 use native.Mathlib.Omega.{arith}
-use lib.Dec.{ltb}
 use lib.IntN.{ℤ, pos, negsuc, nat_abs, ◌+ℤ◌, +ℤ_idl}
-use lib.Signed.{lt_z}
 use mir.Facts.{to_z-of_z}
 use mir.Syntax.{w32, w64}
 use mir.Val.{SFits, to_z, of_z}
-use borrow.Author.Tests.{ltb-true, ltb-false}
+use Rattle.std.specs.Prelude.{Result, Ok, Err}
+use Rattle.std.specs.Result.{OkIff, result_unwrap_or}
+use Rattle.std.specs.Int.{FitsUnsignedBits}
 use Rattle.measures.specs.Measures.{Point, cross, line_measure}
 use Rattle.measures.specs.Points.{pair_by, point_by, count_of, point_count, first_of, points_by, measure_by}
 use Rattle.measures.specs.Sound.{added_up}
-use Rattle.measures.specs.Walks.{Small, Near, far, Seven, step_to, walk_along, begin}
+use Rattle.measures.specs.Walks.{Small, Near, far, step_to, walk_along, begin}
 use Rattle.measures.specs.declared.Walk.{Walk}
 use Rattle.records.specs.View.{record_of, number_in}
 use Rattle.records.proofs.Numbers.{number_none}
 use Rattle.fields.proofs.FieldLaws.{number_small}
 use Rattle.glances.proofs.Remainders.{five_small}
-use Rattle.fields.proofs.Signs.{is_negative, is_natural}
 use Rattle.measures.proofs.Bounds.{mul_small, sub_small, add_small, small_le, read_back}
 use Rattle.measures.proofs.MeasureLaws.{cross_origin, line_none, line_one, line_more}
 
@@ -116,28 +114,20 @@ module _ (read : List ℕ → ℕ → ℤ) (file : List ℕ) (r : ℕ) where
 
 -- ---- the line's count
 
--- by the code's test of the number v that stands there
-module _ (file : List ℕ) (r : ℕ) (v : ℤ) (f : SFits w32 v) (e : v ≡ number_in file r 50 6) where
-  pub count_below : lt_z (to_z w32 (of_z w32 v)) (pos 0) ≡ true → 0 ≡ point_count file r
-  unfolding point_count
-  count_below t =
-      let n = is_negative v f t in
-      rw (← e, n.1)
+-- as the code has it: the number z as a usize, and 0 where it is below 0
+counted : (z : ℤ) {E : Type 0} (t : Result ℕ E) → nat_abs z < 1000000 → OkIff t (FitsUnsignedBits 64 z) (nat_abs z) → result_unwrap_or t 0 ≡ count_of z
+counted (pos n) (Ok x) l h = h.1
+counted (pos n) (Err e) l h = absurd (h (omega arith))
+counted (negsuc n) (Ok x) l h = absurd h.0
+counted (negsuc n) (Err e) l h = refl
 
-  count_size : lt_z (to_z w32 (of_z w32 v)) (pos 0) ≡ false → nat_abs (to_z w32 (of_z w32 v)) ≡ nat_abs v
-  count_size t = ap nat_abs (to_z-of_z f)
-
-  pub count_is : lt_z (to_z w32 (of_z w32 v)) (pos 0) ≡ false → nat_abs (to_z w32 (of_z w32 v)) ≡ point_count file r
-  unfolding point_count
-  count_is t =
-      let n = is_natural v f t in
-      count_size t ∙ rw (← e, n.1)
-
-  pub count_small : nat_abs (to_z w32 (of_z w32 v)) ≤ 999999
-  unfolding number_in
-  count_small =
-      let h : nat_abs v < 1000000 = rw e (number_small (record_of file r) 50 6) in
-      rw (to_z-of_z f) (omega arith)
+-- of the number v that stands there
+pub count_is : (file : List ℕ) (r : ℕ) {v : ℤ} {E : Type 0} (t : Result ℕ E) → SFits w32 v → v ≡ number_in file r 50 6
+    → OkIff t (FitsUnsignedBits 64 (to_z w32 (of_z w32 v))) (nat_abs (to_z w32 (of_z w32 v))) → result_unwrap_or t 0 ≡ point_count file r
+unfolding point_count number_in
+count_is file r {v} t f e h =
+    let l : nat_abs v < 1000000 = rw e (number_small (record_of file r) 50 6) in
+    counted v t l (rw (to_z-of_z f) at h) ∙ rw e
 
 -- ---- the walk's sum is the line's measure
 
@@ -160,22 +150,6 @@ unfolding measure_by points_by
 measure_is read file r e = rw e (walk_measure (point_by read file r) (point_count file r))
 
 -- ---- from record to record
-
--- points are left, so the record was full
-pub full : {left part : ℕ} → Seven left part → 0 < left - part → part ≡ 7
-full {left} {part} s h = by (ltb part 7) refl
-  where
-    by : (t : Bool) → ltb part 7 ≡ t → part ≡ 7
-    by true e = absurd (omega (arith, s.all (ltb-true part 7 e)))
-    by false e = omega (arith, s.few, ltb-false part 7 e)
-
--- something is left, so the record takes something
-pub one_or_more : {left part : ℕ} → Seven left part → 0 < left → 0 < part
-one_or_more {left} {part} s h = by (ltb part 7) refl
-  where
-    by : (t : Bool) → ltb part 7 ≡ t → 0 < part
-    by true e = omega (arith, s.all (ltb-true part 7 e))
-    by false e = omega (arith, ltb-false part 7 e)
 
 -- a turn of the code's loop: the record behind k takes `part` of what is left
 pub turn : (read : List ℕ → ℕ → ℤ) (file : List ℕ) (line n left k part : ℕ) → line ≤ k → left ≤ n → part ≤ left → part ≤ 7 → n - left ≡ 7 * (k - line)

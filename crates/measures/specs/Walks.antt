@@ -1,5 +1,5 @@
 -- How the code walks: a sum and the point where it stands. It serves the code and is no part of a promise. Assumes nothing.
-use Rattle.std.specs.Prelude.{◌≡◌, ℕ, zero, suc, ◌≤◌, ◌<◌, ℤ, pos, nat_abs, ◌+ℤ◌}
+use Rattle.std.specs.Prelude.{ℕ, zero, suc, ◌≤◌, ℤ, pos, nat_abs, ◌+ℤ◌}
 use Rattle.measures.specs.Measures.{Point, cross}
 use Rattle.measures.specs.declared.Walk.{Walk}
 
@@ -33,9 +33,3 @@ pub record Near (b m : ℕ) (w : Walk) : Type 0 where
 -- what five bytes come to at most, read by their remainders
 abbrev pub far : ℕ
 far = 166665
-
--- what one record takes of the points that are left: seven, or all
-pub record Seven (left part : ℕ) : Type 0 where
-  pub few : part ≤ 7
-  pub within : part ≤ left
-  pub all : part < 7 → part ≡ left

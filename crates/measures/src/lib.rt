@@ -7,7 +7,7 @@
 
 ghost use Rattle.std.specs.Prelude.{◌≡◌, ◌≤◌};
 ghost use Rattle.measures.specs.Points.{pair_by, point_count, measure_by};
-ghost use Rattle.measures.specs.Walks.{Small, Near, far, Seven, step_to, walk_along};
+ghost use Rattle.measures.specs.Walks.{Small, Near, far, step_to, walk_along};
 ghost use Rattle.measures.specs.Sound.{added_up};
 
 // A walk along points: the sum so far, and the point where it stands.
@@ -19,10 +19,11 @@ struct Walk {
 }
 
 // The coordinate that starts at a column, read without a test of a byte: it is 166665 at most.
+#[tactic(auto, unfolding(crate::specs::Sound::added_up))]
 fn coordinate(s: &[u8], column: usize) -> i64
     ensures { result ≡ added_up s.now column }
 {
-    glances::sum_of_five(s, column) as i64
+    i64::from(glances::sum_of_five(s, column))
 }
 
 // One step (RULES 7.1): x2*y1 - x1*y2 from where the walk stands.
@@ -30,11 +31,8 @@ fn step(w: Walk, x: i64, y: i64) -> Walk
     requires { (Near far 1000000000000000000 w) × (Small far x) × (Small far y) }
     ensures { result ≡ step_to w (record { x = x; y = y }) }
 {
-    let x1 = w.x;
-    let y1 = w.y;
-    let sum = w.sum;
     Walk {
-        sum: sum + (x * y1 - x1 * y),
+        sum: w.sum + (x * w.y - w.x * y),
         x,
         y,
     }
@@ -46,13 +44,10 @@ fn walk_record(s: &[u8], count: usize, w: Walk) -> Walk
     ensures { result ≡ walk_along w (pair_by added_up s.now) count }
 {
     let mut at = w;
-    let mut i = 0;
-    while i < count {
+    for i in 0..count {
         let x = coordinate(s, records::slot_column(records::POINTS_X, i));
         let y = coordinate(s, records::slot_column(records::POINTS_Y, i));
-        let next = step(at, x, y);
-        at = next;
-        i += 1;
+        at = step(at, x, y);
     }
     at
 }
@@ -61,21 +56,7 @@ fn walk_record(s: &[u8], count: usize, w: Walk) -> Walk
 fn point_count(file: &[u8], line: usize) -> usize
     ensures { (result ≡ point_count file.now line) × (result ≤ 999999) }
 {
-    let n = records::value_at(file, line, records::LINE_POINTS);
-    if n < 0 {
-        return 0;
-    }
-    n as usize
-}
-
-// The points that one record takes of those that are left.
-fn seven_of(left: usize) -> usize
-    ensures { Seven left result }
-{
-    if left < 7 {
-        return left;
-    }
-    7
+    usize::try_from(records::value_at(file, line, records::LINE_POINTS)).unwrap_or(0)
 }
 
 // The line whose L is record `line`, measured without a test of a byte: its measure, where its coordinates
@@ -86,15 +67,14 @@ pub fn line_measure(file: &[u8], line: usize) -> i64
     if file.len() / 74 < line {
         return 0;
     }
-    let n = point_count(file, line);
-    let mut left = n;
+    let mut left = point_count(file, line);
     let mut k = line;
     let mut w = Walk { sum: 0, x: 0, y: 0 };
+    // what is left falls by a record's part, so no range counts the turns
     while 0 < left {
         k += 1;
-        let part = seven_of(left);
-        let next = walk_record(records::record_view(file, k), part, w);
-        w = next;
+        let part = left.min(7);
+        w = walk_record(records::record_view(file, k), part, w);
         left -= part;
     }
     w.sum

@@ -22,11 +22,7 @@ pub fn natural(v: i32) -> bool
 pub fn size(v: i32) -> usize
     ensures { result ≡ size v }
 {
-    let w = v as i64;
-    if w < 0 {
-        return (0 - w) as usize;
-    }
-    w as usize
+    v.unsigned_abs() as usize
 }
 
 // Just 0.
@@ -37,11 +33,11 @@ pub fn is_zero(v: i32) -> bool
 }
 
 // One of `low` to `high`.
+#[tactic(auto, unfolding(crate::specs::Permitted::within))]
 pub fn within(v: i32, low: usize, high: usize) -> bool
     ensures { result ≡ within low high v }
 {
-    let n = size(v);
-    natural(v) & ((low <= n) & (n <= high))
+    natural(v) & (low..=high).contains(&size(v))
 }
 
 // Just `n`.
@@ -59,6 +55,7 @@ pub fn at_least(v: i32, n: usize) -> bool
 }
 
 // 100000 to 999999, the last two digits each 0 to 7.
+#[tactic(auto, unfolding(crate::specs::Permitted::is_mesh_code))]
 pub fn is_mesh_code(v: i32) -> bool
     ensures { result ≡ is_mesh_code v }
 {
@@ -67,6 +64,7 @@ pub fn is_mesh_code(v: i32) -> bool
 }
 
 // Above the mesh code before, with the same first four digits.
+#[tactic(auto, unfolding(crate::specs::Permitted::follows_mesh))]
 pub fn follows_mesh(last: usize, v: i32) -> bool
     ensures { result ≡ follows_mesh last v }
 {
@@ -78,12 +76,10 @@ pub fn follows_mesh(last: usize, v: i32) -> bool
 fn one_or_five(n: usize) -> bool
     ensures { result ≡ one_or_five n }
 {
-    match n {
-        1 | 5 => true,
-        _ => false,
-    }
+    matches!(n, 1 | 5)
 }
 
+#[tactic(auto, unfolding(crate::specs::Permitted::is_layer_code))]
 pub fn is_layer_code(v: i32) -> bool
     ensures { result ≡ is_layer_code v }
 {
@@ -91,6 +87,7 @@ pub fn is_layer_code(v: i32) -> bool
 }
 
 // Above the layer code before.
+#[tactic(auto, unfolding(crate::specs::Permitted::follows_layer))]
 pub fn follows_layer(last: usize, v: i32) -> bool
     ensures { result ≡ follows_layer last v }
 {
@@ -98,40 +95,35 @@ pub fn follows_layer(last: usize, v: i32) -> bool
 }
 
 // Year times 100 plus month; 0 is missing.
+#[tactic(auto, unfolding(crate::specs::Permitted::is_date))]
 pub fn is_date(v: i32) -> bool
     ensures { result ≡ is_date v }
 {
     let n = size(v);
-    natural(v) & ((n == 0) | ((n / 100 <= 99) & ((1 <= n % 100) & (n % 100 <= 12))))
+    natural(v) & ((n == 0) | ((n / 100 <= 99) & matches!(n % 100, 1..=12)))
 }
 
 fn node_item_one(n: usize) -> bool
     ensures { result ≡ node_item_one n }
 {
-    match n {
-        1..=4 => true,
-        _ => false,
-    }
+    matches!(n, 1..=4)
 }
 
 fn node_item_five(n: usize) -> bool
     ensures { result ≡ node_item_five n }
 {
-    match n {
-        1 | 6 | 8 => true,
-        _ => false,
-    }
+    matches!(n, 1 | 6 | 8)
 }
 
+#[tactic(auto, unfolding(crate::specs::Permitted::is_node_item))]
 pub fn is_node_item(layer: usize, v: i32) -> bool
     ensures { result ≡ is_node_item layer v }
 {
     let n = size(v);
-    let plain = natural(v);
     match layer {
-        1 => plain & node_item_one(n),
-        5 => plain & node_item_five(n),
-        _ => plain & false,
+        1 => natural(v) & node_item_one(n),
+        5 => natural(v) & node_item_five(n),
+        _ => false,
     }
 }
 
@@ -139,67 +131,51 @@ pub fn is_node_item(layer: usize, v: i32) -> bool
 fn on_frame(x: usize, y: usize) -> bool
     ensures { result ≡ on_frame x y }
 {
-    ((x == 0) | (x == 10000)) | ((y == 0) | (y == 10000))
+    matches!(x, 0 | 10000) | matches!(y, 0 | 10000)
 }
 
 // 1 exactly if X or Y is 0 or 10000, else 0.
+#[tactic(auto, unfolding(crate::specs::Permitted::is_frame))]
 pub fn is_frame(x: i32, y: i32, v: i32) -> bool
     ensures { result ≡ is_frame x y v }
 {
-    let n = size(v);
-    let plain = natural(v);
-    if on_frame(size(x), size(y)) {
-        return plain & (n == 1);
-    }
-    plain & (n == 0)
+    natural(v) & (size(v) == usize::from(on_frame(size(x), size(y))))
 }
 
 fn line_item_one(n: usize) -> bool
     ensures { result ≡ line_item_one n }
 {
-    match n {
-        1..=5 | 9 => true,
-        _ => false,
-    }
+    matches!(n, 1..=5 | 9)
 }
 
 fn line_item_five(n: usize) -> bool
     ensures { result ≡ line_item_five n }
 {
-    match n {
-        2 | 9 => true,
-        _ => false,
-    }
+    matches!(n, 2 | 9)
 }
 
+#[tactic(auto, unfolding(crate::specs::Permitted::is_line_item))]
 pub fn is_line_item(layer: usize, v: i32) -> bool
     ensures { result ≡ is_line_item layer v }
 {
     let n = size(v);
-    let plain = natural(v);
     match layer {
-        1 => plain & line_item_one(n),
-        5 => plain & line_item_five(n),
-        _ => plain & false,
+        1 => natural(v) & line_item_one(n),
+        5 => natural(v) & line_item_five(n),
+        _ => false,
     }
 }
 
 fn line_kind_one(n: usize) -> bool
     ensures { result ≡ line_kind_one n }
 {
-    match n {
-        0..=2 | 9 => true,
-        _ => false,
-    }
+    matches!(n, 0..=2 | 9)
 }
 
 fn line_kind_five(n: usize) -> bool
     ensures { result ≡ line_kind_five n }
 {
-    match n {
-        1..=2 | 9 => true,
-        _ => false,
-    }
+    matches!(n, 1 | 2 | 9)
 }
 
 // What a layer permits as a line's kind.
@@ -217,13 +193,11 @@ fn layer_kind(layer: usize, n: usize) -> bool
 pub fn same(a: bool, b: bool) -> bool
     ensures { result ≡ same a b }
 {
-    if a {
-        return b;
-    }
-    !b
+    a == b
 }
 
 // The layer's kinds; 9 exactly if the item is.
+#[tactic(auto, unfolding(crate::specs::Permitted::is_line_kind))]
 pub fn is_line_kind(layer: usize, item: i32, v: i32) -> bool
     ensures { result ≡ is_line_kind layer item v }
 {
@@ -234,12 +208,10 @@ pub fn is_line_kind(layer: usize, item: i32, v: i32) -> bool
 fn link_size(n: usize) -> bool
     ensures { result ≡ link_size n }
 {
-    match n {
-        0..=2 => true,
-        _ => false,
-    }
+    matches!(n, 0..=2)
 }
 
+#[tactic(auto, unfolding(crate::specs::Permitted::is_link))]
 pub fn is_link(v: i32) -> bool
     ensures { result ≡ is_link v }
 {
@@ -251,12 +223,13 @@ fn code_size(layer: usize, n: usize) -> bool
     ensures { result ≡ layered layer (leb 1 n && leb n 99999) (leb n 99999) }
 {
     match layer {
-        1 => (1 <= n) & (n <= 99999),
+        1 => matches!(n, 1..=99999),
         5 => n <= 99999,
         _ => false,
     }
 }
 
+#[tactic(auto, unfolding(crate::specs::Permitted::is_code))]
 pub fn is_code(layer: usize, v: i32) -> bool
     ensures { result ≡ is_code layer v }
 {
@@ -264,6 +237,7 @@ pub fn is_code(layer: usize, v: i32) -> bool
 }
 
 // An L's area number: 0 or more, and 0 exactly if the code beside it is 88888.
+#[tactic(auto, unfolding(crate::specs::Permitted::is_side))]
 pub fn is_side(code: i32, v: i32) -> bool
     ensures { result ≡ is_side code v }
 {
@@ -272,16 +246,15 @@ pub fn is_side(code: i32, v: i32) -> bool
 
 // What tells of areas, by its layer's letters: under H1, which are 1, it is 0, and else `ok` says whether its
 // own rule permits it.
+#[tactic(auto, unfolding(crate::specs::Permitted::of_areas))]
 pub fn of_areas(letters: u32, v: i32, ok: bool) -> bool
     ensures { result ≡ of_areas letters v ok }
 {
-    if letters == 1 {
-        return is(v, 0);
-    }
-    ok
+    if letters == 1 { is(v, 0) } else { ok }
 }
 
 // An A's code: never 88888.
+#[tactic(auto, unfolding(crate::specs::Permitted::is_area_code))]
 pub fn is_area_code(layer: usize, v: i32) -> bool
     ensures { result ≡ is_area_code layer v }
 {
@@ -289,38 +262,35 @@ pub fn is_area_code(layer: usize, v: i32) -> bool
 }
 
 // Not 0 within the count, 0 past it.
+#[tactic(auto, unfolding(crate::specs::Permitted::is_slot))]
 pub fn is_slot(counted: bool, v: i32) -> bool
     ensures { result ≡ is_slot counted v }
 {
-    let n = size(v);
-    if counted {
-        return n != 0;
-    }
-    n == 0
+    (size(v) != 0) == counted
 }
 
 // 0 to 10000 within the count, 0 past it.
+#[tactic(auto, unfolding(crate::specs::Permitted::is_point))]
 pub fn is_point(counted: bool, v: i32) -> bool
     ensures { result ≡ is_point counted v }
 {
     if counted {
-        return within(v, 0, 10000);
+        within(v, 0, 10000)
+    } else {
+        is_zero(v)
     }
-    size(v) == 0
 }
 
 // The serial behind `last`.
+#[tactic(auto, unfolding(crate::specs::Permitted::is_next))]
 pub fn is_next(last: usize, v: i32) -> bool
     ensures { result ≡ is_next last v }
 {
-    let n = size(v);
-    if n == 0 {
-        return false;
-    }
-    natural(v) & (n - 1 == last)
+    natural(v) & (size(v).checked_sub(1) == Some(last))
 }
 
 // The serial of loop `n`: 1, -2, -3 and on.
+#[tactic(auto, unfolding(crate::specs::Permitted::is_loop_serial))]
 pub fn is_loop_serial(n: usize, v: i32) -> bool
     ensures { result ≡ is_loop_serial n v }
 {

@@ -15,6 +15,7 @@ pub struct Position {
 }
 
 // A position beside its refusal number: 0, or 6 with both degrees 0.
+// kept: the C interface hands this record out as it lies, so it is no Result
 #[repr(C)]
 #[derive(Clone, Copy)]
 pub struct Placed {
@@ -49,28 +50,27 @@ fn place(mesh: u32, x: u32, y: u32) -> Placed
     Placed {
         number: 0,
         position: Position {
-            latitude: latitude as f64 / 360000.0,
-            longitude: longitude as f64 / 720000.0,
+            latitude: f64::from(latitude) / 360000.0,
+            longitude: f64::from(longitude) / 720000.0,
         },
     }
 }
 
 // The position of the point (`x`, `y`) on the sheet with the code `mesh`.
+#[tactic(auto, using(permitted::proofs::Bounds::code_most, permitted::proofs::Bounds::within_most), unfolding(crate::specs::Degrees::position_of))]
 pub fn position_of(mesh: i32, x: i32, y: i32) -> Placed
     ensures { result ≡ position_of mesh x y }
 {
-    if !permitted::is_mesh_code(mesh) {
-        return refused();
+    if permitted::is_mesh_code(mesh)
+        && permitted::within(x, 0, 10000)
+        && permitted::within(y, 0, 10000)
+    {
+        place(
+            permitted::size(mesh) as u32,
+            permitted::size(x) as u32,
+            permitted::size(y) as u32,
+        )
+    } else {
+        refused()
     }
-    if !permitted::within(x, 0, 10000) {
-        return refused();
-    }
-    if !permitted::within(y, 0, 10000) {
-        return refused();
-    }
-    place(
-        permitted::size(mesh) as u32,
-        permitted::size(x) as u32,
-        permitted::size(y) as u32,
-    )
 }

@@ -9,7 +9,8 @@ use native.Mathlib.Omega.{arith}
 use lib.Dec.{leb, eqb}
 use borrow.Author.Tests.{le-leb, lt-leb, eq-eqb, ne_eqb}
 use Rattle.records.specs.View.{record_of}
-use Rattle.records.specs.Columns.{layer_records, area_lines}
+use Rattle.std.specs.Prelude.{Err}
+use Rattle.verdict.specs.declared.Refusal.{Refusal}
 use Rattle.verdict.specs.Rules.{Verdict, Fine, Broken, Rule, check, first_broken, block, rows}
 use Rattle.verdict.specs.Order.{Sorted, rising}
 use Rattle.verdict.proofs.Parts.{rows_stop, rows_done, check_none, check_kept, check_broken}
@@ -24,7 +25,7 @@ use Rattle.walk.specs.Quiet.{is_quiet, Quiet}
 use Rattle.walk.proofs.Walking.{size_small}
 use Rattle.walk.proofs.Passing.{by_quiet, quiet_is, passed_due, passed_rows}
 use Rattle.totals.specs.declared.Sums.{Sums}
-use Rattle.totals.specs.Totals.{rank_of, no_sums, one_more, added_for, sums_from, sums_behind, total_check}
+use Rattle.totals.specs.Totals.{rank_of, no_sums, one_more, added_for, sums_from, sums_behind}
 use Rattle.totals.specs.Totals.{mesh_totals, layer_totals, area_totals, total_checks, fourth, stage_three}
 use Rattle.totals.specs.Adding.{Addable}
 
@@ -169,27 +170,18 @@ module _ (r c x y : ℕ) {m : ℕ} (e : m ≡ x) where
   pub total_kept : m ≡ y → Fine ≡ first_broken (block fourth r (check c 10 (eqb x y) ∷ []))
   total_kept h = check_none fourth r ∙ sym (check_kept fourth r c 10 (eqb x y) [] (rw (← e) (eq-eqb m y h)))
 
--- a later record of a loop adds no line count
-pub later_loop : (a b left : ℕ) (s : Sums) (t : List ℕ) → (left ≡ 0 → ⊥) → one_more s ≡ added_for (Loop a b left) s t
-later_loop a b zero s t h = absurd (h refl)
-later_loop a b (suc left) s t h = refl
+-- ---- records that bear no total
 
--- ---- a record's totals, by the code's arms
-
-module _ (file : List ℕ) (k : ℕ) {d : Due} {t : List ℕ} {s : Sums} {v : Verdict} where
-  pub mesh_arm : {last : ℕ} → d ≡ Mesh last → t ≡ record_of file (k + 1) → s ≡ sums_behind 0 file (k + 1)
-      → v ≡ first_broken (block fourth (k + 1) (mesh_totals t s)) → v ≡ first_broken (block fourth (k + 1) (total_checks d file k))
-  mesh_arm e f g h = rw (e, ← f, ← g) h
-
-  pub layer_arm : {last : ℕ} → d ≡ Layer last → t ≡ record_of file (k + 1) → s ≡ sums_behind 1 file (k + 1)
-      → v ≡ first_broken (block fourth (k + 1) (total_check t layer_records s.records ∷ [])) → v ≡ first_broken (block fourth (k + 1) (total_checks d file k))
-  unfolding layer_totals
-  layer_arm e f g h = rw (e, ← f, ← g) h
-
-  pub area_arm : {layer last : ℕ} → d ≡ Area layer last → t ≡ record_of file (k + 1) → s ≡ sums_behind 2 file (k + 1)
-      → v ≡ first_broken (block fourth (k + 1) (total_check t area_lines s.entries ∷ [])) → v ≡ first_broken (block fourth (k + 1) (total_checks d file k))
-  unfolding area_totals
-  area_arm e f g h = rw (e, ← f, ← g) h
+-- any but an M, an H or an A
+pub none_arm : (file : List ℕ) (k : ℕ) (d : Due) → ((last : ℕ) → d ≡ Mesh last → ⊥) → ((last : ℕ) → d ≡ Layer last → ⊥)
+    → ((layer last : ℕ) → d ≡ Area layer last → ⊥) → Fine ≡ first_broken (block fourth (k + 1) (total_checks d file k))
+none_arm _ k (Mesh last) m h a = absurd (m last refl)
+none_arm _ k (Layer last) m h a = absurd (h last refl)
+none_arm _ k (Node layer last) m h a = check_none fourth (k + 1)
+none_arm _ k (Line layer last letters) m h a = check_none fourth (k + 1)
+none_arm _ k (Coordinates left) m h a = check_none fourth (k + 1)
+none_arm _ k (Area layer last) m h a = absurd (a layer last refl)
+none_arm _ k (Loop last count left) m h a = check_none fourth (k + 1)
 
 -- ---- the loop over all records
 
@@ -212,7 +204,7 @@ pub three_quiet : (file : List ℕ) (k : ℕ) {h : ℕ} {s : State} → s ≡ st
 three_quiet file k e q = passed_rows file k e q (totals_of file) (λ i. quiet_kept file i (due_of (state_at file i)))
 
 module _ (file : List ℕ) {n : ℕ} (e : n ≡ records_of file) where
-  pub three_stops : (k : ℕ) {v : Verdict} {a b c : ℕ} → v ≡ Broken a b c → v ≡ first_broken (totals_of file k)
+  pub three_stops : (k : ℕ) {v : Verdict} {r : Refusal} → v ≡ Err r → v ≡ first_broken (totals_of file k)
       → first_broken (rows k (totals_of file)) ≡ Fine → k < n → v ≡ first_broken (stage_three file)
   unfolding stage_three
   three_stops k q h f l = rows_stop (totals_of file) (records_of file) k (omega (arith, e)) f h q
@@ -225,13 +217,13 @@ module _ (file : List ℕ) {n : ℕ} (e : n ≡ records_of file) where
 
 total_rising : (d : Due) (file : List ℕ) (k : ℕ) → rising (total_checks d file k) ≡ true
 unfolding mesh_totals layer_totals area_totals
-total_rising (Mesh last) file k = refl
-total_rising (Layer last) file k = refl
-total_rising (Node layer last) file k = refl
-total_rising (Line layer last letters) file k = refl
-total_rising (Coordinates left) file k = refl
-total_rising (Area layer last) file k = refl
-total_rising (Loop last count left) file k = refl
+total_rising (Mesh last) _ _ = refl
+total_rising (Layer last) _ _ = refl
+total_rising (Node layer last) _ _ = refl
+total_rising (Line layer last letters) _ _ = refl
+total_rising (Coordinates left) _ _ = refl
+total_rising (Area layer last) _ _ = refl
+total_rising (Loop last count left) _ _ = refl
 
 pub three_sorted : (file : List ℕ) → Sorted (stage_three file)
 unfolding stage_three
@@ -244,13 +236,13 @@ three_of file a i = (rows_in fourth (λ k. total_checks (due_of (state_at file k
 -- every one has a number above 9
 total_numbered : (d : Due) (file : List ℕ) (k : ℕ) → numbered ten_to18 (total_checks d file k) ≡ true
 unfolding mesh_totals layer_totals area_totals
-total_numbered (Mesh last) file k = refl
-total_numbered (Layer last) file k = refl
-total_numbered (Node layer last) file k = refl
-total_numbered (Line layer last letters) file k = refl
-total_numbered (Coordinates left) file k = refl
-total_numbered (Area layer last) file k = refl
-total_numbered (Loop last count left) file k = refl
+total_numbered (Mesh last) _ _ = refl
+total_numbered (Layer last) _ _ = refl
+total_numbered (Node layer last) _ _ = refl
+total_numbered (Line layer last letters) _ _ = refl
+total_numbered (Coordinates left) _ _ = refl
+total_numbered (Area layer last) _ _ = refl
+total_numbered (Loop last count left) _ _ = refl
 
 pub three_numbered : (file : List ℕ) → Numbered ten_to18 (stage_three file)
 unfolding stage_three

@@ -7,7 +7,7 @@
 ghost use Rattle.std.specs.Prelude.{◌≡◌, [], ◌∷◌, ◌+◌, ◌≤◌, ◌<◌, eqb};
 ghost use Rattle.verdict.specs.Rules.{check, first_broken, block};
 ghost use Rattle.walk.specs.States.{size_in, state_at};
-ghost use Rattle.totals.specs.Totals.{rank_of, no_sums, one_more, layer_more, loop_more, added_for, sums_behind, mesh_totals, total_checks, fourth, stage_three};
+ghost use Rattle.totals.specs.Totals.{rank_of, one_more, layer_more, loop_more, added_for, sums_behind, mesh_totals, total_checks, fourth, stage_three};
 ghost use Rattle.totals.specs.Adding.{Addable};
 
 use records::Columns;
@@ -26,31 +26,25 @@ struct Sums {
     entries: usize,
 }
 
-// 0 for an M, 1 for an H, 3 for a loop record, 2 for the others.
+// Nothing yet.
+const NO_SUMS: Sums = Sums {
+    records: 0,
+    nodes: 0,
+    lines: 0,
+    areas: 0,
+    entries: 0,
+};
+
+// 0 for an M, 1 for an H, 3 for a loop record, 2 for the others. Sums of a rank end at the next record of
+// that number or a smaller one.
 fn rank_of(d: Due) -> usize
     ensures { result ≡ rank_of d }
 {
     match d {
         Due::Mesh(_) => 0,
         Due::Layer(_) => 1,
-        Due::Node(_, _) => 2,
-        Due::Line(_, _, _) => 2,
-        Due::Coordinates(_) => 2,
-        Due::Area(_, _) => 2,
         Due::Loop(_, _, _) => 3,
-    }
-}
-
-// Nothing yet.
-fn no_sums() -> Sums
-    ensures { result ≡ no_sums }
-{
-    Sums {
-        records: 0,
-        nodes: 0,
-        lines: 0,
-        areas: 0,
-        entries: 0,
+        _ => 2,
     }
 }
 
@@ -59,9 +53,10 @@ fn one_more(s: Sums) -> Sums
     requires { Addable 6399936 s }
     ensures { result ≡ one_more s }
 {
-    let mut u = s;
-    u.records = s.records + 1;
-    u
+    Sums {
+        records: s.records + 1,
+        ..s
+    }
 }
 
 // The sums with an H.
@@ -69,12 +64,13 @@ fn layer_more(s: Sums, t: &[u8]) -> Sums
     requires { Addable 6399936 s }
     ensures { result ≡ layer_more s t.now }
 {
-    let mut u = s;
-    u.records = s.records + 1;
-    u.nodes = s.nodes + walk::size_at(t, records::LAYER_NODES);
-    u.lines = s.lines + walk::size_at(t, records::LAYER_LINES);
-    u.areas = s.areas + walk::size_at(t, records::LAYER_AREAS);
-    u
+    Sums {
+        records: s.records + 1,
+        nodes: s.nodes + walk::size_at(t, records::LAYER_NODES),
+        lines: s.lines + walk::size_at(t, records::LAYER_LINES),
+        areas: s.areas + walk::size_at(t, records::LAYER_AREAS),
+        ..s
+    }
 }
 
 // The sums with a loop's first record.
@@ -82,10 +78,11 @@ fn loop_more(s: Sums, t: &[u8]) -> Sums
     requires { Addable 6399936 s }
     ensures { result ≡ loop_more s t.now }
 {
-    let mut u = s;
-    u.records = s.records + 1;
-    u.entries = s.entries + walk::size_at(t, records::LOOP_COUNT);
-    u
+    Sums {
+        records: s.records + 1,
+        entries: s.entries + walk::size_at(t, records::LOOP_COUNT),
+        ..s
+    }
 }
 
 // The sums with a record more.
@@ -94,18 +91,9 @@ fn added(d: Due, s: Sums, t: &[u8]) -> Sums
     ensures { result ≡ added_for d s t.now }
 {
     match d {
-        Due::Mesh(_) => one_more(s),
         Due::Layer(_) => layer_more(s, t),
-        Due::Node(_, _) => one_more(s),
-        Due::Line(_, _, _) => one_more(s),
-        Due::Coordinates(_) => one_more(s),
-        Due::Area(_, _) => one_more(s),
-        Due::Loop(_, _, left) => {
-            if left == 0 {
-                return loop_more(s, t);
-            }
-            one_more(s)
-        }
+        Due::Loop(_, _, 0) => loop_more(s, t),
+        _ => one_more(s),
     }
 }
 
@@ -113,22 +101,21 @@ fn added(d: Due, s: Sums, t: &[u8]) -> Sums
 fn room_for(rank: usize, left: usize) -> usize
     ensures { (result ≤ left) × (0 < result → rank < 2) }
 {
-    if rank < 2 {
-        return left;
-    }
-    0
+    if rank < 2 { left } else { 0 }
 }
 
 // What follows the first `k` records, behind which the walk is in the state `s`, up to the next record of
 // rank `rank` or above.
+#[tactic(auto, using(walk::proofs::Passing::pass_most, crate::proofs::Summing::most_addable, crate::proofs::Summing::more_addable))]
 fn sums_behind(rank: usize, file: &[u8], k: usize, s: State) -> Sums
     requires { (k ≤ 6399936) × (s ≡ state_at file.now k) }
     ensures { result ≡ sums_behind rank file.now k }
 {
     let n = walk::records_of(file);
-    let mut sums = no_sums();
+    let mut sums = NO_SUMS;
     let mut state = s;
     let mut i = k;
+    // a quiet run is one step, so no range counts this
     while i < n {
         let d = walk::due(state);
         if rank_of(d) <= rank {
@@ -139,7 +126,7 @@ fn sums_behind(rank: usize, file: &[u8], k: usize, s: State) -> Sums
         state = walk::next(state, t);
         i += 1;
         let p = walk::pass_quiet(state, room_for(rank, n - i));
-        sums.records = sums.records + p.records;
+        sums.records += p.records;
         state = p.state;
         i += p.records;
     }
@@ -173,40 +160,36 @@ fn judge_mesh(t: &[u8], s: Sums, row: u32) -> Verdict
 
 // The totals of record `k + 1`, due as `d`; `next` is the state behind it. Counting begins behind the record,
 // so an M or an H is no part of its own total.
+#[tactic(auto, using(crate::proofs::Summing::none_arm), unfolding(crate::specs::Totals::layer_totals, crate::specs::Totals::area_totals))]
 fn judge_totals(d: Due, file: &[u8], k: usize, next: State) -> Verdict
     requires { (k < 6399936) × (next ≡ state_at file.now (k + 1)) }
     ensures { result ≡ first_broken (block fourth (k + 1) (total_checks d file.now k)) }
 {
     let row = (k + 1) as u32;
+    let t = records::record_view(file, k + 1);
     match d {
-        Due::Mesh(_) => {
-            let s = sums_behind(0, file, k + 1, next);
-            judge_mesh(records::record_view(file, k + 1), s, row)
-        }
+        Due::Mesh(_) => judge_mesh(t, sums_behind(0, file, k + 1, next), row),
         Due::Layer(_) => {
             let s = sums_behind(1, file, k + 1, next);
-            let t = records::record_view(file, k + 1);
             judge_total(t, records::LAYER_RECORDS, s.records, row)
         }
-        Due::Node(_, _) => Ok(()),
-        Due::Line(_, _, _) => Ok(()),
-        Due::Coordinates(_) => Ok(()),
         Due::Area(_, _) => {
             let s = sums_behind(2, file, k + 1, next);
-            let t = records::record_view(file, k + 1);
             judge_total(t, records::AREA_LINES, s.entries, row)
         }
-        Due::Loop(_, _, _) => Ok(()),
+        _ => Ok(()),
     }
 }
 
 // Stage 3: the totals of every record.
+#[tactic(auto, using(walk::proofs::Passing::pass_most))]
 pub fn stage_three(file: &[u8]) -> Verdict
     ensures { result ≡ first_broken (stage_three file.now) }
 {
     let n = walk::records_of(file);
     let mut s = walk::at_start();
     let mut k: usize = 0;
+    // a quiet run is one step, so no range counts this
     while k < n {
         let d = walk::due(s);
         let next = walk::next(s, records::record_view(file, k + 1));

@@ -7,20 +7,20 @@ use native.Mathlib.Omega.{arith}
 use borrow.Author.Tests.{le-ltb, ltb-false, leb-true, eqb-true, eq-eqb, ne_eqb}
 use lib.Dec.{leb, ltb, eqb, lit≤}
 use lib.ListN.{length, get_or}
-use Rattle.std.specs.Prelude.{Err}
+use Rattle.std.specs.Prelude.{Result, Ok, Err}
+use Rattle.verdict.specs.declared.Refusal.{Refusal}
 use Rattle.verdict.specs.Rules.{Verdict, Fine, Broken, Rule, block, rows, first_broken}
 use Rattle.verdict.proofs.Parts.{fine_broken, in_turn, both_fine, stands, goes_on, rows_stop, rows_done, check_none, check_kept, check_broken, check_fine}
 use Rattle.verdict.proofs.Holding.{row_fine, Holding, all_hold}
 use Rattle.verdict.proofs.Orders.{and_both}
 use Rattle.records.specs.View.{record_of}
 use Rattle.rules.specs.declared.Due.{Due}
-use Rattle.rules.specs.declared.Due.TheVariants.{Mesh}
+use Rattle.rules.specs.declared.Due.TheVariants.{Mesh, Layer, Node, Line, Coordinates, Area, Loop}
 use Rattle.rules.specs.Checks.{checks_of}
 use Rattle.walk.specs.declared.State.{State}
 use Rattle.walk.specs.declared.Counts.{Counts}
-use Rattle.walk.specs.declared.Walked.{Walked}
-use Rattle.walk.specs.States.{due_of, state_at, no_counts, counts_at}
-use Rattle.walk.specs.Stages.{most_records, records_of, end_checks, length_checks, stage_one, may_end, last_checks, stage_two, walked_by, walked_of, need_of}
+use Rattle.walk.specs.States.{due_of, state_at, counts_at}
+use Rattle.walk.specs.Stages.{most_records, records_of, end_checks, length_checks, stage_one, may_end, last_checks, stage_two, walked_by, verdict_in, counts_in, walked_of, need_of}
 
 -- ---- stage 1
 
@@ -58,7 +58,7 @@ module _ (t : List ℕ) (r : ℕ) {a : ℕ} (e : a ≡ get_or t 72 0) where
 
 module _ (file : List ℕ) {n : ℕ} (m : n ≡ records_of file) where
   -- it is broken and is returned
-  pub one_stops : (k : ℕ) {v : Verdict} {a b c : ℕ} → v ≡ Broken a b c → v ≡ first_broken (ends_of file k)
+  pub one_stops : (k : ℕ) {v : Verdict} {r : Refusal} → v ≡ Err r → v ≡ first_broken (ends_of file k)
       → first_broken (rows k (ends_of file)) ≡ Fine → k < n → v ≡ first_broken (stage_one file)
   unfolding stage_one
   one_stops k q e h l = stands (rows (records_of file) (ends_of file)) _ q (rows_stop (ends_of file) (records_of file) k (rw (← m) l) h e q)
@@ -94,7 +94,7 @@ rule_is file k p q e h = rw (← p, ← q, ← e) h
 
 module _ (file : List ℕ) {n : ℕ} (m : n ≡ records_of file) where
   -- it is broken and is returned
-  pub two_stops : (k : ℕ) {v : Verdict} {a b c : ℕ} → v ≡ Broken a b c → v ≡ first_broken (stage_two_rules file k)
+  pub two_stops : (k : ℕ) {v : Verdict} {r : Refusal} → v ≡ Err r → v ≡ first_broken (stage_two_rules file k)
       → first_broken (rows k (stage_two_rules file)) ≡ Fine → k < n → v ≡ first_broken (stage_two file)
   unfolding stage_two
   two_stops k q e h l = stands (rows (records_of file) (stage_two_rules file)) _ q (rows_stop (stage_two_rules file) (records_of file) k (rw (← m) l) h e q)
@@ -121,48 +121,55 @@ pub last_fine : (r : ℕ) {d : Due} {last : ℕ} → d ≡ Mesh last → Fine �
 unfolding last_checks
 last_fine r {d} h = sym (check_kept 2 r 1 4 (may_end d) [] (rw h) ∙ sym (check_none 2 r))
 
-pub last_broken : (r : ℕ) (k : Due) {d : Due} {v : Verdict} → d ≡ k → may_end k ≡ false → v ≡ Broken 4 r 1 → v ≡ first_broken (block 2 r (last_checks d))
+pub last_broken : (r : ℕ) (d : Due) → ((last : ℕ) → d ≡ Mesh last → ⊥) → Broken 4 r 1 ≡ first_broken (block 2 r (last_checks d))
 unfolding last_checks
-last_broken r k {d} h q e = e ∙ sym (check_broken 2 r 1 4 (may_end d) [] (rw h q))
+last_broken r d o = sym (check_broken 2 r 1 4 (may_end d) [] (none d o))
+  where
+    none : (d : Due) → ((last : ℕ) → d ≡ Mesh last → ⊥) → may_end d ≡ false
+    none (Mesh last) o = absurd (o last refl)
+    none (Layer last) o = refl
+    none (Node layer last) o = refl
+    none (Line layer last letters) o = refl
+    none (Coordinates left) o = refl
+    none (Area layer last) o = refl
+    none (Loop last count left) o = refl
 
 -- ---- both stages
 
--- the answer w to a verdict v: where it is broken there are no counts; where it is fine they are those of all records
-pub walked_broken : {u v : Verdict} {a b c : ℕ} (cs : Counts) {w : Walked} → v ≡ Broken a b c
-    → v ≡ u → w ≡ record { verdict = v; counts = no_counts } → w ≡ walked_by u cs
-walked_broken cs q e z = rw (← e, q) (rw q at z)
+-- the answer to a verdict u: a refusal; where it is fine, the counts
+pub walked_broken : {u : Verdict} {r : Refusal} (c : Counts) → Err r ≡ u → Err r ≡ walked_by u c
+walked_broken c e = rw (← e)
 
-pub walked_kept : {u v : Verdict} {cs ds : Counts} {w : Walked} → v ≡ Fine → v ≡ u → ds ≡ cs → w ≡ record { verdict = v; counts = ds } → w ≡ walked_by u cs
-walked_kept q e f z = rw (← e, q, ← f) (rw q at z)
+pub walked_kept : {u : Verdict} {c d : Counts} → Fine ≡ u → d ≡ c → Ok d ≡ walked_by u c
+walked_kept e f = rw (← e, ← f)
 
--- the answer w where stage 1 is broken; where it is fine, and stage 2 answers
-pub walked_first : (file : List ℕ) {v : Verdict} {a b c : ℕ} {w : Walked} → v ≡ Broken a b c
-    → v ≡ first_broken (stage_one file) → w ≡ record { verdict = v; counts = no_counts } → w ≡ walked_of file
+-- the answer where stage 1 is broken; where it is fine, and stage 2 answers
+pub walked_first : (file : List ℕ) {r : Refusal} → Err r ≡ first_broken (stage_one file) → Err r ≡ walked_of file
 unfolding walked_of
-walked_first file q e z = walked_broken (counts_at file (records_of file)) q (stands (stage_one file) (stage_two file) q e) z
+walked_first file e = walked_broken (counts_at file (records_of file)) (stands (stage_one file) (stage_two file) refl e)
 
-pub walked_second : (file : List ℕ) {v : Verdict} {w : Walked} → v ≡ Fine → v ≡ first_broken (stage_one file)
+pub walked_second : (file : List ℕ) {w : Result Counts Refusal} → Fine ≡ first_broken (stage_one file)
     → w ≡ walked_by (first_broken (stage_two file)) (counts_at file (records_of file)) → w ≡ walked_of file
 unfolding walked_of
-walked_second file q e z = rw (in_turn (stage_one file) (stage_two file), ← e, q) z
+walked_second file e z = rw (in_turn (stage_one file) (stage_two file), ← e) z
 
 -- the need is the answer's words
-pub need_is : (file : List ℕ) {w : Walked} → w ≡ walked_of file → w.counts.words ≡ need_of file
+pub need_is : (file : List ℕ) {w : Result Counts Refusal} → w ≡ walked_of file → (counts_in w).words ≡ need_of file
 unfolding need_of
-need_is file e = ap (λ (x : Walked). x.counts.words) e
+need_is file e = ap (λ (x : Result Counts Refusal). (counts_in x).words) e
 
 -- the answer is the first broken rule of both
 pub walked_verdict : (file : List ℕ) → verdict_in (walked_of file) ≡ first_broken (stage_one file ++ stage_two file)
 unfolding walked_of
 walked_verdict file = by (first_broken (stage_one file ++ stage_two file)) (counts_at file (records_of file))
   where
-    by : (v : Verdict) (c : Counts) → (walked_by v c).verdict ≡ v
+    by : (v : Verdict) (c : Counts) → verdict_in (walked_by v c) ≡ v
     by Fine c = refl
     by (Err r) c = refl
 
 -- ---- a file that keeps them
 
-verdict_by : (v : Verdict) (c : Counts) → (walked_by v c).verdict ≡ Fine → (v ≡ Fine) × ((walked_by v c).counts ≡ c)
+verdict_by : (v : Verdict) (c : Counts) → verdict_in (walked_by v c) ≡ Fine → (v ≡ Fine) × (counts_in (walked_by v c) ≡ c)
 verdict_by Fine c h = (refl, refl)
 verdict_by (Err r) c h = fine_broken h refl
 

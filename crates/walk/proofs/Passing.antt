@@ -350,14 +350,11 @@ module _ (file : List ℕ) (points k n : ℕ) where
     pub ahead_stops : t ≡ false → fine_ahead file points k (n - k) ≡ 0
     ahead_stops q = rw q at ahead_is
 
-  ends_by : (m : ℕ) → n - k ≡ m → (b : Bool) → ltb k n ≡ b → b && ltb 0 points ≡ false → fine_ahead file points k m ≡ 0
-  unfolding fine_ahead
-  ends_by zero z b p q = refl
-  ends_by (suc m) z true p q = rw q
-  ends_by (suc m) z false p q = let l = ltb-false k n p in absurd (omega arith)
-
-  pub ahead_ends : ltb k n && ltb 0 points ≡ false → fine_ahead file points k (n - k) ≡ 0
-  ahead_ends q = ends_by (n - k) refl (ltb k n) refl q
+-- none are where no point of the line is left
+pub none_ahead : (file : List ℕ) (k m : ℕ) {points : ℕ} → points ≡ 0 → fine_ahead file points k m ≡ 0
+unfolding fine_ahead
+none_ahead file k zero e = refl
+none_ahead file k (suc m) e = rw e
 
 -- the rules of stage 2, over records that were found fine
 pub fine_rows : (file : List ℕ) (k : ℕ) {h m : ℕ} {s : State} → s ≡ state_at file k → Quiet s h → Fit file s.line.points k m → h ≤ m

@@ -17,7 +17,7 @@ use Rattle.records.specs.Layout.{layout_of}
 use Rattle.records.specs.View.{record_of}
 use Rattle.records.specs.Columns.{span_of, area_loops}
 use Rattle.std.specs.Prelude.{Err}
-use Rattle.verdict.specs.Rules.{Verdict, Fine, Broken, first_broken}
+use Rattle.verdict.specs.Rules.{Verdict, Fine, first_broken}
 use Rattle.verdict.proofs.Holding.{Holding}
 use Rattle.verdict.proofs.Orders.{and_both}
 use Rattle.verdict.proofs.Parts.{both_fine}
@@ -31,7 +31,7 @@ use Rattle.walk.specs.declared.Counts.{Counts}
 use Rattle.walk.specs.declared.State.{State}
 use Rattle.walk.specs.Row.{row_length}
 use Rattle.walk.specs.States.{size_in, size_at, due_of, next_for, next_of, state_at, counted_for, counts_at}
-use Rattle.walk.specs.Stages.{records_of, stage_one, stage_two, walked_by, walked_of, need_of}
+use Rattle.walk.specs.Stages.{records_of, stage_one, stage_two, walked_by, verdict_in, counts_in, walked_of, need_of}
 use Rattle.walk.specs.Table.{table_of}
 use Rattle.walk.proofs.Dues.{by_due, idle_end, words_counted}
 use Rattle.walk.proofs.Filling.{table_length}
@@ -79,7 +79,7 @@ unfolding need_of walked_of
 need_most file = by (first_broken (stage_one file ++ stage_two file)) refl
   where
     by : (v : Verdict) → first_broken (stage_one file ++ stage_two file) ≡ v
-        → (walked_by v (counts_at file (records_of file))).counts.words ≤ row_length * records_of file
+        → (counts_in (walked_by v (counts_at file (records_of file)))).words ≤ row_length * records_of file
     by Fine e =
         let two = (both_fine (stage_one file) (stage_two file) e).1 in
         omega (arith, rows_most file (records_of file), words_counted file (records_of file) (ended file two))

@@ -8,7 +8,7 @@
 --   need_of file         the words that the file needs; 0 for a file refused in stage 1 or 2
 use Rattle.std.specs.Prelude.{Bool, true, false, cond, ◌&&◌, List, [], ◌∷◌, ◌++◌, ℕ, ◌+◌, ◌/◌, ◌%◌, ltb, leb, eqb, length, get_or, Result, Ok, Err}
 use Rattle.records.specs.View.{record_of}
-use Rattle.verdict.specs.Rules.{Verdict, Fine, Broken, Rule, Check, check, block, rows, first_broken}
+use Rattle.verdict.specs.Rules.{Verdict, Fine, Rule, Check, check, block, rows, first_broken}
 use Rattle.rules.specs.declared.Due.{Due}
 use Rattle.rules.specs.declared.Due.TheVariants.{Mesh, Layer, Node, Line, Coordinates, Area, Loop}
 use Rattle.rules.specs.Checks.{checks_of}
@@ -64,7 +64,7 @@ stage_two file =
 
 -- ---- both
 
--- RULES 9.1: the counts are 0 if refused
+-- the counts, or the refusal
 abbrev pub walked_by : Verdict → Counts → Result Counts Refusal
 walked_by (Ok tt) c = Ok c
 walked_by (Err r) c = Err r
@@ -73,6 +73,7 @@ abbrev pub verdict_in : Result Counts Refusal → Verdict
 verdict_in (Ok c) = Fine
 verdict_in (Err r) = Err r
 
+-- RULES 9.1: the counts are 0 if refused
 abbrev pub counts_in : Result Counts Refusal → Counts
 counts_in (Ok c) = c
 counts_in (Err r) = no_counts

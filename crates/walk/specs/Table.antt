@@ -9,7 +9,7 @@ use Rattle.std.specs.Prelude.{cond, List, [], ◌∷◌, ◌++◌, ℕ, zero, su
 use Rattle.records.specs.View.{record_of}
 use Rattle.records.specs.Reading.{head_letters}
 use Rattle.records.specs.Columns.{layer_nodes, layer_lines, layer_areas}
-use Rattle.verdict.specs.Rules.{Verdict, Fine, Broken, first_broken}
+use Rattle.verdict.specs.Rules.{Verdict, Fine, first_broken}
 use Rattle.rules.specs.declared.Due.{Due}
 use Rattle.rules.specs.declared.Due.TheVariants.{Mesh, Layer, Node, Line, Coordinates, Area, Loop}
 use Rattle.walk.specs.Row.{row_of}
@@ -67,7 +67,7 @@ abbrev pub filled_by : Verdict → List ℕ → List ℕ → List ℕ
 filled_by Fine file words = filled (table_of file) words
 filled_by (Err r) file words = words
 
--- what is known then: the verdict, and the counts of a file that keeps stages 1 and 2
+-- what is answered then: the counts; or the refusal, and for a table that is too short the need
 abbrev pub tabled_by : Verdict → Counts → ℕ → Result Counts Refused
 tabled_by (Ok tt) c need = Ok c
 tabled_by (Err r) c need = Err (record { refusal = r; need = cond (eqb r.number 9) need 0 })

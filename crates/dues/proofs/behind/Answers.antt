@@ -1,5 +1,4 @@
 use mathlib.Core.Path.{◌∙◌}
-use Prim.Native.Nat.{◌-◌}
 use native.Mathlib.Nat.{le_refl}
 use native.Mathlib.Omega.{arith}
 use borrow.Author.Rules.{rules}
@@ -10,9 +9,6 @@ use Rattle.dues.proofs.behind.Goals as goal
 
 pub loop-k-init : goal.loop-k-init
 loop-k-init c = (search rules, c.at_start-s.ensures ∙ at_none _)
-
-pub overflow_add-k-in-loop-k-2 : goal.overflow_add-k-in-loop-k-2
-overflow_add-k-in-loop-k-2 c = omega (arith, pass_most _ _ c.pass_quiet-p.ensures.0)
 
 pub loop-k-preserved : goal.loop-k-preserved
 loop-k-preserved c =

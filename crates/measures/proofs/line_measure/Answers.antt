@@ -1,10 +1,10 @@
 use mathlib.Core.Path.{◌≡◌, sym, ◌∙◌}
-use Prim.Native.Nat.{◌-◌}
+use Prim.Native.Nat.{◌-◌, ◌≤◌}
 use native.Mathlib.Omega.{arith}
 use Rattle.measures.specs.Sound.{added_up}
 use Rattle.measures.specs.Walks.{walk_along}
 use Rattle.records.proofs.Numbers.{record_past}
-use Rattle.measures.proofs.Walking.{one_or_more, turn, sum_back, near_le, line_near, measure_none, measure_is, full}
+use Rattle.measures.proofs.Walking.{turn, sum_back, near_le, line_near, measure_none, measure_is}
 use Rattle.measures.proofs.line_measure.Goals as goal
 
 pub returns-then-file-line : goal.returns-then-file-line
@@ -13,46 +13,36 @@ returns-then-file-line c = sym (measure_none added_up c.args.file.now c.args.lin
 pub loop-left-init : goal.loop-left-init
 unfolding walk_along
 loop-left-init c =
-    let z : c.point_count-n.result - c.point_count-n.result ≡ 0 = omega arith in
+    let z : c.point_count-left.result - c.point_count-left.result ≡ 0 = omega arith in
     (omega arith, omega arith, omega arith, rw z, λ h. omega arith)
 
 pub overflow_add-k : goal.overflow_add-k
-overflow_add-k c = omega (arith, c.if-file-line.false, c.point_count-n.ensures.1, c.loop-left.invariant.2)
+overflow_add-k c = omega (arith, c.if-file-line.false, c.point_count-left.ensures.1, c.loop-left.invariant.2)
 
-pub walk_record-next-requires : goal.walk_record-next-requires
-walk_record-next-requires c =
-    let e = c.point_count-n.ensures.1 in (
-      c.seven_of-part.ensures.few,
+pub walk_record-w-requires : goal.walk_record-w-requires
+walk_record-w-requires c =
+    let e = c.point_count-left.ensures.1 in (
+      omega arith,
       rw c.loop-left.invariant.3
-          (near_le 900000000000000000 (line_near c.args.file.now c.args.line (c.point_count-n.result - c.loop-left.left)) (omega arith)),
+          (near_le 900000000000000000 (line_near c.args.file.now c.args.line (c.point_count-left.result - c.loop-left.left)) (omega arith)),
     )
-
-pub overflow_sub-left : goal.overflow_sub-left
-overflow_sub-left c = omega (arith, c.seven_of-part.ensures.within)
-
-pub loop-left-smaller : goal.loop-left-smaller
-loop-left-smaller c =
-    omega (arith, one_or_more c.seven_of-part.ensures (omega arith), c.seven_of-part.ensures.within)
 
 pub loop-left-preserved : goal.loop-left-preserved
 loop-left-preserved c =
     let l = c.loop-left.invariant in
-    let s = c.seven_of-part.ensures in
-    let e = l.4 (omega arith) in
-    let p = one_or_more s (omega arith) in (
-      omega (arith, s.within),
+    let p : c.min-part.result ≤ 7 = omega arith in
+    let q : c.min-part.result ≤ c.loop-left.left = omega arith in (
       omega arith,
-      omega (arith, s.within),
-      turn added_up _ _ _ c.loop-left.left c.loop-left.k c.seven_of-part.result l.1
-          l.0 s.within s.few e l.3 c.record_view.ensures c.walk_record-next.ensures,
-      λ h.
-          let f = full s h in
-          omega (arith, s.within),
+      omega arith,
+      omega arith,
+      turn added_up _ _ _ c.loop-left.left c.loop-left.k c.min-part.result l.1
+          l.0 q p (l.4 (omega arith)) l.3 c.record_view.ensures c.walk_record-w.ensures,
+      λ h. omega (arith, l.4 (omega arith)),
     )
 
 pub returns : goal.returns
 returns c =
-    let n = c.point_count-n.ensures in
-    let z : c.point_count-n.result - c.loop-left.left ≡ c.point_count-n.result = omega arith in
-    sum_back c.args.file.now c.args.line c.point_count-n.result n.1 (c.loop-left.invariant.3 ∙ rw z)
+    let n = c.point_count-left.ensures in
+    let z : c.point_count-left.result - c.loop-left.left ≡ c.point_count-left.result = omega arith in
+    sum_back c.args.file.now c.args.line c.point_count-left.result n.1 (c.loop-left.invariant.3 ∙ rw z)
     ∙ measure_is added_up c.args.file.now c.args.line n.0

@@ -9,11 +9,11 @@ use Rattle.measures.proofs.line_measure.Given as goal
 
 abbrev pub invariant-loop-left : goal.invariant-loop-left
 invariant-loop-left l =
-    (l.left ≤ l.n)
+    (l.left ≤ l.initial.left)
     × (l.line ≤ l.k)
-    × (l.k - l.line ≤ l.n - l.left)
-    × (l.w ≡ walk_along begin (point_by added_up l.file l.line) (l.n - l.left))
-    × (0 < l.left → l.n - l.left ≡ 7 * (l.k - l.line))
+    × (l.k - l.line ≤ l.initial.left - l.left)
+    × (l.w ≡ walk_along begin (point_by added_up l.file l.line) (l.initial.left - l.left))
+    × (0 < l.left → l.initial.left - l.left ≡ 7 * (l.k - l.line))
 
 abbrev pub decreases-loop-left : goal.decreases-loop-left
 decreases-loop-left l = l.left

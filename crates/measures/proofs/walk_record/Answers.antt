@@ -1,5 +1,4 @@
 use mathlib.Core.Path.{◌≡◌, refl, ◌∙◌, ap}
-use Prim.Native.Nat.{◌-◌}
 use native.Mathlib.Omega.{arith}
 use mir.Facts.{to_z-of_z}
 use mir.Syntax.{w64}
@@ -32,26 +31,19 @@ y-is c =
 
 pub loop-i-init : goal.loop-i-init
 unfolding walk_along
-loop-i-init c = (search rules, refl)
+loop-i-init c = refl
 
-pub step-next-requires : goal.step-next-requires
-step-next-requires c =
-    let x : Small far (back c.coordinate-x.result) = rw (x-is (goal.at.step-next-requires c).After-coordinate-x) (added_small _ _) in
-    let y : Small far (back c.coordinate-y.result) = rw (y-is (goal.at.step-next-requires c).After-coordinate-y) (added_small _ _) in (
-      rw c.loop-i.invariant.1 (near_le 1000000000000000000 (record_near c.args.s.now c.requires.1 c.loop-i.i) (omega arith)),
+pub step-at-requires : goal.step-at-requires
+step-at-requires c =
+    let x : Small far (back c.coordinate-x.result) = rw (x-is (goal.at.step-at-requires c).After-coordinate-x) (added_small _ _) in
+    let y : Small far (back c.coordinate-y.result) = rw (y-is (goal.at.step-at-requires c).After-coordinate-y) (added_small _ _) in (
+      rw c.loop-i.invariant (near_le 1000000000000000000 (record_near c.args.s.now c.requires.1 c.loop-i.i) (omega arith)),
       search rules,
       search rules,
     )
 
 pub loop-i-preserved : goal.loop-i-preserved
 unfolding pair_by
-loop-i-preserved c = (
-  omega arith,
-  c.step-next.ensures
-      ∙ rw (x-is (goal.at.loop-i-preserved c).After-coordinate-x, y-is (goal.at.loop-i-preserved c).After-coordinate-y, c.loop-i.invariant.1) (along_next c.args.w (pair_by added_up c.args.s.now) c.loop-i.i),
-)
-
-pub returns : goal.returns
-returns c =
-    let z : c.loop-i.i ≡ c.args.count = omega arith in
-    c.loop-i.invariant.1 ∙ rw z
+loop-i-preserved c =
+    c.step-at.ensures
+    ∙ rw (x-is (goal.at.loop-i-preserved c).After-coordinate-x, y-is (goal.at.loop-i-preserved c).After-coordinate-y, c.loop-i.invariant) (along_next c.args.w (pair_by added_up c.args.s.now) c.loop-i.i)

@@ -1,13 +1,9 @@
 -- `measures::walk_record` meets its contract. The loop's invariant: the walk has gone along the first `i` points. Assumes nothing.
 use mathlib.Core.Path.{◌≡◌}
-use Prim.Native.Nat.{◌≤◌, ◌-◌}
 use Rattle.measures.specs.Points.{pair_by}
 use Rattle.measures.specs.Sound.{added_up}
 use Rattle.measures.specs.Walks.{walk_along}
 use Rattle.measures.proofs.walk_record.Given as goal
 
 abbrev pub invariant-loop-i : goal.invariant-loop-i
-invariant-loop-i l = (l.i ≤ l.count) × (l.at ≡ walk_along l.initial.at (pair_by added_up l.s) l.i)
-
-abbrev pub decreases-loop-i : goal.decreases-loop-i
-decreases-loop-i l = l.count - l.i
+invariant-loop-i l = l.at ≡ walk_along l.initial.at (pair_by added_up l.s) l.i

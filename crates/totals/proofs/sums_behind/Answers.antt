@@ -1,54 +1,18 @@
-use Prim.Native.Nat.{◌-◌}
 use mathlib.Core.Path.{◌∙◌}
 use native.Mathlib.Nat.{le_refl}
 use native.Mathlib.Omega.{arith}
 use Rattle.walk.proofs.Walking.{next_state}
 use Rattle.walk.proofs.Passing.{pass_most, pass_are_quiet, passed_state}
-use Rattle.totals.proofs.Summing.{none_addable, most_addable, more_addable, quiet_addable, sums_start, sums_stop, sums_more, sums_quiet, sums_end}
+use Rattle.totals.proofs.Summing.{none_addable, more_addable, quiet_addable, sums_start, sums_stop, sums_more, sums_quiet, sums_end}
 use Rattle.totals.proofs.sums_behind.Goals as goal
 
 pub loop-i-init : goal.loop-i-init
-loop-i-init c = (
-  c.requires.0,
-  c.requires.1,
-  rw c.no_sums-sums.ensures (none_addable _),
-  rw c.no_sums-sums.ensures (sums_start _ _ _),
-)
+loop-i-init c = (c.requires.0, c.requires.1, none_addable _, sums_start _ _ _)
 
 pub returns-then-rank_of-rank : goal.returns-then-rank_of-rank
 returns-then-rank_of-rank c =
     sums_stop _ _ _ (rw c.records_of-n.ensures.0 at c.loop-i-test.true)
     c.loop-i.invariant.1 c.due-d.ensures c.rank_of.ensures c.if-rank_of-rank.true c.loop-i.invariant.3
-
-pub added-sums-requires : goal.added-sums-requires
-added-sums-requires c = most_addable _ c.loop-i.invariant.0 c.loop-i.invariant.2
-
-pub overflow_add-sums : goal.overflow_add-sums
-overflow_add-sums c =
-    let d = c.added-sums.ensures in
-    let r = c.record_view-t.result in
-    let u = c.due-d.result in
-    let l = c.loop-i-test.true in
-    let o = c.loop-i in
-    let e = c.records_of-n.ensures.1 in
-    let a = more_addable _ u o.sums r.now d o.invariant.2 in
-    record {
-      fits = omega (arith, a.records, pass_most _ _ c.pass_quiet-p.ensures.0, c.room_for.ensures.0, l, e);
-    }
-
-pub overflow_add-i-in-loop-i-2 : goal.overflow_add-i-in-loop-i-2
-overflow_add-i-in-loop-i-2 c =
-    let r = c.room_for.ensures.0 in
-    let l = c.loop-i-test.true in
-    let o = c.records_of-n.ensures.1 in
-    record { fits = omega (arith, pass_most _ _ c.pass_quiet-p.ensures.0, r, l, o) }
-
-pub loop-i-smaller : goal.loop-i-smaller
-loop-i-smaller c =
-    let r = c.room_for.ensures.0 in
-    let l = c.loop-i-test.true in
-    let o = c.records_of-n.ensures.1 in
-    omega (arith, pass_most _ _ c.pass_quiet-p.ensures.0, r, l, o)
 
 pub loop-i-preserved : goal.loop-i-preserved
 loop-i-preserved c =

@@ -2,4 +2,4 @@
 use Rattle.walk.proofs.behind_layer.Goals as goal
 
 pub returns : goal.returns
-returns c = simp (c.at_start-u.ensures, c.less.ensures, c.layer_part-layer.ensures)
+returns c = simp (c.at_start.ensures, c.saturating_sub.ensures, c.layer_part.ensures)

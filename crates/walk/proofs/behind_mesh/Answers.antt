@@ -2,4 +2,4 @@
 use Rattle.walk.proofs.behind_mesh.Goals as goal
 
 pub returns : goal.returns
-returns c = simp (c.at_start-s.ensures, c.size_at.ensures.0, c.size_at-2.ensures.0)
+returns c = simp (c.at_start.ensures, c.size_at.ensures.0, c.size_at-2.ensures.0)
