@@ -3,6 +3,7 @@
 use mathlib.Core.Bool.{Bool, true, false, cond}
 use mathlib.Core.List.{List}
 use mathlib.Core.Path.{◌≡◌, refl, ◌∙◌}
+use Rattle.std.specs.Prelude.{Some}
 use Prim.Native.Nat.{ℕ, zero, suc}
 use native.Mathlib.Omega.{arith}
 use lib.Dec.{eqb}
@@ -15,12 +16,11 @@ use Rattle.records.specs.Layout.{layout_of}
 use Rattle.records.specs.Reading.{first_fault, fields_by, fields_of, reading_of}
 use Rattle.records.specs.Writing.{record_bytes, fits_all}
 use Rattle.records.proofs.RecordLaws.{Sized, written_then_read, read_then_written}
-use Rattle.capi.specs.declared.Meant.TheVariants.{A}
 use Rattle.capi.specs.declared.Value.{Value}
 use Rattle.capi.specs.Values.{meant_by, kind_number, meant_record, given_value, found_in, found_of}
 
 -- a kind's number stands for the kind
-pub number_meant : (k : Kind) → meant_by (kind_number k) ≡ A k
+pub number_meant : (k : Kind) → meant_by (kind_number k) ≡ Some k
 unfolding meant_by
 number_meant Mesh = refl
 number_meant Layer = refl
@@ -31,7 +31,7 @@ number_meant Area = refl
 number_meant Loop = refl
 
 -- and no other number does
-pub meant_number : (n : ℕ) (k : Kind) → meant_by n ≡ A k → kind_number k ≡ n
+pub meant_number : (n : ℕ) (k : Kind) → meant_by n ≡ Some k → kind_number k ≡ n
 unfolding meant_by
 meant_number zero k e = let z : ◌≡◌ {A = ℕ} 0 1 = cc in absurd (omega arith)
 meant_number (suc zero) k e = let z : k ≡ Mesh = cc in rw z
@@ -64,7 +64,7 @@ reading_kind k s =
     (either_kind k (eqb (get_or s 72 0) 13) _ _ (either_kind k (eqb (get_or s 73 0) 10) _ _ (fields_kind k s) refl) refl)
     refl
 
-module _ (n : ℕ) (k : Kind) (e : meant_by n ≡ A k) (s : List ℕ) where
+module _ (n : ℕ) (k : Kind) (e : meant_by n ≡ Some k) (s : List ℕ) where
   found_in_lem : found_of n s ≡ found_in (reading_of k s)
   unfolding found_of
   found_in_lem = rw e
@@ -75,7 +75,7 @@ module _ (n : ℕ) (k : Kind) (e : meant_by n ≡ A k) (s : List ℕ) where
 -- ---- the round trips
 
 -- WRITTEN THEN READ: a value that is written is what is read
-pub value_written_then_read : (v : Value) (k : Kind) → meant_by v.kind ≡ A k → Sized (meant_record k v) → fits_all (meant_record k v) ≡ true
+pub value_written_then_read : (v : Value) (k : Kind) → meant_by v.kind ≡ Some k → Sized (meant_record k v) → fits_all (meant_record k v) ≡ true
     → found_of v.kind (record_bytes (meant_record k v)) ≡ record { number = 0; place = 0; column = 0; value = v }
 value_written_then_read v k e z f =
     found_in_lem v.kind k e (record_bytes (meant_record k v)) ∙ rw (written_then_read (meant_record k v) z f, meant_number v.kind k e)
@@ -84,7 +84,7 @@ again : (r : Record) (k : Kind) → r.kind ≡ k → meant_record k (given_value
 again r k e = rw (← e)
 
 -- READ THEN WRITTEN: a value that was read fits, and is written as the bytes that were read
-pub value_read_then_written : (n : ℕ) (k : Kind) (e : meant_by n ≡ A k) (s : List ℕ) → (found_of n s).number ≡ 0
+pub value_read_then_written : (n : ℕ) (k : Kind) (e : meant_by n ≡ Some k) (s : List ℕ) → (found_of n s).number ≡ 0
     → (fits_all (meant_record k (found_of n s).value) ≡ true) × (record_bytes (meant_record k (found_of n s).value) ≡ s)
 value_read_then_written n k e s h =
     let w = read_then_written k s (rw (found_in_lem n k e s) at h) in

@@ -5,28 +5,24 @@
 --   meant_record k v   the value v as a record of kind k, and given_value r the record r with its kind as a number
 --   found_of n s     the answer to the bytes s, read as a record of the kind that n stands for
 --   WrittenValue     the writer's answer and its buffer afterwards
-use Rattle.std.specs.Prelude.{◌≡◌, cond, List, [], ◌∷◌, ℕ, leb, length, get_or}
+use Rattle.std.specs.Prelude.{◌≡◌, cond, List, [], ◌∷◌, ℕ, leb, length, get_or, Option, Some, None}
 use Rattle.records.specs.declared.Kind.{Kind}
 use Rattle.records.specs.declared.Kind.TheVariants.{Mesh, Layer, Node, Line, Coordinates, Area, Loop}
 use Rattle.records.specs.declared.Record.{Record}
 use Rattle.records.specs.declared.Reading.{Reading}
 use Rattle.records.specs.Reading.{zeros, no_name, unmarked, reading_of}
 use Rattle.records.specs.Writing.{Written}
-use Rattle.dues.specs.declared.Owed.{Owed}
-use Rattle.dues.specs.declared.Owed.TheVariants as owed
-use Rattle.capi.specs.declared.Meant.{Meant}
-use Rattle.capi.specs.declared.Meant.TheVariants.{A, Nothing}
 use Rattle.capi.specs.declared.Value.{Value}
 use Rattle.capi.specs.declared.Found.{Found}
 
 -- ---- the kinds by number
 
 -- RULES 9.7: in the order of RULES 4.1 to 4.7, from number 0 on, which stands for none
-abbrev pub kinds : List Meant
-kinds = Nothing ∷ A Mesh ∷ A Layer ∷ A Node ∷ A Line ∷ A Coordinates ∷ A Area ∷ A Loop ∷ []
+abbrev pub kinds : List (Option Kind)
+kinds = None ∷ Some Mesh ∷ Some Layer ∷ Some Node ∷ Some Line ∷ Some Coordinates ∷ Some Area ∷ Some Loop ∷ []
 
-unfoldable pub meant_by : ℕ → Meant
-meant_by n = get_or kinds n Nothing
+unfoldable pub meant_by : ℕ → Option Kind
+meant_by n = get_or kinds n None
 
 abbrev pub kind_number : Kind → ℕ
 kind_number Mesh = 1
@@ -38,9 +34,9 @@ kind_number Area = 6
 kind_number Loop = 7
 
 -- RULES 9.10: the kind that is due by its number, and 0 for nothing
-abbrev pub owed_number : Owed → ℕ
-owed_number (owed.A k) = kind_number k
-owed_number owed.Nothing = 0
+abbrev pub owed_number : Option Kind → ℕ
+owed_number (Some k) = kind_number k
+owed_number None = 0
 
 -- RULES 4.8: a record's value is its kind, its numbers in column order, its name bytes, the marks of its codes and the letters of an H
 abbrev pub meant_record : Kind → Value → Record
@@ -63,9 +59,9 @@ no_kind = record {
   value = record { kind = 0; numbers = zeros; name = no_name; marks = unmarked; letters = 0 };
 }
 
-abbrev pub found_by : Meant → List ℕ → Found
-found_by (A k) s = found_in (reading_of k s)
-found_by Nothing s = no_kind
+abbrev pub found_by : Option Kind → List ℕ → Found
+found_by (Some k) s = found_in (reading_of k s)
+found_by None s = no_kind
 
 -- RULES 9.4: a single record of the kind that the caller names
 unfoldable pub found_of : ℕ → List ℕ → Found
@@ -78,9 +74,9 @@ pub record NotWritten (before : List ℕ) (number : ℕ) (after : List ℕ) : Ty
   pub answer : number ≡ cond (leb 74 (length before)) 20 21
   pub buffer : after ≡ before
 
-abbrev pub WrittenBy : Meant → List ℕ → Value → ℕ → List ℕ → Type 0
-WrittenBy (A k) before v number after = Written before (meant_record k v) number after
-WrittenBy Nothing before v number after = NotWritten before number after
+abbrev pub WrittenBy : Option Kind → List ℕ → Value → ℕ → List ℕ → Type 0
+WrittenBy (Some k) before v number after = Written before (meant_record k v) number after
+WrittenBy None before v number after = NotWritten before number after
 
 -- RULES 9.5: the writer's answer and its buffer behind it
 unfoldable pub WrittenValue : List ℕ → Value → ℕ → List ℕ → Type 0

@@ -11,19 +11,11 @@ ghost use Rattle.dues.specs.Dues.{due_at};
 ghost use Rattle.judge.specs.Outcomes.{outcome_of, table_after, measures_after, sums_of, table_after_sums};
 ghost use Rattle.judge.specs.Outcomes.{outcome_of_all, table_after_all, sums_after};
 ghost use Rattle.positions.specs.Degrees.{position_of};
-ghost use Rattle.capi.specs.Values.{meant_by, kind_number, owed_number, no_kind, found_of, WrittenValue};
+ghost use Rattle.capi.specs.Values.{meant_by, kind_number, owed_number, given_value, no_kind, found_of, WrittenValue};
 
-use dues::Owed;
 use judge::{Outcome, Sums};
 use positions::Placed;
 use records::{Kind, Record};
-
-// What a kind's number stands for: a kind, or nothing.
-#[derive(Clone, Copy)]
-pub enum Meant {
-    A(Kind),
-    Nothing,
-}
 
 // A record's value with its kind as a number: 1 M, 2 H, 3 N, 4 L, 5 coordinates, 6 A, 7 loop. The marks and
 // then the letters stand behind the name, as in the header.
@@ -35,6 +27,28 @@ pub struct Value {
     pub name: [u8; 40],
     pub marks: [u32; 2],
     pub letters: u32,
+}
+
+// A record with its kind as a number.
+impl From<Record> for Value {
+    ghost from_gives = { λ r v. v ≡ given_value r };
+
+    fn from(record: Record) -> Value {
+        let Record {
+            kind,
+            numbers,
+            name,
+            marks,
+            letters,
+        } = record;
+        Value {
+            kind: number_of(kind),
+            numbers,
+            name,
+            marks,
+            letters,
+        }
+    }
 }
 
 // What reading finds: a refusal's number with its place, record and column, or 0 at 0, 0; and the
@@ -63,11 +77,7 @@ pub extern "C" fn stragumella_need(file: &[u8]) -> u64
 pub extern "C" fn stragumella_due(file: &[u8], row: u32) -> u32
     ensures { result ≡ owed_number (due_at file.now row) }
 {
-    let owed = dues::due_at(file, row);
-    let Owed::A(kind) = owed else {
-        return 0;
-    };
-    number_of(kind)
+    dues::due_at(file, row).map_or(0, number_of)
 }
 
 // Judges a file, with its table and its areas' measures left in the lent buffers.
@@ -106,19 +116,20 @@ pub extern "C" fn stragumella_position(mesh: i32, x: i32, y: i32) -> Placed
 
 // ---- records
 
-// The kind that a number stands for.
-fn kind_of(n: u32) -> Meant
+// The kind that a number stands for, if it stands for one.
+#[tactic(auto, unfolding(crate::specs::Values::meant_by))]
+fn kind_of(n: u32) -> Option<Kind>
     ensures { result ≡ meant_by n }
 {
     match n {
-        1 => Meant::A(Kind::Mesh),
-        2 => Meant::A(Kind::Layer),
-        3 => Meant::A(Kind::Node),
-        4 => Meant::A(Kind::Line),
-        5 => Meant::A(Kind::Coordinates),
-        6 => Meant::A(Kind::Area),
-        7 => Meant::A(Kind::Loop),
-        _ => Meant::Nothing,
+        1 => Some(Kind::Mesh),
+        2 => Some(Kind::Layer),
+        3 => Some(Kind::Node),
+        4 => Some(Kind::Line),
+        5 => Some(Kind::Coordinates),
+        6 => Some(Kind::Area),
+        7 => Some(Kind::Loop),
+        _ => None,
     }
 }
 
@@ -141,75 +152,60 @@ fn number_of(k: Kind) -> u32
 fn no_kind() -> Found
     ensures { result ≡ no_kind }
 {
-    let numbers = [0i32; 16];
-    let name = [0u8; 40];
-    let marks = [0u32; 2];
     Found {
         number: 3,
         place: 1,
         column: 1,
         value: Value {
             kind: 0,
-            numbers,
-            name,
-            marks,
+            numbers: [0; 16],
+            name: [0; 40],
+            marks: [0; 2],
             letters: 0,
         },
     }
 }
 
 // Reads one record of the kind that the number `kind` stands for.
+#[tactic(auto, unfolding(crate::specs::Values::found_of), using(crate::proofs::Columns::column_small))]
 #[unsafe(no_mangle)]
 pub extern "C" fn stragumella_read_record(kind: u32, bytes: &[u8]) -> Found
     ensures { result ≡ found_of kind bytes.now }
 {
-    let meant = kind_of(kind);
-    let Meant::A(k) = meant else {
+    let Some(kind) = kind_of(kind) else {
         return no_kind();
     };
-    let reading = record_reader::read_record(k, bytes);
-    let value = reading.value;
-    let same = value.kind;
-    let numbers = value.numbers;
-    let name = value.name;
-    let marks = value.marks;
+    let reading = record_reader::read_record(kind, bytes);
     Found {
         number: reading.number,
         place: reading.place,
         column: reading.column as u32,
-        value: Value {
-            kind: number_of(same),
-            numbers,
-            name,
-            marks,
-            letters: value.letters,
-        },
+        value: Value::from(reading.value),
     }
 }
 
 // Writes a record into the first 74 bytes of `buffer` and answers 0, or 21 or 20 with `buffer` as it was.
+#[tactic(auto, unfolding(crate::specs::Values::WrittenValue))]
 #[unsafe(no_mangle)]
 pub extern "C" fn stragumella_write_record(value: Value, buffer: &mut [u8]) -> u32
     ensures { WrittenValue buffer.old value result buffer.new }
 {
-    let meant = kind_of(value.kind);
-    let Meant::A(kind) = meant else {
-        if buffer.len() < 74 {
-            return 21;
-        }
-        return 20;
+    let Value {
+        kind,
+        numbers,
+        name,
+        marks,
+        letters,
+    } = value;
+    let Some(kind) = kind_of(kind) else {
+        return if buffer.len() < 74 { 21 } else { 20 };
     };
-    let numbers = value.numbers;
-    let name = value.name;
-    let marks = value.marks;
-    record_writer::write_record(
-        buffer,
-        Record {
-            kind,
-            numbers,
-            name,
-            marks,
-            letters: value.letters,
-        },
-    )
+    let record = Record {
+        kind,
+        numbers,
+        name,
+        marks,
+        letters,
+    };
+    record_writer::write_record(buffer, record)
 }

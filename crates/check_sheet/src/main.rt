@@ -2,5 +2,6 @@
 #![tactic(auto)]
 
 fn main(rt: HostRuntime) {
-    report::check(&mut rt.stdin(), &mut rt.stdout(), &mut rt.stderr());
+    // A read or a write that fails has been told to the standard error.
+    let _ = report::check(&mut rt.stdin(), &mut rt.stdout(), &mut rt.stderr());
 }

@@ -7,11 +7,9 @@ use native.Mathlib.Omega.{arith}
 use lib.IntN.{ℤ}
 use lib.ListN.{length, drop}
 use borrow.Author.Tests.{lt-ltb, le-ltb, eq-eqb, ne_eqb}
-use Rattle.verdict.specs.Rules.{Fine}
 use Rattle.walk.specs.Stages.{records_of}
 use Rattle.walk.specs.Row.{row_length}
 use Rattle.judge.specs.declared.Outcome.{Outcome}
-use Rattle.judge.specs.Rulebook.{verdict_of}
 use Rattle.judge.specs.Outcomes.{outcome_of, measures_of, measures_after}
 use Rattle.judge.proofs.Answers.{zero_accepts}
 use Rattle.judge.proofs.Measures.{measures_areas}
@@ -46,7 +44,7 @@ module _ (input : List ℕ) (h : length input ≤ 65490) {room places : ℕ} (a 
       → areas_text input ms (records_of input) ≡ measure_text input
   unfolding measure_text measures_after
   measure_ok z zs l f =
-      let v : verdict_of input room places ≡ Fine = zero_accepts input room places (ap (λ (x : Outcome). x.number) (sym e) ∙ z) in
+      let v = zero_accepts input room places (ap (λ (x : Outcome). x.number) (sym e) ∙ z) in
       let m = measures_of input in
       rw (le-ltb most_bytes (length input) (omega arith), ← told, eq-eqb o.number 0 z, (rw (← l, v) at f))
       (areas_told input m (drop (length m) zs) (measures_areas input room places v) (records_of input) (le_refl _))

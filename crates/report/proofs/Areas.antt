@@ -1,11 +1,12 @@
 -- The areas' lines, record by record: how many areas came, and the text so far. Assumes nothing.
-use mathlib.Core.Path.{◌≡◌, refl, ◌∙◌, ap, ap₂}
-use mathlib.Core.List.{List, ◌++◌}
-use Prim.Native.Nat.{ℕ, zero, suc, ◌+◌, ◌*◌, ◌/◌, ◌≤◌, ◌<◌}
+use mathlib.Core.Path.{◌≡◌, refl, ap₂}
+use mathlib.Core.List.{List, [], ◌++◌}
+use Prim.Native.Nat.{ℕ, zero, suc, ◌+◌, ◌/◌, ◌≤◌}
 use native.Mathlib.Numerals.{add-one}
 use native.Mathlib.Omega.{arith}
 use lib.IntN.{ℤ, pos}
 use lib.ListN.{length, get_or, get_or-append}
+use Rattle.std.proofs.Common.{append-nil}
 use borrow.Author.Tests.{le-ltb}
 use Rattle.records.specs.View.{record_of}
 use Rattle.rules.specs.declared.Due.{Due}
@@ -15,33 +16,7 @@ use Rattle.walk.specs.declared.Counts.{Counts}
 use Rattle.walk.specs.States.{due_of, state_at, counted_for, counts_at}
 use Rattle.walk.specs.Stages.{records_of}
 use Rattle.walk.proofs.Dues.{grown}
-use Rattle.walk.proofs.Walking.{counts_small}
-use Rattle.report.specs.declared.Shown.{Shown}
-use Rattle.report.specs.Texts.{area_text, record_text, area_count, areas_text}
-use Rattle.report.specs.Putting.{Put}
-use Rattle.report.proofs.Putting.{named}
-
-pub area_small : (d : Due) → area_count d ≤ 1
-area_small (Mesh last) = omega arith
-area_small (Layer last) = omega arith
-area_small (Node layer last) = omega arith
-area_small (Line layer last letters) = omega arith
-area_small (Coordinates left) = omega arith
-area_small (Area layer last) = omega arith
-area_small (Loop last count left) = omega arith
-
-pub area_named : {a b : List ℕ} {n r : ℕ} {x y : Shown} {m k : ℤ} → x ≡ y → m ≡ k → Put a n b r (area_text x m) → Put a n b r (area_text y k)
-area_named {y = y} {m = m} e f p = named (ap (λ z. area_text z m) e ∙ ap (λ z. area_text y z) f) p
-
--- ---- the areas of the first k of the file's n records, which are at most 885
-
-module _ (file : List ℕ) (n k : ℕ) {a : ℕ} (e : n ≡ records_of file) (f : records_of file ≤ 885) (p : a ≡ (counts_at file k).areas) where
-  pub few_areas : k ≤ n → a ≤ 885
-  few_areas l = omega (arith, p, (counts_small file k).areas)
-
-  -- a line has at most 135 bytes
-  pub room_left : k < n → {r : ℕ} → r ≤ 135 * a → r + 135 ≤ 120000
-  room_left l q = omega (arith, few_areas (omega arith), q)
+use Rattle.report.specs.Texts.{shown_in, area_text, record_text, area_count, areas_text}
 
 -- the bound of the programs' input
 pub few_records : (file : List ℕ) → length file ≤ 65490 → records_of file ≤ 885
@@ -57,26 +32,37 @@ counted_areas (Coordinates left) c t = omega arith
 counted_areas (Area layer last) c t = omega arith
 counted_areas (Loop last count left) c t = omega arith
 
-pub next_areas : (file : List ℕ) (k : ℕ) {a i : ℕ} {d : Due} → a ≡ (counts_at file k).areas
-    → d ≡ due_of (state_at file k) → i ≡ area_count d → a + i ≡ (counts_at file (k + 1)).areas
-unfolding counts_at
-next_areas file k {a} {i} {d} p q h =
-    let z = counted_areas (due_of (state_at file k)) (counts_at file k) (record_of file (suc k)) in
-    let y : i ≡ area_count (due_of (state_at file k)) = h ∙ ap area_count q in
-    rw add-one (omega (arith, z, y, p))
+-- ---- a record more
 
-pub next_text : (file : List ℕ) (ms : List ℤ) (k : ℕ) {a : ℕ} {s : State} {d : Due} {t : List ℕ} {m : ℤ} → s ≡ state_at file k → a ≡ (counts_at file k).areas
-    → d ≡ due_of (state_at file k) → t ≡ record_of file (k + 1) → m ≡ get_or ms a (pos 0) → areas_text file ms k ++ record_text d s t m ≡ areas_text file ms (k + 1)
-unfolding areas_text
-next_text file ms k e p q f g = rw (g, p, f, q, e, add-one)
+none_in : (d : Due) (c : Counts) (s : State) (t : List ℕ) (m : ℤ) → ((layer last : ℕ) → d ≡ Area layer last → ⊥)
+    → (record_text d s t m ≡ []) × ((counted_for d c t).areas ≡ c.areas)
+unfolding record_text
+none_in (Mesh last) c s t m h = (refl, refl)
+none_in (Layer last) c s t m h = (refl, refl)
+none_in (Node layer last) c s t m h = (refl, refl)
+none_in (Line layer last letters) c s t m h = (refl, refl)
+none_in (Coordinates left) c s t m h = (refl, refl)
+none_in (Area layer last) c s t m h = absurd (h layer last refl)
+none_in (Loop last count left) c s t m h = (refl, refl)
 
--- behind all of them
-pub all_areas : (file : List ℕ) (ms : List ℤ) (n k : ℕ) {a r : ℕ} {before after : List ℕ} → n ≡ records_of file
-    → records_of file ≤ 885 → a ≡ (counts_at file k).areas → k ≤ n → n ≤ k → r ≤ 135 * a
-    → Put before 0 after r (areas_text file ms k) → Put before 0 after r (areas_text file ms (records_of file)) × (r ≤ 119475)
-all_areas file ms n k e f p l m q x =
-    let z : k ≡ records_of file = omega arith in
-    (named (ap (λ j. areas_text file ms j) z) x, omega (arith, few_areas file n k e f p l, q))
+module _ (file : List ℕ) (ms : List ℤ) (k : ℕ) where
+  -- the text and the areas of the first k + 1 records
+  pub record More (line : List ℕ) (n : ℕ) : Type 0 where
+    pub text : areas_text file ms (k + 1) ≡ line
+    pub areas : (counts_at file (k + 1)).areas ≡ n
+
+  -- an A
+  pub area_more : {layer last : ℕ} → due_of (state_at file k) ≡ Area layer last
+      → More (areas_text file ms k ++ area_text (shown_in (state_at file k) (record_of file (k + 1))) (get_or ms (counts_at file k).areas (pos 0))) ((counts_at file k).areas + 1)
+  unfolding areas_text record_text counts_at
+  area_more e = record { text = rw (add-one k, e); areas = rw (add-one k, e) }
+
+  -- any other record
+  pub none_more : ((layer last : ℕ) → due_of (state_at file k) ≡ Area layer last → ⊥) → More (areas_text file ms k) (counts_at file k).areas
+  unfolding areas_text counts_at
+  none_more h =
+      let none = none_in (due_of (state_at file k)) (counts_at file k) (state_at file k) (record_of file (suc k)) (get_or ms (counts_at file k).areas (pos 0)) h in
+      record { text = rw (add-one k, none.0) (append-nil _); areas = rw (add-one k) none.1 }
 
 -- ---- the measures
 

@@ -1,24 +1,11 @@
 -- What the programs write of all that they are given. They read up to 65,491 bytes: what is longer gets the same text as those. Assumes nothing.
-use Rattle.std.proofs.Common.{◌≡◌, ℕ, ◌+◌, ◌<◌, ◌≤◌, List, [], ◌++◌, length, take, drop, Option, Some, None, IfSome, sym, ap, ◌∙◌, subst, arith, length-append, length-take-le, append-nil}
+use Rattle.std.proofs.Common.{◌≡◌, ℕ, ◌<◌, ◌≤◌, List, [], ◌++◌, length, take, Option, Some, None, IfSome, Ok, sym, ap, ◌∙◌, subst, arith, length-append, length-take-le, append-nil}
 use Rattle.std.proofs.Math.Logic.{inl, inr}
 use Rattle.std.proofs.lemmas.Bool.{cases_lt}
-use Rattle.std.proofs.lemmas.List.Edits.{sets-eq}
 use Rattle.std.specs.Io.KnownBytes.{Appends}
-use lib.Seq.{take-append_seam}
-use Rattle.streams.specs.declared.Input.TheVariants.{Bytes}
 use Rattle.streams.specs.Reading.{Taken}
 use Rattle.report.specs.Texts.{check_text, measure_text}
-use Rattle.report.specs.Putting.{Put}
 use Rattle.report.proofs.Answers.{check_long, measure_long}
-
--- what was put at the start of a buffer is its first bytes
-pub first_bytes : {before after text : List ℕ} {r : ℕ} → Put before 0 after r text → length before ≡ 120000 → r ≤ 120000 → take r after ≡ text
-first_bytes {before} {after} {text} {r} p e h =
-    let fits : 0 + length text ≤ length before = omega (arith, p.behind) in
-    let n : r ≡ length text = omega (arith, p.behind) in
-    ap (λ k. take k after) n
-    ∙ ap (take (length text)) (p.stands ∙ sets-eq text before 0 fits)
-    ∙ take-append_seam text (drop (0 + length text) before)
 
 -- a text of what is given is settled by its first 65,491 bytes
 abbrev pub IsSettled : (List ℕ → List ℕ) → Type 0
@@ -39,7 +26,7 @@ measure_settled = settled measure_text measure_long
 
 -- the text of what was read was written: it is that of all that was given
 pub all_given : {text : List ℕ → List ℕ} → IsSettled text → (known left old new : Option (List ℕ)) (n : ℕ) (buffer written : List ℕ) → length buffer ≡ 65491 → n ≤ length buffer
-    → Taken known left (Bytes n) buffer → written ≡ text (take n buffer) → Appends old new written → IfSome known (λ input. Appends old new (text input))
+    → Taken known left (Ok n) buffer → written ≡ text (take n buffer) → Appends old new written → IfSome known (λ input. Appends old new (text input))
 all_given s None left old new n buffer written e h t w p = tt
 all_given s (Some xs) None old new n buffer written e h t w p = absurd t.0
 all_given {text} s (Some xs) (Some ys) old new n buffer written e h t w p =

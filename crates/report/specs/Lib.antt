@@ -1,3 +1,2 @@
--- What the contracts of `report` cite: `Texts` has the text of every input; `Putting` serves the code.
+-- What the contracts of `report` cite: `Texts` has the text of every input.
 pub mod Texts
-pub mod Putting

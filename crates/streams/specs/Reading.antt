@@ -1,16 +1,15 @@
 -- What reading gives. Assumes nothing.
-use Rattle.std.specs.Prelude.{List, ℕ, ◌<◌, length, take, Option}
+use Rattle.std.specs.Prelude.{List, ℕ, ◌<◌, length, take, Option, Result, Ok, Err}
 use Rattle.std.specs.Io.KnownBytes.{Consumes, IsAtEnd}
 use Rattle.io.specs.Counts.{IsPrefixLen}
-use Rattle.streams.specs.declared.Input.{Input}
-use Rattle.streams.specs.declared.Input.TheVariants.{Bytes, Failed}
+use Rattle.streams.specs.declared.Told.{Told}
 
 -- the bytes stand at the start of the buffer
-abbrev pub Within : Input → List ℕ → Type 0
-Within (Bytes n) buffer = IsPrefixLen n buffer
-Within Failed buffer = Unit {0}
+abbrev pub Within : Result ℕ Told → List ℕ → Type 0
+Within (Ok n) buffer = IsPrefixLen n buffer
+Within (Err told) buffer = Unit {0}
 
 -- where it is known what a reader has left: the bytes are the first of it, and all of it where they do not fill the buffer
-abbrev pub Taken : Option (List ℕ) → Option (List ℕ) → Input → List ℕ → Type 0
-Taken old new (Bytes n) buffer = Consumes old new (take n buffer) × (n < length buffer → IsAtEnd new)
-Taken old new Failed buffer = Unit {0}
+abbrev pub Taken : Option (List ℕ) → Option (List ℕ) → Result ℕ Told → List ℕ → Type 0
+Taken old new (Ok n) buffer = Consumes old new (take n buffer) × (n < length buffer → IsAtEnd new)
+Taken old new (Err told) buffer = Unit {0}

@@ -5,70 +5,61 @@
 // The contract of `read_input` cites `specs/Reading`.
 #![tactic(auto)]
 
-ghost use Rattle.std.specs.Prelude.{◌≤◌, length, IsTrue};
+ghost use Rattle.std.specs.Prelude.{◌≤◌, length, OnOk};
 ghost use Rattle.std.specs.Io.KnownBytes.{Appends};
 ghost use Rattle.streams.specs.Reading.{Within, Taken};
 
 use std::io::{Error, Read, Write};
 
-// What reading gave: so many bytes, or a read that failed.
-#[derive(Clone, Copy)]
-pub enum Input {
-    Bytes(usize),
-    Failed,
-}
+// A read or a write failed, and the standard error was told why.
+#[derive(Clone, Copy, Debug)]
+pub struct Told;
 
-// Reads until `input` is full or what `source` gives ends. Where a read fails, `errors` is told `what` and
-// why.
+// Reads until `input` is full or what `source` gives ends, and answers how many bytes that were. Where a read
+// fails, `errors` is told `what` and why.
 pub fn read_input<R: Read, E: Write>(
     source: &mut R,
     errors: &mut E,
     input: &mut [u8],
     what: &[u8],
-) -> Input
+) -> Result<usize, Told>
     ensures within { Within result input.new }
     ensures bytes { Taken (R.remaining source.old) (R.remaining source.new) result input.new }
 {
     let mut n: usize = 0;
     while n < input.len() {
         match source.read(&mut input[n..]) {
-            Ok(0) => return Input::Bytes(n),
+            Ok(0) => return Ok(n),
             Ok(more) => n += more,
-            Err(why) => {
-                tell(errors, what, &why);
-                return Input::Failed;
-            }
+            Err(why) => return Err(tell(errors, what, &why)),
         }
     }
-    Input::Bytes(n)
+    Ok(n)
 }
 
-// Writes `text` to `output`; true where all of it could be written. Where not, `errors` is told `what` and why.
+// Writes all of `text` to `output`. Where a write fails, `errors` is told `what` and why.
 pub fn write_text<W: Write, E: Write>(
     output: &mut W,
     errors: &mut E,
     text: &[u8],
     what: &[u8],
-) -> bool
-    ensures { IsTrue result → Appends (W.contents output.old) (W.contents output.new) text.now }
+) -> Result<(), Told>
+    ensures { OnOk result (Appends (W.contents output.old) (W.contents output.new) text.now) }
 {
-    match output.write_all(text) {
-        Ok(()) => true,
-        Err(why) => {
-            tell(errors, what, &why);
-            false
-        }
-    }
+    output
+        .write_all(text)
+        .map_err(|why| tell(errors, what, &why))
 }
 
 // Tells `errors` in a line `what`, a colon and why. If that fails too, there is nobody left to tell.
-pub fn tell<E: Write>(errors: &mut E, what: &[u8], why: &Error) {
+pub fn tell<E: Write>(errors: &mut E, what: &[u8], why: &Error) -> Told {
     let mut text = [0u8; 320];
     let n = put_shown(&mut text, why);
     let _ = errors.write_all(what);
     let _ = errors.write_all(b": ");
     let _ = errors.write_all(in_words(&text[..n]).as_bytes());
     let _ = errors.write_all(b"\n");
+    Told
 }
 
 // What is shown of `why` stands in the first bytes of `text`, as many as are answered.

@@ -1,23 +1,13 @@
--- `report::measure` meets its contract: what was read and the text lie within their buffers, and that text is the one of all that was given.
--- Assumes nothing.
-use mathlib.Core.Path.{sym, ◌∙◌}
-use Prim.Native.Nat.{ℕ}
-use lib.ListN.{length-replicate}
-use lib.Seq.{length-take-le}
-use Rattle.report.proofs.Putting.{put_within}
-use Rattle.report.proofs.Programs.{first_bytes, measure_settled, all_given}
+-- `report::measure` meets its contract: the text of what was read is the one of all that was given, and it is what was written. Assumes nothing.
+use Rattle.std.proofs.Common.{ℕ, ◌∙◌}
+use Rattle.std.proofs.lemmas.List.{length-replicate}
+use Rattle.std.proofs.lemmas.Result.{on_ok_weaker}
+use Rattle.report.proofs.Programs.{measure_settled, all_given}
 use Rattle.report.proofs.measure.Goals as goal
 
-pub slice_bounds-out-end : goal.slice_bounds-out-end
-slice_bounds-out-end g c = put_within c.measure_text-r.ensures.0 (length-replicate {A = ℕ} 120000 0) c.measure_text-r.ensures.1
-
-pub slice_bounds-write_text-end : goal.slice_bounds-write_text-end
-slice_bounds-write_text-end g c =
-    sym (length-take-le _ _ (put_within c.measure_text-r.ensures.0 (length-replicate {A = ℕ} 120000 0) c.measure_text-r.ensures.1))
-
 pub returns : goal.returns
-returns g c = λ ok.
-    let r = c.in-Bytes.ensures in
-    let t = c.measure_text-r.ensures in
-    all_given measure_settled _ _ _ _ _ _ _ (c.read_input-read.auto.input ∙ length-replicate {A = ℕ} 65491 0) r.within.0 r.bytes
-    (first_bytes t.0 (length-replicate {A = ℕ} 120000 0) t.1) (c.write_text.ensures ok)
+returns g c =
+    let r = c.in_ok-n.ensures in
+    let all = c.read_input.auto.input ∙ length-replicate {A = ℕ} 65491 0 in
+    let text = c.text.ensures.text ∙ c.measure_text-page.ensures in
+    on_ok_weaker _ (all_given measure_settled _ _ _ _ _ _ _ all r.within.0 r.bytes text) c.write_text.ensures

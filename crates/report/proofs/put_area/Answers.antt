@@ -1,28 +1,21 @@
 -- `report::put_area` meets its contract: one piece after the other. Assumes nothing.
-use mathlib.Core.Path.{ap}
+use Rattle.std.proofs.Common.{append_assoc}
 use mir.Syntax.{w64}
 use mir.ValLaws.{to_z-of_z}
-use native.Mathlib.Omega.{arith}
-use Rattle.report.specs.Texts.{signed, area_text}
-use Rattle.report.proofs.Putting.{then, named}
+use Rattle.report.specs.Texts.{area_text}
 use Rattle.report.proofs.put_area.Goals as goal
 
-pub returns : goal.returns
+pub returns-clause-text : goal.returns-clause-text
 unfolding area_text
-returns c = (
-  then c.put_named-a.ensures.0
-      (then c.put_named-b.ensures.0
-      (then c.put_named-c.ensures.0
-      (then c.put_named-d.ensures.0
-      (then c.put-e.ensures (then (named (ap signed (to_z-of_z w64 c.args.m c.ranges.m)) c.put_signed-f.ensures.0) c.put.ensures))))),
-  omega (
-    arith,
-    c.put_named-a.ensures.1,
-    c.put_named-b.ensures.1,
-    c.put_named-c.ensures.1,
-    c.put_named-d.ensures.1,
-    c.put-e.ensures.behind,
-    c.put_signed-f.ensures.1,
-    c.put.ensures.behind,
-  ),
-)
+returns-clause-text c =
+    let m = rw (to_z-of_z w64 c.args.m c.ranges.m) at c.put_signed.ensures.text in
+    simp (
+      c.put-2.ensures,
+      m,
+      c.put.ensures,
+      c.put_named-4.ensures.text,
+      c.put_named-3.ensures.text,
+      c.put_named-2.ensures.text,
+      c.put_named.ensures.text,
+      append_assoc,
+    )

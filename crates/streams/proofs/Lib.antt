@@ -1,2 +1,0 @@
--- What a caller of `streams` goes by.
-pub mod Reading
