@@ -12,8 +12,7 @@ use lib.IntN.{ℤ, pos, negsuc}
 use borrow.Author.Tests.{lt-ltb, ltb-true, ltb-false, eqb-true}
 use Rattle.fields.specs.Answer.{number_refusal, value_of}
 use Rattle.fields.specs.Number.{number_at}
-use Rattle.fields.specs.declared.Number as numbers
-use Rattle.fields.specs.declared.Number.TheVariants as number
+use Rattle.std.specs.Prelude.{Option, Some, None}
 use Rattle.records.specs.View.{record_of, number_in}
 use Rattle.records.specs.Columns.{layer_lines, layer_areas}
 use Rattle.records.specs.Layout.{layout_of}
@@ -94,12 +93,12 @@ bare_areas file f i l e =
 -- ---- a coordinate
 
 -- what the field at column c answers is well formed and permitted
-sound_by : (t : List ℕ) (c : ℕ) (r : numbers.Number) → number_at t c 5 ≡ r → not (eqb (number_refusal r) 5) ≡ true
+sound_by : (t : List ℕ) (c : ℕ) (r : Option ℤ) → number_at t c 5 ≡ r → not (eqb (number_refusal r) 5) ≡ true
     → within 0 10000 (value_of r) ≡ true → SoundAt t c (coordinate_in t c)
 unfolding within coordinate_in
-sound_by t c (number.Value (pos n)) e f h = record { value = n; permitted = within_most 0 10000 (pos n) h; said = e; is = rw e }
-sound_by t c (number.Value (negsuc n)) e f h = absurd (false≢true h)
-sound_by t c number.Refused e f h = absurd (false≢true f)
+sound_by t c (Some (pos n)) e f h = record { value = n; permitted = within_most 0 10000 (pos n) h; said = e; is = rw e }
+sound_by t c (Some (negsuc n)) e f h = absurd (false≢true h)
+sound_by t c None e f h = absurd (false≢true f)
 
 -- number j of a coordinate record
 point_sound : (left : ℕ) (t : List ℕ) → Holding (checks_of (Coordinates left) t) → (c j : ℕ) → c ≡ 1 + 5 * j → j < 14 → j / 2 < left

@@ -9,7 +9,7 @@ use Rattle.fields.specs.Number.{after_blanks, digits_of, plain_of, signed_of, nu
 use Rattle.fields.specs.Spelling.{columns, spell}
 use Rattle.fields.specs.Text.{is_name, is_blanks, text_at}
 use Rattle.records.specs.Layout.{layout_of}
-use Rattle.fields.specs.declared.Number as numbers
+use Rattle.std.specs.Prelude.{Option}
 use Rattle.codes.specs.declared.Code as codes
 use Rattle.codes.specs.Code.{land_text, is_land, land_at, code_at, spell_code}
 use Rattle.records.specs.Reading.{head_letters, in_layer_five, code_in, fault_of}
@@ -88,8 +88,8 @@ refused_with n need = record { number = n; place = 0; column = 0; meshes = 0; la
 -- what is answered to a case, and what stands beside it
 pub data Answer : Type 0 where
   judged : Verdict → Answer
-  said : numbers.Number → Answer
-  coded : codes.Code → Answer
+  said : Option ℤ → Answer
+  coded : Option codes.Code → Answer
 
 abbrev pub found : Case → Answer
 found (sheet file v) = judged (verdict_of file 7 1)

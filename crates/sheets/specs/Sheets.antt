@@ -8,14 +8,11 @@
 --   further                   more files, of each refusal
 --   two_meshes, sheet_t, sheet_u accepted files: two meshes; two lines round one area; a lake in an area, with a hole for it
 --   two_layers, bare_meshes   accepted files: two layers in one mesh; two meshes with unstructured layers alone
-use Rattle.std.specs.Prelude.{List, [], ◌∷◌, ◌++◌, ℕ, zero, suc, ◌+◌, ◌-◌, ◌*◌, ℤ, pos, negsuc, length, take, drop}
-use Rattle.fields.specs.declared.Number.{Number}
-use Rattle.fields.specs.declared.Number.TheVariants.{Value, Refused}
+use Rattle.std.specs.Prelude.{List, [], ◌∷◌, ◌++◌, ℕ, zero, suc, ◌+◌, ◌-◌, ◌*◌, ℤ, pos, negsuc, length, take, drop, Option, Some, None}
 use Rattle.fields.specs.Place.{put}
 use Rattle.fields.specs.Spelling.{spell}
 use Rattle.codes.specs.Code.{land_text}
 use Rattle.codes.specs.declared.Code.{Code}
-use Rattle.codes.specs.declared.Code.TheVariants as code
 use Rattle.records.specs.declared.Kind.{Kind}
 use Rattle.records.specs.declared.Kind.TheVariants.{Mesh, Layer, Node, Line, Coordinates, Area, Loop}
 use Rattle.records.specs.Writing.{record_bytes}
@@ -130,8 +127,8 @@ three_zeros = 32 ∷ 32 ∷ 48 ∷ 48 ∷ 48 ∷ []
 -- as a code
 pub data Case : Type 0 where
   sheet : List ℕ → Verdict → Case
-  field : List ℕ → Number → Case
-  code_field : List ℕ → Code → Case
+  field : List ℕ → Option ℤ → Case
+  code_field : List ℕ → Option Code → Case
 
 -- RULES 11.2 to 11.4: S, then S changed in one place, then fields of five columns, in that order; then land; then an unstructured layer
 unfoldable pub cases : List Case
@@ -147,14 +144,14 @@ cases =
     ∷ sheet (take (74 * 6) sheet_s) (Broken 4 7 1)  -- without record 7: 4 at 7,1
     ∷ sheet (changed 2 2 (49 ∷ [])) (Broken 6 2 15)  -- H1: 6 at 2,15
     ∷ sheet (with_mesh 533985 1 6) (Broken 6 1 3)  -- mesh 533985: 6 at 1,3
-    ∷ field (32 ∷ 32 ∷ 32 ∷ 45 ∷ 49 ∷ []) (Value (negsuc 0))  -- width 5: "   -1" is -1
-    ∷ field (48 ∷ 48 ∷ 48 ∷ 48 ∷ 49 ∷ []) Refused  -- "00001" is 5
-    ∷ field (32 ∷ 32 ∷ 32 ∷ 45 ∷ 48 ∷ []) Refused  -- "   -0" is 5
-    ∷ field (32 ∷ 32 ∷ 32 ∷ 32 ∷ 32 ∷ []) Refused  -- five spaces are 5
-    ∷ code_field land_text (code.Value (pos 0) 1)  -- as a code " 0000" is 0 with mark 1
-    ∷ code_field (number 0) (code.Value (pos 0) 0)  -- "    0" is 0 with mark 0
-    ∷ code_field five_zeros code.Refused  -- "00000" is 5
-    ∷ code_field three_zeros code.Refused  -- "  000" is 5
+    ∷ field (32 ∷ 32 ∷ 32 ∷ 45 ∷ 49 ∷ []) (Some (negsuc 0))  -- width 5: "   -1" is -1
+    ∷ field (48 ∷ 48 ∷ 48 ∷ 48 ∷ 49 ∷ []) None  -- "00001" is 5
+    ∷ field (32 ∷ 32 ∷ 32 ∷ 45 ∷ 48 ∷ []) None  -- "   -0" is 5
+    ∷ field (32 ∷ 32 ∷ 32 ∷ 32 ∷ 32 ∷ []) None  -- five spaces are 5
+    ∷ code_field land_text (Some (record { value = pos 0; mark = 1 }))  -- as a code " 0000" is 0 with mark 1
+    ∷ code_field (number 0) (Some (record { value = pos 0; mark = 0 }))  -- "    0" is 0 with mark 0
+    ∷ code_field five_zeros None  -- "00000" is 5
+    ∷ code_field three_zeros None  -- "  000" is 5
     ∷ sheet (land_sheet (number 88888) land_text (number 0)) Fine  -- right code " 0000", A's code "    0"
     ∷ sheet (land_sheet (number 88888) (number 0) land_text) Fine  -- the other way round
     ∷ sheet (land_sheet (number 88888) five_zeros (number 0)) (Broken 5 4 40)  -- right code "00000": 5 at 4,40

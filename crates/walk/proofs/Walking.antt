@@ -10,8 +10,7 @@ use mir.Facts.{to_z-of_z}
 use mir.Syntax.{w32}
 use mir.Val.{SFits, to_z, of_z}
 use Rattle.fields.specs.Number.{number_at}
-use Rattle.fields.specs.declared.Number as numbers
-use Rattle.fields.specs.declared.Number.TheVariants as number
+use Rattle.std.specs.Prelude.{Option, Some, None}
 use Rattle.fields.proofs.FieldLaws.{number_small}
 use Rattle.records.specs.View.{record_of}
 use Rattle.permitted.specs.Permitted.{size}
@@ -30,12 +29,12 @@ unfolding size_in
 size_small t c w = omega (arith, number_small t c w)
 
 -- by the reader's answer a: none; the number v, as the machine has it
-module _ (t : List ℕ) (c w : ℕ) {a : numbers.Number} (e : a ≡ number_at t c w) where
-  pub size_none : a ≡ number.Refused → 0 ≡ size_in t c w
+module _ (t : List ℕ) (c w : ℕ) {a : Option ℤ} (e : a ≡ number_at t c w) where
+  pub size_none : a ≡ None → 0 ≡ size_in t c w
   unfolding size_in
   size_none h = rw (← e, h)
 
-  pub size_value : {v : ℤ} {r : ℕ} → a ≡ number.Value v → SFits w32 v → r ≡ size (to_z w32 (of_z w32 v)) → r ≡ size_in t c w
+  pub size_value : {v : ℤ} {r : ℕ} → a ≡ Some v → SFits w32 v → r ≡ size (to_z w32 (of_z w32 v)) → r ≡ size_in t c w
   unfolding size_in
   size_value h f q = rw (← e, h) (q ∙ ap size (to_z-of_z f))
 

@@ -15,7 +15,6 @@ ghost use Rattle.walk.specs.Table.{table_of, filled, filled_by, tabled_of};
 ghost use Rattle.walk.specs.Storing.{stored_at, record_words, Roomy};
 ghost use Rattle.walk.specs.Quiet.{passed, quiet_ahead, counted_past, fine_ahead};
 
-use fields::Number;
 use records::Columns;
 use rules::Due;
 use verdict::{Refusal, Verdict};
@@ -110,11 +109,10 @@ impl From<Refusal> for Refused {
 pub fn size_at(t: &[u8], c: Columns) -> usize
     ensures { (result ≡ size_in t.now c.0 c.1) × (result ≤ 999999) }
 {
-    let answer = numerals::read_number(t, c.0, c.1);
-    let Number::Value(v) = answer else {
-        return 0;
-    };
-    permitted::size(v)
+    match numerals::read_number(t, c.0, c.1) {
+        Some(v) => permitted::size(v),
+        None => 0,
+    }
 }
 
 // What is due.

@@ -3,10 +3,10 @@ use borrow.Author.Rules.{rules}
 use Rattle.walk.proofs.Walking.{size_small, size_none, size_value}
 use Rattle.walk.proofs.size_at.Goals as goal
 
-pub returns-in_default : goal.returns-in_default
-returns-in_default c = (size_none _ _ _ c.read_number-answer.ensures c.in_default.is, search rules)
-
-pub returns : goal.returns
-returns c =
-    let e = size_value _ _ _ c.read_number-answer.ensures c.in-Value.is (record { sfits = c.in-Value.known_told-1-own.given.0.1 }) c.size.ensures in
+pub returns-in-Some : goal.returns-in-Some
+returns-in-Some c =
+    let e = size_value _ _ _ c.read_number.ensures c.in-Some.is (search rules) c.size.ensures in
     (e, rw e (size_small _ _ _))
+
+pub returns-in-None : goal.returns-in-None
+returns-in-None c = (size_none _ _ _ c.read_number.ensures c.in-None.is, search rules)
