@@ -18,12 +18,6 @@ returns-then-from-n c = sym (refused_endless c.digits_at_end-from.ensures (omega
 some : (c : Else-from-n) → c.digits_at_end-from.result.from < length c.args.f.now
 some c = omega (arith, c.digits_at_end-from.ensures.digits.inside)
 
-pub bounds-f-from : goal.bounds-f-from
-bounds-f-from c = omega (arith, some (goal.at.bounds-f-from c).Else-from-n)
-
-pub overflow_add-from : goal.overflow_add-from
-overflow_add-from c = omega (arith, some (goal.at.overflow_add-from c).Else-from-n)
-
 pub returns-then-f-from : goal.returns-then-f-from
 returns-then-f-from c =
     let z = leads _ _ _ c.if-f-from.true in
@@ -37,6 +31,3 @@ signed-requires c =
       narrow = c.if-n-gt6.false;
       alone = leads_not _ _ _ c.if-f-from.false;
     }
-
-pub returns : goal.returns
-returns c = c.signed.ensures

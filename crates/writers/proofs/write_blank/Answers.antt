@@ -3,7 +3,7 @@ use mathlib.Core.Path.{sym, ◌∙◌}
 use Prim.Native.Nat.{◌+◌, ◌-◌, ◌≤◌}
 use native.Mathlib.Omega.{arith}
 use lib.ListN.{length, length-replicate}
-use Rattle.writers.proofs.Answers.{wrote_nothing, wrote_all}
+use Rattle.writers.proofs.Answers.{wrote_all}
 use Rattle.writers.proofs.Filling.{blanks_are}
 use Rattle.fields.proofs.Places.{inside_bounds}
 use Rattle.writers.proofs.write_blank.Goals as goal
@@ -12,9 +12,6 @@ use Rattle.writers.proofs.write_blank.Goals.{Else-not-inside}
 -- past the first test the field lies inside
 bounds : (c : Else-not-inside) → (1 ≤ c.args.column) × (c.args.column - 1 + c.args.width ≤ length c.args.buf.now)
 bounds c = inside_bounds _ _ _ (sym c.inside.ensures ∙ c.if-not-inside.false)
-
-pub returns-then-not-inside : goal.returns-then-not-inside
-returns-then-not-inside c = wrote_nothing _ _ _ _ (sym c.inside.ensures ∙ c.if-not-inside.true)
 
 pub overflow_sub-column : goal.overflow_sub-column
 overflow_sub-column c = let p = bounds (goal.at.overflow_sub-column c).Else-not-inside in omega arith
