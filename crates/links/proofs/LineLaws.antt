@@ -4,7 +4,7 @@ use mathlib.Core.List.{List, [], ◌∷◌}
 use mathlib.Core.Path.{◌≡◌, refl, sym, ◌∙◌, ap}
 use Prim.Native.Nat.{ℕ, ◌+◌, ◌-◌, ◌≤◌, ◌<◌, ◌^◌}
 use native.Mathlib.Omega.{arith}
-use lib.Dec.{eqb}
+use lib.Dec.{eqb, lit≤}
 use lib.IntN.{ℤ}
 use lib.Signed.{mag}
 use mir.Syntax.{w32}
@@ -167,10 +167,10 @@ module _ (file : List ℕ) (l : Layer) (q r left row : ℕ) where
 
     -- b says whether the first point is at its node
     module _ {w : ℤ} {b : Bool} (u : left ≡ n) (okw : InWord w) (ew : w ≡ value_at file q column.start_node) (a : b ≡ at_node file l (handed_on w) r 0) where
-      pub first_broken_lem : {x : Verdict} → b ≡ false → x ≡ Broken 12 row 1 → x ≡ first_broken (block fifth row (first_point_checks file l q r left))
+      pub first_broken_lem : {x : Verdict} → b ≡ false → x ≡ Broken 12 row (slot_start 1 10 7 0) → x ≡ first_broken (block fifth row (first_point_checks file l q r left))
       unfolding first_point_checks
       first_broken_lem t v =
-          rw (lt-ltb 1 left h, answer_is size ok e s, eq-eqb left n u) (broke _ _ _ _ _ (answer_is (λ v. at_node file l v r 0) okw ew a ∙ t) v)
+          rw (lt-ltb 1 left h, answer_is size ok e s, eq-eqb left n u) (broke _ _ _ _ _ (answer_is (λ v. at_node file l v r 0) okw ew a ∙ t) (slot_told column.points_x (lit≤ tt) v))
 
       pub first_kept : b ≡ true → Fine ≡ first_broken (block fifth row (first_point_checks file l q r left))
       unfolding first_point_checks
@@ -190,11 +190,11 @@ module _ (file : List ℕ) (l : Layer) (q r left row : ℕ) where
   -- it is: b says whether it is at its node
   module _ {w : ℤ} {b : Bool} (h : left ≡ 0 → ⊥) (u : left ≤ 7) (okw : InWord w)
       (ew : w ≡ value_at file q column.end_node) (a : b ≡ at_node file l (handed_on w) r (left - 1)) where
-    pub last_broken : {x : Verdict} → b ≡ false → x ≡ Broken 12 row (slot_column column.points_x (left - 1))
+    pub last_broken : {x : Verdict} → b ≡ false → x ≡ Broken 12 row (slot_start 1 10 7 (left - 1))
         → x ≡ first_broken (block fifth row (last_point_checks file l q r left))
     unfolding last_point_checks
     last_broken t v =
-        rw (lt-ltb 0 left (omega (arith, h)), le-leb left 7 u) (broke _ _ _ _ _ (answer_is (λ v. at_node file l v r (left - 1)) okw ew a ∙ t) v)
+        rw (lt-ltb 0 left (omega (arith, h)), le-leb left 7 u) (broke _ _ _ _ _ (answer_is (λ v. at_node file l v r (left - 1)) okw ew a ∙ t) (slot_told column.points_x (omega arith) v))
 
     pub last_kept : b ≡ true → Fine ≡ first_broken (block fifth row (last_point_checks file l q r left))
     unfolding last_point_checks
@@ -214,11 +214,11 @@ abbrev pub entry_slot : List ℕ → Layer → ℕ → ℕ → List Check
 entry_slot file l r i = check (slot_column column.loop_entries i) 11 (is_zero (loop_entry file r i) || names_line l.lines (loop_entry file r i)) ∷ []
 
 module _ (file : List ℕ) (l : Layer) (r row : ℕ) where
-  pub entries_stop : (i : ℕ) {x : Verdict} → x ≡ Broken 11 row (slot_column column.loop_entries i)
+  pub entries_stop : (i : ℕ) {x : Verdict} → x ≡ Broken 11 row (slot_start 10 5 12 i)
       → (is_zero (loop_entry file r i) || names_line l.lines (loop_entry file r i)) ≡ false → i < 12
       → first_broken (rows i (slot_rules fifth row (entry_slot file l r))) ≡ Fine → x ≡ first_broken (block fifth row (entry_checks file l r))
   unfolding entry_checks
-  entries_stop i v t k f = slots_stop fifth row 12 (entry_slot file l r) i v (broke _ _ _ _ _ t v) f k
+  entries_stop i v t k f = slots_stop fifth row 12 (entry_slot file l r) i v (broke _ _ _ _ _ t (slot_told column.loop_entries k v)) f k
 
   pub entries_pass : (i : ℕ) → (is_zero (loop_entry file r i) || names_line l.lines (loop_entry file r i)) ≡ true
       → first_broken (rows i (slot_rules fifth row (entry_slot file l r))) ≡ Fine

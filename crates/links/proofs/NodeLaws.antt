@@ -2,16 +2,17 @@
 use mathlib.Core.Bool.{Bool, true, false, not, ◌||◌}
 use mathlib.Core.List.{List, [], ◌∷◌}
 use mathlib.Core.Path.{◌≡◌, refl, ◌∙◌}
-use Prim.Native.Nat.{ℕ}
+use Prim.Native.Nat.{ℕ, ◌<◌}
 use Rattle.permitted.specs.Permitted.{is_zero}
 use Rattle.layers.specs.declared.Layer.{Layer}
 use Rattle.layers.specs.Naming.{names_line}
-use Rattle.records.specs.Columns.{slot_column}
+use Rattle.records.specs.Columns.{slot_start, slot_column}
 use Rattle.records.specs.Columns as column
 use Rattle.verdict.specs.Rules.{Verdict, Fine, Broken, check, first_broken, block}
 use Rattle.verdict.proofs.Parts.{fine_broken, check_kept, check_broken}
 use Rattle.links.specs.Links.{repeats, node_entry, meets, repeats_node, node_slot, fifth}
 use Rattle.links.specs.Scanning.{clean}
+use Rattle.links.proofs.LineLaws.{slot_told}
 
 module _ (file t : List ℕ) (l : Layer) (r i row : ℕ) where
   -- what they come to
@@ -23,20 +24,20 @@ module _ (file t : List ℕ) (l : Layer) (r i row : ℕ) where
   unfolding node_slot first_broken block
   slot_none z = rw z
 
-  module _ (z : is_zero (node_entry file r i) ≡ false) where
-    pub slot_eleven : {v : Verdict} → v ≡ Broken 11 row (slot_column column.node_entries i) → names_line l.lines (node_entry file r i) ≡ false → v ≡ judged
+  module _ (m : i < 9) (z : is_zero (node_entry file r i) ≡ false) where
+    pub slot_eleven : {v : Verdict} → v ≡ Broken 11 row (slot_start 26 5 9 i) → names_line l.lines (node_entry file r i) ≡ false → v ≡ judged
     unfolding node_slot first_broken block
-    slot_eleven h a = h ∙ rw (z, a)
+    slot_eleven h a = slot_told column.node_entries m h ∙ rw (z, a)
 
     module _ (a : names_line l.lines (node_entry file r i) ≡ true) where
-      pub slot_twelve : {v : Verdict} → v ≡ Broken 12 row (slot_column column.node_entries i) → meets file t l r (node_entry file r i) ≡ false → v ≡ judged
+      pub slot_twelve : {v : Verdict} → v ≡ Broken 12 row (slot_start 26 5 9 i) → meets file t l r (node_entry file r i) ≡ false → v ≡ judged
       unfolding node_slot first_broken block
-      slot_twelve h b = h ∙ rw (z, a, b)
+      slot_twelve h b = slot_told column.node_entries m h ∙ rw (z, a, b)
 
       module _ (b : meets file t l r (node_entry file r i) ≡ true) where
-        pub slot_thirteen : {v : Verdict} → v ≡ Broken 13 row (slot_column column.node_entries i) → clean (node_entry file r) i ≡ false → v ≡ judged
+        pub slot_thirteen : {v : Verdict} → v ≡ Broken 13 row (slot_start 26 5 9 i) → clean (node_entry file r) i ≡ false → v ≡ judged
         unfolding node_slot first_broken block clean repeats_node
-        slot_thirteen h d = h ∙ rw (d, z, a, b)
+        slot_thirteen h d = slot_told column.node_entries m h ∙ rw (d, z, a, b)
 
         pub slot_fine : clean (node_entry file r) i ≡ true → Fine ≡ judged
         unfolding node_slot first_broken block clean repeats_node

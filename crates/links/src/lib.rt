@@ -128,6 +128,7 @@ fn meets(file: &[u8], table: &[u32], l: Layer, r: usize, v: i32) -> bool
 }
 
 // Slot `i` of the N at record `r`; `again` says that it repeats an earlier one.
+#[tactic(auto, using(crate::proofs::NodeLaws::slot_none, crate::proofs::NodeLaws::slot_eleven, crate::proofs::NodeLaws::slot_twelve, crate::proofs::NodeLaws::slot_thirteen, crate::proofs::NodeLaws::slot_fine))]
 fn judge_slot(
     file: &[u8],
     table: &[u32],
@@ -185,6 +186,7 @@ fn link_fits(link: i32, frame: i32) -> bool
 }
 
 // One end of the line at record `r`: its node number in the columns `c`, its link in the columns `k`.
+#[tactic(auto, using(crate::proofs::LineLaws::end_unnamed, crate::proofs::LineLaws::end_unlisted, crate::proofs::LineLaws::end_unfit, crate::proofs::LineLaws::end_fine))]
 fn judge_end(
     file: &[u8],
     l: Layer,
@@ -215,6 +217,7 @@ fn judge_end(
 }
 
 // One side of the line at record `r`: its code in the columns `c`, its area number in the columns `a`.
+#[tactic(auto, using(crate::proofs::LineLaws::side_none, crate::proofs::LineLaws::side_unnamed, crate::proofs::LineLaws::side_unlike, crate::proofs::LineLaws::side_fine))]
 fn judge_side(
     file: &[u8],
     table: &[u32],
@@ -296,6 +299,7 @@ fn at_node(file: &[u8], l: Layer, v: i32, r: usize, i: usize) -> bool
 }
 
 // The first point, where all points of the line are left; the L is record `q`.
+#[tactic(auto, using(crate::proofs::LineLaws::first_few, crate::proofs::LineLaws::first_later, crate::proofs::LineLaws::first_broken_lem, crate::proofs::LineLaws::first_kept))]
 fn judge_first(file: &[u8], l: Layer, q: usize, r: usize, left: usize, row: u32) -> Verdict
     ensures { result ≡ first_broken (block fifth row (first_point_checks file.now l q r left)) }
 {
@@ -313,6 +317,7 @@ fn judge_first(file: &[u8], l: Layer, q: usize, r: usize, left: usize, row: u32)
 }
 
 // The last point, where no more than seven are left.
+#[tactic(auto, using(crate::proofs::LineLaws::last_none, crate::proofs::LineLaws::last_later, crate::proofs::LineLaws::last_broken, crate::proofs::LineLaws::last_kept))]
 fn judge_last(file: &[u8], l: Layer, q: usize, r: usize, left: usize, row: u32) -> Verdict
     ensures { result ≡ first_broken (block fifth row (last_point_checks file.now l q r left)) }
 {
@@ -382,6 +387,7 @@ fn judge_record(d: Due, file: &[u8], table: &[u32], l: Layer, line: usize, r: us
 
 // How many coordinate records come before the last one of a line, where none of them is its first: they
 // name nothing.
+#[tactic(auto, using(crate::proofs::StageLaws::between_some))]
 fn between(file: &[u8], table: &[u32], l: Layer, s: State) -> usize
     ensures { Between file.now table.now l s result }
 {

@@ -7,7 +7,7 @@ use Rattle.layers.specs.Naming.{names_line}
 use Rattle.records.specs.Columns.{loop_entries}
 use Rattle.links.proofs.Numbers.{asked}
 use Rattle.links.proofs.Scans.{slot_first}
-use Rattle.links.proofs.LineLaws.{or_none, or_left, or_right, slot_told, entries_stop, entries_pass, entries_done}
+use Rattle.links.proofs.LineLaws.{or_none, or_left, or_right, entries_stop, entries_pass, entries_done}
 use Rattle.links.proofs.judge_entries.Goals as goal
 use Rattle.links.proofs.judge_entries.Goals.{else-not-is_zero-via-then-not-is_zero+else-not-names_line, else-not-is_zero-via-else-not-is_zero}
 
@@ -18,7 +18,7 @@ pub returns-then-not-names_line : goal.returns-then-not-names_line
 returns-then-not-names_line c =
     let v = c.slot_of-v in
     let e = v.ensures ∙ slot_first _ _ _ c.loop-i-test.true in
-    entries_stop _ _ _ _ _ (slot_told loop_entries (omega arith) c.slot_broken.ensures)
+    entries_stop _ _ _ _ _ c.slot_broken.ensures
     (or_none _ _ (asked is_zero v.type_inv e c.is_zero.ensures c.if-not-is_zero.true) (asked (names_line _) v.type_inv e c.names_line.ensures c.if-not-names_line.true))
     c.loop-i-test.true c.loop-i.invariant
 
