@@ -158,6 +158,7 @@ fn judge_slot(
 }
 
 // The entries of the N at record `r`.
+#[tactic(auto, using(crate::proofs::Scans::slots_stop, crate::proofs::Scans::slots_done, crate::proofs::Scans::goes_past, crate::proofs::NodeLaws::slot_clean, verdict::proofs::Parts::rows_none, verdict::proofs::Parts::rows_pass), unfolding(crate::specs::Links::node_checks))]
 fn judge_node(file: &[u8], table: &[u32], l: Layer, r: usize, row: u32) -> Verdict
     ensures { result ≡ first_broken (block fifth row (node_checks file.now table.now l r)) }
 {
@@ -346,6 +347,7 @@ fn judge_points(file: &[u8], l: Layer, q: usize, r: usize, left: usize, row: u32
 // ---- loop records
 
 // The entries of the loop record `r`.
+#[tactic(auto, using(crate::proofs::LineLaws::entries_stop, crate::proofs::LineLaws::entries_pass, crate::proofs::LineLaws::entries_done, crate::proofs::Scans::slot_first, verdict::proofs::Parts::rows_none))]
 fn judge_entries(file: &[u8], l: Layer, r: usize, row: u32) -> Verdict
     ensures { result ≡ first_broken (block fifth row (entry_checks file.now l r)) }
 {
@@ -368,6 +370,7 @@ fn current_line(table: &[u32], l: Layer, line: usize) -> usize
 }
 
 // Record `r`, due as `d`, in the layer `l`; `line` lines of the layer came before it.
+#[tactic(auto, using(verdict::proofs::Parts::check_none))]
 fn judge_record(d: Due, file: &[u8], table: &[u32], l: Layer, line: usize, r: usize) -> Verdict
     requires { r ≤ 6399936 }
     ensures { result ≡ first_broken (block fifth r (link_checks d file.now table.now l line r)) }
@@ -402,6 +405,7 @@ fn between(file: &[u8], table: &[u32], l: Layer, s: State) -> usize
 }
 
 // Stage 4: every record by what it names.
+#[tactic(auto, using(layers::proofs::Stages::stage_stops, layers::proofs::Stages::stage_done), unfolding(crate::specs::Links::stage_four))]
 pub fn stage_four(file: &[u8], table: &[u32], b: Bases) -> Verdict
     ensures { result ≡ first_broken (stage_four file.now table.now b) }
 {
