@@ -15,14 +15,14 @@ use Rattle.records.specs.Columns as column
 use Rattle.records.proofs.Named.{start_there}
 use Rattle.records.proofs.Codes.{code_on_lem}
 use Rattle.verdict.specs.Rules.{Verdict, Fine, Broken, Check, check, first_broken, block, rows}
-use Rattle.verdict.proofs.Parts.{part_passes, rows_pass, check_none, check_kept, check_broken}
+use Rattle.verdict.proofs.Parts.{part_passes, rows_none, rows_pass, check_none, check_kept, check_broken}
 use Rattle.permitted.specs.Permitted.{size, is_zero}
 use Rattle.layers.specs.declared.Layer.{Layer}
 use Rattle.layers.specs.Naming.{names, names_line, node_of, area_of}
 use Rattle.links.specs.Links.{equal, serial_in, listed, link_fits, line_end_checks, side_checks, at_node}
 use Rattle.links.specs.Links.{first_point_checks, last_point_checks, point_checks, loop_entry, entry_checks, fifth}
 use Rattle.links.proofs.Numbers.{asked, told_both, compared}
-use Rattle.links.proofs.Scans.{slot_rules, slots_stop, slots_done}
+use Rattle.links.proofs.Scans.{slot_first, slot_rules, slots_stop, slots_done}
 
 -- ---- answers
 
@@ -110,6 +110,8 @@ module _ (file : List ℕ) (l : Layer) (r : ℕ) (c k : Span) (back : Bool) (row
           (kept _ _ _ _ _ (waits _ _ (named n t) (lists f g q ∙ u))
           (kept _ _ _ _ _ (waits _ _ (named n t) (fits ∙ h)) (check_none fifth row)))
 
+pub ruleset end_laws = (end_unnamed, end_unlisted, end_unfit, end_fine)
+
 -- ---- one side of a line
 
 -- z is its area number, and b says whether it names an area
@@ -150,6 +152,8 @@ module _ (file t : List ℕ) (l : Layer) (r : ℕ) (c a : Span) (row : ℕ) {z :
     unfolding side_checks
     side_fine h u =
         kept _ _ _ _ _ (waits _ _ (area h) (alike ∙ eq-eqb _ _ u)) (kept _ _ _ _ _ (or_right (is_zero (number_on file r a)) _ (area h)) (check_none fifth row))
+
+pub ruleset side_laws = (side_none, side_unnamed, side_unlike, side_fine)
 
 -- ---- points
 
@@ -208,6 +212,10 @@ module _ (file : List ℕ) (l : Layer) (q r left row : ℕ) where
   unfolding point_checks
   points_later h u ok e s = part_passes fifth row _ _ refl (first_later (omega arith) ok e s (λ i. omega arith)) (last_later (λ i. omega arith) h)
 
+pub ruleset first_laws = (first_few, first_later, first_broken_lem, first_kept)
+
+pub ruleset last_laws = (last_none, last_later, last_broken, last_kept)
+
 -- ---- entries of a loop record
 
 abbrev pub entry_slot : List ℕ → Layer → ℕ → ℕ → List Check
@@ -229,3 +237,5 @@ module _ (file : List ℕ) (l : Layer) (r row : ℕ) where
       → Fine ≡ first_broken (block fifth row (entry_checks file l r))
   unfolding entry_checks
   entries_done i f k m = slots_done fifth row 12 (entry_slot file l r) i f k m
+
+pub ruleset entry_laws = (rows_none, slot_first, entries_stop, entries_pass, entries_done)

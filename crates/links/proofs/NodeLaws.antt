@@ -9,9 +9,10 @@ use Rattle.layers.specs.Naming.{names_line}
 use Rattle.records.specs.Columns.{slot_start, slot_column}
 use Rattle.records.specs.Columns as column
 use Rattle.verdict.specs.Rules.{Verdict, Fine, Broken, check, first_broken, block}
-use Rattle.verdict.proofs.Parts.{fine_broken, check_kept, check_broken}
+use Rattle.verdict.proofs.Parts.{fine_broken, rows_none, rows_pass, check_kept, check_broken}
 use Rattle.links.specs.Links.{repeats, node_entry, meets, repeats_node, node_slot, fifth}
 use Rattle.links.specs.Scanning.{clean}
+use Rattle.links.proofs.Scans.{slots_stop, slots_done, goes_past}
 use Rattle.links.proofs.LineLaws.{slot_told}
 
 module _ (file t : List ℕ) (l : Layer) (r i row : ℕ) where
@@ -60,3 +61,7 @@ module _ (file t : List ℕ) (l : Layer) (r i row : ℕ) where
       third true false false h = fine_broken h (check_kept fifth row _ 11 true _ refl ∙ check_broken fifth row _ 12 false _ refl)
       third true true false h =
           fine_broken h (check_kept fifth row _ 11 true _ refl ∙ (check_kept fifth row _ 12 true _ refl ∙ check_broken fifth row _ 13 false _ refl))
+
+pub ruleset slot_laws = (slot_none, slot_eleven, slot_twelve, slot_thirteen, slot_fine)
+
+pub ruleset node_laws = (rows_none, rows_pass, slots_stop, slots_done, goes_past, slot_clean)

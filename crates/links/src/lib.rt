@@ -128,7 +128,7 @@ fn meets(file: &[u8], table: &[u32], l: Layer, r: usize, v: i32) -> bool
 }
 
 // Slot `i` of the N at record `r`; `again` says that it repeats an earlier one.
-#[tactic(auto, using(crate::proofs::NodeLaws::slot_none, crate::proofs::NodeLaws::slot_eleven, crate::proofs::NodeLaws::slot_twelve, crate::proofs::NodeLaws::slot_thirteen, crate::proofs::NodeLaws::slot_fine))]
+#[tactic(auto, using(crate::proofs::NodeLaws::slot_laws))]
 fn judge_slot(
     file: &[u8],
     table: &[u32],
@@ -158,7 +158,7 @@ fn judge_slot(
 }
 
 // The entries of the N at record `r`.
-#[tactic(auto, using(crate::proofs::Scans::slots_stop, crate::proofs::Scans::slots_done, crate::proofs::Scans::goes_past, crate::proofs::NodeLaws::slot_clean, verdict::proofs::Parts::rows_none, verdict::proofs::Parts::rows_pass), unfolding(crate::specs::Links::node_checks))]
+#[tactic(auto, using(crate::proofs::NodeLaws::node_laws), unfolding(crate::specs::Links::node_checks))]
 fn judge_node(file: &[u8], table: &[u32], l: Layer, r: usize, row: u32) -> Verdict
     ensures { result ≡ first_broken (block fifth row (node_checks file.now table.now l r)) }
 {
@@ -187,7 +187,7 @@ fn link_fits(link: i32, frame: i32) -> bool
 }
 
 // One end of the line at record `r`: its node number in the columns `c`, its link in the columns `k`.
-#[tactic(auto, using(crate::proofs::LineLaws::end_unnamed, crate::proofs::LineLaws::end_unlisted, crate::proofs::LineLaws::end_unfit, crate::proofs::LineLaws::end_fine))]
+#[tactic(auto, using(crate::proofs::LineLaws::end_laws))]
 fn judge_end(
     file: &[u8],
     l: Layer,
@@ -218,7 +218,7 @@ fn judge_end(
 }
 
 // One side of the line at record `r`: its code in the columns `c`, its area number in the columns `a`.
-#[tactic(auto, using(crate::proofs::LineLaws::side_none, crate::proofs::LineLaws::side_unnamed, crate::proofs::LineLaws::side_unlike, crate::proofs::LineLaws::side_fine))]
+#[tactic(auto, using(crate::proofs::LineLaws::side_laws))]
 fn judge_side(
     file: &[u8],
     table: &[u32],
@@ -300,7 +300,7 @@ fn at_node(file: &[u8], l: Layer, v: i32, r: usize, i: usize) -> bool
 }
 
 // The first point, where all points of the line are left; the L is record `q`.
-#[tactic(auto, using(crate::proofs::LineLaws::first_few, crate::proofs::LineLaws::first_later, crate::proofs::LineLaws::first_broken_lem, crate::proofs::LineLaws::first_kept))]
+#[tactic(auto, using(crate::proofs::LineLaws::first_laws))]
 fn judge_first(file: &[u8], l: Layer, q: usize, r: usize, left: usize, row: u32) -> Verdict
     ensures { result ≡ first_broken (block fifth row (first_point_checks file.now l q r left)) }
 {
@@ -318,7 +318,7 @@ fn judge_first(file: &[u8], l: Layer, q: usize, r: usize, left: usize, row: u32)
 }
 
 // The last point, where no more than seven are left.
-#[tactic(auto, using(crate::proofs::LineLaws::last_none, crate::proofs::LineLaws::last_later, crate::proofs::LineLaws::last_broken, crate::proofs::LineLaws::last_kept))]
+#[tactic(auto, using(crate::proofs::LineLaws::last_laws))]
 fn judge_last(file: &[u8], l: Layer, q: usize, r: usize, left: usize, row: u32) -> Verdict
     ensures { result ≡ first_broken (block fifth row (last_point_checks file.now l q r left)) }
 {
@@ -347,7 +347,7 @@ fn judge_points(file: &[u8], l: Layer, q: usize, r: usize, left: usize, row: u32
 // ---- loop records
 
 // The entries of the loop record `r`.
-#[tactic(auto, using(crate::proofs::LineLaws::entries_stop, crate::proofs::LineLaws::entries_pass, crate::proofs::LineLaws::entries_done, crate::proofs::Scans::slot_first, verdict::proofs::Parts::rows_none))]
+#[tactic(auto, using(crate::proofs::LineLaws::entry_laws))]
 fn judge_entries(file: &[u8], l: Layer, r: usize, row: u32) -> Verdict
     ensures { result ≡ first_broken (block fifth row (entry_checks file.now l r)) }
 {
@@ -384,7 +384,7 @@ fn judge_record(d: Due, file: &[u8], table: &[u32], l: Layer, line: usize, r: us
             judge_points(file, l, q, r, left, row)
         }
         Due::Loop(_, _, _) => judge_entries(file, l, r, row),
-        Due::Mesh(_) | Due::Layer(_) | Due::Area(_, _) => Ok(()),
+        _ => Ok(()),
     }
 }
 
