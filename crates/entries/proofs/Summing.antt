@@ -18,7 +18,7 @@ use Rattle.measures.proofs.Bounds.{add_small, neg_small, small_le, fits_by, read
 use Rattle.measures.proofs.SumLaws.{sum_append}
 use Rattle.entries.specs.Entries.{slot_of, entry_of, entries_to}
 use Rattle.entries.specs.Loops.{slot_measure}
-use Rattle.entries.proofs.Keeping.{most}
+use Rattle.entries.proofs.Keeping.{most, kept_small}
 
 -- ---- what the machine gives back
 
@@ -72,6 +72,8 @@ module _ (m : ℕ → ℤ) (small : (n : ℕ) → Small most (m n)) where
     pub entry_backwards : natural v ≡ false → to_z w64 (of_z w64 (pos 0 -ℤ to_z w64 (of_z w64 z))) ≡ slot_measure m v
     unfolding slot_measure
     entry_backwards n = rw n (turned_back line_small ∙ ap neg_ℤ line_is)
+
+pub ruleset entry_laws = (kept_small, turned_fits, line_small, entry_forwards, entry_backwards)
 
 -- ---- a slot more, where no line is numbered 0
 

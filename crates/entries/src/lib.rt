@@ -49,6 +49,7 @@ pub fn loops_at(file: &[u8], a: usize) -> usize
 }
 
 // The slots of the area whose A is record `a`.
+#[tactic(auto, using(crate::proofs::Slots::slots_none), unfolding(crate::specs::Entries::records_to, crate::specs::Entries::slots_of))]
 pub fn area_slots(file: &[u8], a: usize) -> usize
     ensures { (result ≡ slots_of file.now a) × (result ≤ 100069992) }
 {
@@ -90,6 +91,7 @@ fn possible(m: i64) -> i64
 }
 
 // The measure that is kept of the line that the entry `v` names; 0 where it names none, or none is kept.
+#[tactic(auto, using(crate::proofs::Keeping::unnamed_told, layers::proofs::Answers::line_counted))]
 pub fn line_measure(l: Layer, kept: &[i64], v: i32) -> i64
     ensures { result ≡ kept_measure l kept.now (size v) }
 {
@@ -100,6 +102,7 @@ pub fn line_measure(l: Layer, kept: &[i64], v: i32) -> i64
 }
 
 // The measure of an entry: its line's, taken away for a line that is walked backwards.
+#[tactic(auto, using(crate::proofs::Summing::entry_laws))]
 fn entry_measure(l: Layer, kept: &[i64], v: i32) -> i64
     ensures { result ≡ slot_measure (kept_measure l kept.now) v }
 {

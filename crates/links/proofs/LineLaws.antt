@@ -4,7 +4,7 @@ use mathlib.Core.List.{List, [], ◌∷◌}
 use mathlib.Core.Path.{◌≡◌, refl, sym, ◌∙◌, ap}
 use Prim.Native.Nat.{ℕ, ◌+◌, ◌-◌, ◌≤◌, ◌<◌, ◌^◌}
 use native.Mathlib.Omega.{arith}
-use lib.Dec.{eqb}
+use lib.Dec.{eqb, lit≤}
 use lib.IntN.{ℤ}
 use lib.Signed.{mag}
 use mir.Syntax.{w32}
@@ -15,14 +15,14 @@ use Rattle.records.specs.Columns as column
 use Rattle.records.proofs.Named.{start_there}
 use Rattle.records.proofs.Codes.{code_on_lem}
 use Rattle.verdict.specs.Rules.{Verdict, Fine, Broken, Check, check, first_broken, block, rows}
-use Rattle.verdict.proofs.Parts.{part_passes, rows_pass, check_none, check_kept, check_broken}
+use Rattle.verdict.proofs.Parts.{part_passes, rows_none, rows_pass, check_none, check_kept, check_broken}
 use Rattle.permitted.specs.Permitted.{size, is_zero}
 use Rattle.layers.specs.declared.Layer.{Layer}
 use Rattle.layers.specs.Naming.{names, names_line, node_of, area_of}
 use Rattle.links.specs.Links.{equal, serial_in, listed, link_fits, line_end_checks, side_checks, at_node}
 use Rattle.links.specs.Links.{first_point_checks, last_point_checks, point_checks, loop_entry, entry_checks, fifth}
 use Rattle.links.proofs.Numbers.{asked, told_both, compared}
-use Rattle.links.proofs.Scans.{slot_rules, slots_stop, slots_done}
+use Rattle.links.proofs.Scans.{slot_first, slot_rules, slots_stop, slots_done}
 
 -- ---- answers
 
@@ -110,6 +110,8 @@ module _ (file : List ℕ) (l : Layer) (r : ℕ) (c k : Span) (back : Bool) (row
           (kept _ _ _ _ _ (waits _ _ (named n t) (lists f g q ∙ u))
           (kept _ _ _ _ _ (waits _ _ (named n t) (fits ∙ h)) (check_none fifth row)))
 
+pub ruleset end_laws = (end_unnamed, end_unlisted, end_unfit, end_fine)
+
 -- ---- one side of a line
 
 -- z is its area number, and b says whether it names an area
@@ -151,6 +153,8 @@ module _ (file t : List ℕ) (l : Layer) (r : ℕ) (c a : Span) (row : ℕ) {z :
     side_fine h u =
         kept _ _ _ _ _ (waits _ _ (area h) (alike ∙ eq-eqb _ _ u)) (kept _ _ _ _ _ (or_right (is_zero (number_on file r a)) _ (area h)) (check_none fifth row))
 
+pub ruleset side_laws = (side_none, side_unnamed, side_unlike, side_fine)
+
 -- ---- points
 
 module _ (file : List ℕ) (l : Layer) (q r left row : ℕ) where
@@ -167,10 +171,10 @@ module _ (file : List ℕ) (l : Layer) (q r left row : ℕ) where
 
     -- b says whether the first point is at its node
     module _ {w : ℤ} {b : Bool} (u : left ≡ n) (okw : InWord w) (ew : w ≡ value_at file q column.start_node) (a : b ≡ at_node file l (handed_on w) r 0) where
-      pub first_broken_lem : {x : Verdict} → b ≡ false → x ≡ Broken 12 row 1 → x ≡ first_broken (block fifth row (first_point_checks file l q r left))
+      pub first_broken_lem : {x : Verdict} → b ≡ false → x ≡ Broken 12 row (slot_start 1 10 7 0) → x ≡ first_broken (block fifth row (first_point_checks file l q r left))
       unfolding first_point_checks
       first_broken_lem t v =
-          rw (lt-ltb 1 left h, answer_is size ok e s, eq-eqb left n u) (broke _ _ _ _ _ (answer_is (λ v. at_node file l v r 0) okw ew a ∙ t) v)
+          rw (lt-ltb 1 left h, answer_is size ok e s, eq-eqb left n u) (broke _ _ _ _ _ (answer_is (λ v. at_node file l v r 0) okw ew a ∙ t) (slot_told column.points_x (lit≤ tt) v))
 
       pub first_kept : b ≡ true → Fine ≡ first_broken (block fifth row (first_point_checks file l q r left))
       unfolding first_point_checks
@@ -190,11 +194,11 @@ module _ (file : List ℕ) (l : Layer) (q r left row : ℕ) where
   -- it is: b says whether it is at its node
   module _ {w : ℤ} {b : Bool} (h : left ≡ 0 → ⊥) (u : left ≤ 7) (okw : InWord w)
       (ew : w ≡ value_at file q column.end_node) (a : b ≡ at_node file l (handed_on w) r (left - 1)) where
-    pub last_broken : {x : Verdict} → b ≡ false → x ≡ Broken 12 row (slot_column column.points_x (left - 1))
+    pub last_broken : {x : Verdict} → b ≡ false → x ≡ Broken 12 row (slot_start 1 10 7 (left - 1))
         → x ≡ first_broken (block fifth row (last_point_checks file l q r left))
     unfolding last_point_checks
     last_broken t v =
-        rw (lt-ltb 0 left (omega (arith, h)), le-leb left 7 u) (broke _ _ _ _ _ (answer_is (λ v. at_node file l v r (left - 1)) okw ew a ∙ t) v)
+        rw (lt-ltb 0 left (omega (arith, h)), le-leb left 7 u) (broke _ _ _ _ _ (answer_is (λ v. at_node file l v r (left - 1)) okw ew a ∙ t) (slot_told column.points_x (omega arith) v))
 
     pub last_kept : b ≡ true → Fine ≡ first_broken (block fifth row (last_point_checks file l q r left))
     unfolding last_point_checks
@@ -208,17 +212,21 @@ module _ (file : List ℕ) (l : Layer) (q r left row : ℕ) where
   unfolding point_checks
   points_later h u ok e s = part_passes fifth row _ _ refl (first_later (omega arith) ok e s (λ i. omega arith)) (last_later (λ i. omega arith) h)
 
+pub ruleset first_laws = (first_few, first_later, first_broken_lem, first_kept)
+
+pub ruleset last_laws = (last_none, last_later, last_broken, last_kept)
+
 -- ---- entries of a loop record
 
 abbrev pub entry_slot : List ℕ → Layer → ℕ → ℕ → List Check
 entry_slot file l r i = check (slot_column column.loop_entries i) 11 (is_zero (loop_entry file r i) || names_line l.lines (loop_entry file r i)) ∷ []
 
 module _ (file : List ℕ) (l : Layer) (r row : ℕ) where
-  pub entries_stop : (i : ℕ) {x : Verdict} → x ≡ Broken 11 row (slot_column column.loop_entries i)
+  pub entries_stop : (i : ℕ) {x : Verdict} → x ≡ Broken 11 row (slot_start 10 5 12 i)
       → (is_zero (loop_entry file r i) || names_line l.lines (loop_entry file r i)) ≡ false → i < 12
       → first_broken (rows i (slot_rules fifth row (entry_slot file l r))) ≡ Fine → x ≡ first_broken (block fifth row (entry_checks file l r))
   unfolding entry_checks
-  entries_stop i v t k f = slots_stop fifth row 12 (entry_slot file l r) i v (broke _ _ _ _ _ t v) f k
+  entries_stop i v t k f = slots_stop fifth row 12 (entry_slot file l r) i v (broke _ _ _ _ _ t (slot_told column.loop_entries k v)) f k
 
   pub entries_pass : (i : ℕ) → (is_zero (loop_entry file r i) || names_line l.lines (loop_entry file r i)) ≡ true
       → first_broken (rows i (slot_rules fifth row (entry_slot file l r))) ≡ Fine
@@ -229,3 +237,5 @@ module _ (file : List ℕ) (l : Layer) (r row : ℕ) where
       → Fine ≡ first_broken (block fifth row (entry_checks file l r))
   unfolding entry_checks
   entries_done i f k m = slots_done fifth row 12 (entry_slot file l r) i f k m
+
+pub ruleset entry_laws = (rows_none, slot_first, entries_stop, entries_pass, entries_done)

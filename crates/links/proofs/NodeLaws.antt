@@ -2,16 +2,18 @@
 use mathlib.Core.Bool.{Bool, true, false, not, ◌||◌}
 use mathlib.Core.List.{List, [], ◌∷◌}
 use mathlib.Core.Path.{◌≡◌, refl, ◌∙◌}
-use Prim.Native.Nat.{ℕ}
+use Prim.Native.Nat.{ℕ, ◌<◌}
 use Rattle.permitted.specs.Permitted.{is_zero}
 use Rattle.layers.specs.declared.Layer.{Layer}
 use Rattle.layers.specs.Naming.{names_line}
-use Rattle.records.specs.Columns.{slot_column}
+use Rattle.records.specs.Columns.{slot_start, slot_column}
 use Rattle.records.specs.Columns as column
 use Rattle.verdict.specs.Rules.{Verdict, Fine, Broken, check, first_broken, block}
-use Rattle.verdict.proofs.Parts.{fine_broken, check_kept, check_broken}
+use Rattle.verdict.proofs.Parts.{fine_broken, rows_none, rows_pass, check_kept, check_broken}
 use Rattle.links.specs.Links.{repeats, node_entry, meets, repeats_node, node_slot, fifth}
 use Rattle.links.specs.Scanning.{clean}
+use Rattle.links.proofs.Scans.{slots_stop, slots_done, goes_past}
+use Rattle.links.proofs.LineLaws.{slot_told}
 
 module _ (file t : List ℕ) (l : Layer) (r i row : ℕ) where
   -- what they come to
@@ -23,20 +25,20 @@ module _ (file t : List ℕ) (l : Layer) (r i row : ℕ) where
   unfolding node_slot first_broken block
   slot_none z = rw z
 
-  module _ (z : is_zero (node_entry file r i) ≡ false) where
-    pub slot_eleven : {v : Verdict} → v ≡ Broken 11 row (slot_column column.node_entries i) → names_line l.lines (node_entry file r i) ≡ false → v ≡ judged
+  module _ (m : i < 9) (z : is_zero (node_entry file r i) ≡ false) where
+    pub slot_eleven : {v : Verdict} → v ≡ Broken 11 row (slot_start 26 5 9 i) → names_line l.lines (node_entry file r i) ≡ false → v ≡ judged
     unfolding node_slot first_broken block
-    slot_eleven h a = h ∙ rw (z, a)
+    slot_eleven h a = slot_told column.node_entries m h ∙ rw (z, a)
 
     module _ (a : names_line l.lines (node_entry file r i) ≡ true) where
-      pub slot_twelve : {v : Verdict} → v ≡ Broken 12 row (slot_column column.node_entries i) → meets file t l r (node_entry file r i) ≡ false → v ≡ judged
+      pub slot_twelve : {v : Verdict} → v ≡ Broken 12 row (slot_start 26 5 9 i) → meets file t l r (node_entry file r i) ≡ false → v ≡ judged
       unfolding node_slot first_broken block
-      slot_twelve h b = h ∙ rw (z, a, b)
+      slot_twelve h b = slot_told column.node_entries m h ∙ rw (z, a, b)
 
       module _ (b : meets file t l r (node_entry file r i) ≡ true) where
-        pub slot_thirteen : {v : Verdict} → v ≡ Broken 13 row (slot_column column.node_entries i) → clean (node_entry file r) i ≡ false → v ≡ judged
+        pub slot_thirteen : {v : Verdict} → v ≡ Broken 13 row (slot_start 26 5 9 i) → clean (node_entry file r) i ≡ false → v ≡ judged
         unfolding node_slot first_broken block clean repeats_node
-        slot_thirteen h d = h ∙ rw (d, z, a, b)
+        slot_thirteen h d = slot_told column.node_entries m h ∙ rw (d, z, a, b)
 
         pub slot_fine : clean (node_entry file r) i ≡ true → Fine ≡ judged
         unfolding node_slot first_broken block clean repeats_node
@@ -59,3 +61,7 @@ module _ (file t : List ℕ) (l : Layer) (r i row : ℕ) where
       third true false false h = fine_broken h (check_kept fifth row _ 11 true _ refl ∙ check_broken fifth row _ 12 false _ refl)
       third true true false h =
           fine_broken h (check_kept fifth row _ 11 true _ refl ∙ (check_kept fifth row _ 12 true _ refl ∙ check_broken fifth row _ 13 false _ refl))
+
+pub ruleset slot_laws = (slot_none, slot_eleven, slot_twelve, slot_thirteen, slot_fine)
+
+pub ruleset node_laws = (rows_none, rows_pass, slots_stop, slots_done, goes_past, slot_clean)

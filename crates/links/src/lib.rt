@@ -128,6 +128,7 @@ fn meets(file: &[u8], table: &[u32], l: Layer, r: usize, v: i32) -> bool
 }
 
 // Slot `i` of the N at record `r`; `again` says that it repeats an earlier one.
+#[tactic(auto, using(crate::proofs::NodeLaws::slot_laws))]
 fn judge_slot(
     file: &[u8],
     table: &[u32],
@@ -157,6 +158,7 @@ fn judge_slot(
 }
 
 // The entries of the N at record `r`.
+#[tactic(auto, using(crate::proofs::NodeLaws::node_laws), unfolding(crate::specs::Links::node_checks))]
 fn judge_node(file: &[u8], table: &[u32], l: Layer, r: usize, row: u32) -> Verdict
     ensures { result ≡ first_broken (block fifth row (node_checks file.now table.now l r)) }
 {
@@ -185,6 +187,7 @@ fn link_fits(link: i32, frame: i32) -> bool
 }
 
 // One end of the line at record `r`: its node number in the columns `c`, its link in the columns `k`.
+#[tactic(auto, using(crate::proofs::LineLaws::end_laws))]
 fn judge_end(
     file: &[u8],
     l: Layer,
@@ -215,6 +218,7 @@ fn judge_end(
 }
 
 // One side of the line at record `r`: its code in the columns `c`, its area number in the columns `a`.
+#[tactic(auto, using(crate::proofs::LineLaws::side_laws))]
 fn judge_side(
     file: &[u8],
     table: &[u32],
@@ -296,6 +300,7 @@ fn at_node(file: &[u8], l: Layer, v: i32, r: usize, i: usize) -> bool
 }
 
 // The first point, where all points of the line are left; the L is record `q`.
+#[tactic(auto, using(crate::proofs::LineLaws::first_laws))]
 fn judge_first(file: &[u8], l: Layer, q: usize, r: usize, left: usize, row: u32) -> Verdict
     ensures { result ≡ first_broken (block fifth row (first_point_checks file.now l q r left)) }
 {
@@ -313,6 +318,7 @@ fn judge_first(file: &[u8], l: Layer, q: usize, r: usize, left: usize, row: u32)
 }
 
 // The last point, where no more than seven are left.
+#[tactic(auto, using(crate::proofs::LineLaws::last_laws))]
 fn judge_last(file: &[u8], l: Layer, q: usize, r: usize, left: usize, row: u32) -> Verdict
     ensures { result ≡ first_broken (block fifth row (last_point_checks file.now l q r left)) }
 {
@@ -341,6 +347,7 @@ fn judge_points(file: &[u8], l: Layer, q: usize, r: usize, left: usize, row: u32
 // ---- loop records
 
 // The entries of the loop record `r`.
+#[tactic(auto, using(crate::proofs::LineLaws::entry_laws))]
 fn judge_entries(file: &[u8], l: Layer, r: usize, row: u32) -> Verdict
     ensures { result ≡ first_broken (block fifth row (entry_checks file.now l r)) }
 {
@@ -363,6 +370,7 @@ fn current_line(table: &[u32], l: Layer, line: usize) -> usize
 }
 
 // Record `r`, due as `d`, in the layer `l`; `line` lines of the layer came before it.
+#[tactic(auto, using(verdict::proofs::Parts::check_none))]
 fn judge_record(d: Due, file: &[u8], table: &[u32], l: Layer, line: usize, r: usize) -> Verdict
     requires { r ≤ 6399936 }
     ensures { result ≡ first_broken (block fifth r (link_checks d file.now table.now l line r)) }
@@ -376,12 +384,13 @@ fn judge_record(d: Due, file: &[u8], table: &[u32], l: Layer, line: usize, r: us
             judge_points(file, l, q, r, left, row)
         }
         Due::Loop(_, _, _) => judge_entries(file, l, r, row),
-        Due::Mesh(_) | Due::Layer(_) | Due::Area(_, _) => Ok(()),
+        _ => Ok(()),
     }
 }
 
 // How many coordinate records come before the last one of a line, where none of them is its first: they
 // name nothing.
+#[tactic(auto, using(crate::proofs::StageLaws::between_some))]
 fn between(file: &[u8], table: &[u32], l: Layer, s: State) -> usize
     ensures { Between file.now table.now l s result }
 {
@@ -396,6 +405,7 @@ fn between(file: &[u8], table: &[u32], l: Layer, s: State) -> usize
 }
 
 // Stage 4: every record by what it names.
+#[tactic(auto, using(layers::proofs::Stages::stage_stops, layers::proofs::Stages::stage_done), unfolding(crate::specs::Links::stage_four))]
 pub fn stage_four(file: &[u8], table: &[u32], b: Bases) -> Verdict
     ensures { result ≡ first_broken (stage_four file.now table.now b) }
 {

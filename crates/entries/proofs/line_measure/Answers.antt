@@ -7,16 +7,8 @@ use borrow.Author.Rules.{rules}
 use Rattle.permitted.specs.Permitted.{size}
 use Rattle.permitted.proofs.Signs.{own_told, own_asked}
 use Rattle.layers.specs.Naming.{names_line}
-use Rattle.layers.proofs.Answers.{line_counted}
-use Rattle.entries.proofs.Keeping.{unnamed_told, kept_told}
+use Rattle.entries.proofs.Keeping.{kept_told}
 use Rattle.entries.proofs.line_measure.Goals as goal
-
-pub returns-then-not-names_line : goal.returns-then-not-names_line
-returns-then-not-names_line c =
-    unnamed_told c.args.l c.args.kept.now c.args.v (own_asked (names_line _) c.ranges.v c.names_line.ensures c.if-not-names_line.true)
-
-pub overflow_sub-size : goal.overflow_sub-size
-overflow_sub-size c = (line_counted c.ranges.v _ c.names_line.ensures c.if-not-names_line.false c.size.ensures).0
 
 pub returns : goal.returns
 returns c =
