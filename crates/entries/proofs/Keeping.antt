@@ -1,21 +1,20 @@
 -- Line measures that are kept: what the code reads of a list is small whatever stands in it, and of a layer whose lines are well formed and
 -- all kept it is each line's measure. Assumes nothing.
-use mathlib.Core.Bool.{Bool, true, false, cond, ◌&&◌, false≢true}
+use mathlib.Core.Bool.{Bool, true, false, cond}
 use mathlib.Core.List.{List}
 use mathlib.Core.Path.{◌≡◌, refl, sym, ◌∙◌}
-use Prim.Native.Nat.{ℕ, suc, ◌+◌, ◌-◌, ◌^◌, ◌≤◌, ◌<◌, min}
-use native.Mathlib.Nat.{zero-add, min-eq_left, min-eq_right}
+use Prim.Native.Nat.{ℕ, ◌+◌, ◌-◌, ◌^◌, ◌≤◌, ◌<◌, min}
+use native.Mathlib.Nat.{zero-add, min-eq_left}
 use native.Mathlib.Omega.{arith}
-use lib.Dec.{leb, ltb}
-use lib.IntN.{ℤ, pos, negsuc, nat_abs}
-use lib.ListN.{length, take, set, get_or, get_or-eq_default}
+use lib.Dec.{leb}
+use lib.IntN.{ℤ, pos, nat_abs}
+use lib.ListN.{length, take, set, get_or}
 use lib.Seq.{sets, length-sets}
-use lib.Signed.{lt_z, mag}
+use lib.Signed.{mag}
 use mir.Facts.{to_z-of_z}
 use mir.Syntax.{w64}
-use mir.Val.{SFits, to_z, of_z, hbits}
-use borrow.Author.Tests.{le-leb, lt-leb, leb-true, ltb-true, ltb-false}
-use Rattle.verdict.proofs.Orders.{and_both}
+use mir.Val.{to_z, of_z, hbits}
+use borrow.Author.Tests.{le-leb, leb-true}
 use Rattle.permitted.specs.Permitted.{size}
 use Rattle.layers.specs.declared.Layer.{Layer}
 use Rattle.layers.specs.Naming.{names_line, line_of}
@@ -52,32 +51,6 @@ possible_small z = by (leb (nat_abs z) most) refl
     by true e = record { small = leb-true (nat_abs z) most e }
     by false e = record { small = omega arith }
 
--- by the code's tests of a number m
-module _ {m : ℤ} (f : SFits w64 m) where
-  pub too_low : lt_z (to_z w64 (of_z w64 m)) (negsuc 199999999999999) ≡ true → pos 0 ≡ possible_of m
-  unfolding possible_of
-  too_low t = by m (rw (to_z-of_z f) at t)
-    where
-      by : (m : ℤ) → lt_z m (negsuc 199999999999999) ≡ true → pos 0 ≡ cond (leb (nat_abs m) most) m (pos 0)
-      by (pos n) t = absurd (false≢true t)
-      by (negsuc n) t = rw (lt-leb (suc n) most (omega (arith, ltb-true 199999999999999 n t)))
-
-  pub too_high : lt_z (pos 200000000000000) (to_z w64 (of_z w64 m)) ≡ true → pos 0 ≡ possible_of m
-  unfolding possible_of
-  too_high t = by m (rw (to_z-of_z f) at t)
-    where
-      by : (m : ℤ) → lt_z (pos 200000000000000) m ≡ true → pos 0 ≡ cond (leb (nat_abs m) most) m (pos 0)
-      by (pos n) t = rw (lt-leb n most (ltb-true most n t))
-      by (negsuc n) t = absurd (false≢true t)
-
-  pub between : lt_z (to_z w64 (of_z w64 m)) (negsuc 199999999999999) ≡ false → lt_z (pos 200000000000000) (to_z w64 (of_z w64 m)) ≡ false
-      → to_z w64 (of_z w64 m) ≡ possible_of m
-  between s t = to_z-of_z f ∙ sym (possible_same (by m (rw (to_z-of_z f) at s) (rw (to_z-of_z f) at t)))
-    where
-      by : (m : ℤ) → lt_z m (negsuc 199999999999999) ≡ false → lt_z (pos 200000000000000) m ≡ false → Small most m
-      by (pos n) s t = record { small = ltb-false most n t }
-      by (negsuc n) s t = record { small = omega (arith, ltb-false 199999999999999 n s) }
-
 -- ---- what a list says of a line
 
 module _ (l : Layer) (ms : List ℤ) where
@@ -111,16 +84,12 @@ module _ (l : Layer) (ms : List ℤ) where
   pub unnamed_told : (v : ℤ) → names_line l.lines v ≡ false → pos 0 ≡ kept_measure l ms (size v)
   unnamed_told v h = sym (kept_unnamed (size v) (named_size v h))
 
-  pub kept_told : (v : ℤ) (i : ℕ) {r : ℤ} → names_line l.lines v ≡ true → i ≡ size v - 1 → mag (get_or ms i (pos 0)) < 2 ^ hbits w64
-      → r ≡ possible_of (to_z w64 (of_z w64 (get_or ms i (pos 0)))) → to_z w64 (of_z w64 r) ≡ kept_measure l ms (size v)
-  kept_told v i {r} n q g p =
-      let b = to_z-of_z {w = w64} {z = get_or ms i (pos 0)} (record { sfits = g }) in
-      let e : r ≡ possible_of (get_or ms i (pos 0)) = p ∙ rw b in
+  pub kept_told : (v : ℤ) {i : ℕ} {x r : ℤ} → names_line l.lines v ≡ true → i ≡ size v - 1 → x ≡ get_or ms i (pos 0) → mag x < 2 ^ hbits w64
+      → r ≡ possible_of (to_z w64 (of_z w64 x)) → to_z w64 (of_z w64 r) ≡ kept_measure l ms (size v)
+  kept_told v {i} {x} {r} n q k g p =
+      let b = to_z-of_z {w = w64} {z = x} (record { sfits = g }) in
+      let e : r ≡ possible_of (get_or ms i (pos 0)) = p ∙ rw (b, k) in
       rw (e, read_back w64 (possible_small (get_or ms i (pos 0))) tt, q) (sym (kept_named (size v) (named_size v n)))
-
-  pub past_told : (v : ℤ) (i : ℕ) → names_line l.lines v ≡ true → i ≡ size v - 1 → length ms ≤ i → pos 0 ≡ kept_measure l ms (size v)
-  unfolding possible_of
-  past_told v i n q h = sym (kept_named (size v) (named_size v n) ∙ rw (← q, get_or-eq_default ms (pos 0) h))
 
 -- ---- the measure of a line
 
@@ -198,21 +167,3 @@ module _ (file t : List ℕ) (l : Layer) where
   pub loop_kept : (ms : List ℤ) → Kept file t l ms → (f : ℕ) → kept_loop file l ms f ≡ loop_measure_in file t l f
   unfolding kept_loop loop_measure_in
   loop_kept ms k f = entries_kept ms k (loop_at file f)
-
--- two tests at once
-pub room : (i n m : ℕ) → ltb i n && ltb i m ≡ true → (i < n) × (i < m)
-room i n m h =
-    let s = and_both (ltb i n) (ltb i m) h in
-    (ltb-true i n s.0, ltb-true i m s.1)
-
-pub no_room : (i n m : ℕ) → i ≤ n → i ≤ m → ltb i n && ltb i m ≡ false → i ≡ min n m
-no_room i n m p q h = by (ltb i n) (ltb i m) refl refl h
-  where
-    by : (a b : Bool) → ltb i n ≡ a → ltb i m ≡ b → a && b ≡ false → i ≡ min n m
-    by true true e f h = absurd (false≢true (sym h))
-    by true false e f h =
-        let z : i ≡ m = omega (arith, ltb-false i m f) in
-        z ∙ sym (min-eq_right (omega arith))
-    by false b e f h =
-        let z : i ≡ n = omega (arith, ltb-false i n e) in
-        z ∙ sym (min-eq_left (omega arith))

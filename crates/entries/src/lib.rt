@@ -17,16 +17,15 @@ use layers::Layer;
 // ---- records
 
 // The records of a loop of `n` lines.
+#[tactic(auto, unfolding(crate::specs::Entries::records_for))]
 fn records_for(n: usize) -> usize
     ensures { result ≡ records_for n }
 {
-    if n == 0 {
-        return 1;
-    }
-    (n - 1) / 12 + 1
+    n.saturating_sub(1) / 12 + 1
 }
 
 // The line count of the loop whose first record is `f`.
+#[tactic(auto, using(crate::proofs::Slots::four_told), unfolding(crate::specs::Entries::count_at))]
 pub fn count_at(file: &[u8], f: usize) -> usize
     ensures { (result ≡ count_at file.now f) × (result ≤ 9999) }
 {
@@ -34,6 +33,7 @@ pub fn count_at(file: &[u8], f: usize) -> usize
 }
 
 // The records of the loop whose first one is `f`.
+#[tactic(auto, using(crate::proofs::Slots::records_few))]
 pub fn loop_records(file: &[u8], f: usize) -> usize
     ensures { (result ≡ records_for (count_at file.now f)) × (result ≤ 834) }
 {
@@ -41,6 +41,7 @@ pub fn loop_records(file: &[u8], f: usize) -> usize
 }
 
 // The loops of the A at record `a`.
+#[tactic(auto, using(crate::proofs::Slots::four_told), unfolding(crate::specs::Entries::loops_at))]
 pub fn loops_at(file: &[u8], a: usize) -> usize
     ensures { (result ≡ loops_at file.now a) × (result ≤ 9999) }
 {
@@ -54,12 +55,9 @@ pub fn area_slots(file: &[u8], a: usize) -> usize
     if file.len() / 74 < a {
         return 0;
     }
-    let n = loops_at(file, a);
-    let mut records: usize = 0;
-    let mut i: usize = 0;
-    while i < n {
+    let mut records = 0;
+    for _ in 0..loops_at(file, a) {
         records += loop_records(file, a + 1 + records);
-        i += 1;
     }
     12 * records
 }
@@ -71,27 +69,24 @@ pub fn area_slots(file: &[u8], a: usize) -> usize
 pub fn keep_measures(file: &[u8], table: &[u32], l: Layer, kept: &mut [i64]) -> usize
     ensures { (result ≡ min l.lines (length kept.old)) × (kept.new ≡ sets kept.old 0 (walked_to file.now table.now l result)) }
 {
-    let n = l.lines as usize;
-    let mut i: usize = 0;
-    while (i < n) & (i < kept.len()) {
+    let n = kept.len().min(l.lines as usize);
+    for i in 0..n {
         kept[i] = measures::line_measure(file, layers::line_word(table, l, i));
-        i += 1;
     }
-    i
+    n
 }
 
 // A kept measure. One that no line of an accepted file can have counts as 0, so that no sum can grow too
 // large.
+#[tactic(auto, unfolding(crate::specs::Keeping::possible_of))]
 fn possible(m: i64) -> i64
     ensures { result ≡ possible_of m }
 {
-    if m < -200000000000000 {
-        return 0;
+    if m.unsigned_abs() <= 200000000000000 {
+        m
+    } else {
+        0
     }
-    if 200000000000000 < m {
-        return 0;
-    }
-    m
 }
 
 // The measure that is kept of the line that the entry `v` names; 0 where it names none, or none is kept.
@@ -101,11 +96,7 @@ pub fn line_measure(l: Layer, kept: &[i64], v: i32) -> i64
     if !layers::names_line(l.lines, v) {
         return 0;
     }
-    let i = permitted::size(v) - 1;
-    if i < kept.len() {
-        return possible(kept[i]);
-    }
-    0
+    possible(kept.get(permitted::size(v) - 1).copied().unwrap_or(0))
 }
 
 // The measure of an entry: its line's, taken away for a line that is walked backwards.
@@ -113,23 +104,16 @@ fn entry_measure(l: Layer, kept: &[i64], v: i32) -> i64
     ensures { result ≡ slot_measure (kept_measure l kept.now) v }
 {
     let m = line_measure(l, kept, v);
-    if permitted::natural(v) {
-        return m;
-    }
-    -m
+    if permitted::natural(v) { m } else { -m }
 }
 
 // The measure of the loop whose first record is `f`, by the measures that were kept of its layer's lines.
 pub fn loop_measure(file: &[u8], l: Layer, kept: &[i64], f: usize) -> i64
     ensures { result ≡ kept_loop file.now l kept.now f }
 {
-    let n = 12 * loop_records(file, f);
-    let mut sum: i64 = 0;
-    let mut e: usize = 0;
-    while e < n {
-        let v = links::slot_of(file, f, e);
-        sum += entry_measure(l, kept, v);
-        e += 1;
+    let mut sum = 0;
+    for e in 0..12 * loop_records(file, f) {
+        sum += entry_measure(l, kept, links::slot_of(file, f, e));
     }
     sum
 }

@@ -1,6 +1,6 @@
 -- The checks of lines, of their points and of loop records, by the ways out of the code that judges them. Assumes nothing.
-use mathlib.Core.Bool.{Bool, true, false, ◌&&◌, ◌||◌, not}
-use mathlib.Core.List.{List, [], ◌∷◌, ◌++◌}
+use mathlib.Core.Bool.{Bool, true, false, ◌||◌, not}
+use mathlib.Core.List.{List, [], ◌∷◌}
 use mathlib.Core.Path.{◌≡◌, refl, sym, ◌∙◌, ap}
 use Prim.Native.Nat.{ℕ, ◌+◌, ◌-◌, ◌≤◌, ◌<◌, ◌^◌}
 use native.Mathlib.Omega.{arith}
@@ -9,7 +9,7 @@ use lib.IntN.{ℤ}
 use lib.Signed.{mag}
 use mir.Syntax.{w32}
 use mir.Val.{to_z, of_z, hbits}
-use borrow.Author.Tests.{not-true, not-false, lt-ltb, le-ltb, le-leb, lt-leb, eq-eqb, ne_eqb}
+use borrow.Author.Tests.{lt-ltb, le-ltb, le-leb, lt-leb, eq-eqb, ne_eqb}
 use Rattle.records.specs.Columns.{Row, row_span_of, slot_start, Span, span_of, number_on, value_at, code_on, slot_column, slot_at}
 use Rattle.records.specs.Columns as column
 use Rattle.records.proofs.Named.{start_there}
@@ -17,7 +17,6 @@ use Rattle.records.proofs.Codes.{code_on_lem}
 use Rattle.verdict.specs.Rules.{Verdict, Fine, Broken, Check, check, first_broken, block, rows}
 use Rattle.verdict.proofs.Parts.{part_passes, rows_pass, check_none, check_kept, check_broken}
 use Rattle.permitted.specs.Permitted.{size, is_zero}
-use Rattle.permitted.proofs.Signs.{passed_on}
 use Rattle.layers.specs.declared.Layer.{Layer}
 use Rattle.layers.specs.Naming.{names, names_line, node_of, area_of}
 use Rattle.links.specs.Links.{equal, serial_in, listed, link_fits, line_end_checks, side_checks, at_node}
@@ -73,22 +72,22 @@ slot_told r {number} {row} {i} h e = e ∙ ap (Broken number row) (start_there (
 -- z is its node number, and a says whether it names a node
 module _ (file : List ℕ) (l : Layer) (r : ℕ) (c k : Span) (back : Bool) (row : ℕ) {z : ℤ} (ok : InWord z) (e : z ≡ number_on file r c) where
   module _ {a : Bool} (n : a ≡ names l.nodes (handed_on z)) where
-    named : not a ≡ false → names l.nodes (number_on file r c) ≡ true
-    named t = answer_is (names l.nodes) ok e n ∙ not-false a t
+    named : a ≡ true → names l.nodes (number_on file r c) ≡ true
+    named t = answer_is (names l.nodes) ok e n ∙ t
 
-    pub end_unnamed : {x : Verdict} → not a ≡ true → x ≡ Broken 11 row c.start → x ≡ first_broken (block fifth row (line_end_checks file l r c k back))
+    pub end_unnamed : {x : Verdict} → a ≡ false → x ≡ Broken 11 row c.start → x ≡ first_broken (block fifth row (line_end_checks file l r c k back))
     unfolding line_end_checks
-    end_unnamed t v = broke _ _ _ _ _ (answer_is (names l.nodes) ok e n ∙ not-true a t) v
+    end_unnamed t v = broke _ _ _ _ _ (answer_is (names l.nodes) ok e n ∙ t) v
 
   -- m is the node's record, s the line's serial, and b says whether the node lists it
   module _ {m s : ℕ} {b : Bool} (f : m ≡ node_of l (handed_on z)) (g : s ≡ serial_in file r column.line_serial) (q : b ≡ listed file m back s) where
     lists : listed file (node_of l (number_on file r c)) back (serial_in file r column.line_serial) ≡ b
     lists = rw (answer_is (node_of l) ok e f, ← g) (sym q)
 
-    pub end_unlisted : {x : Verdict} {a : Bool} → a ≡ names l.nodes (handed_on z) → not a ≡ false → not b ≡ true → x ≡ Broken 14 row c.start
+    pub end_unlisted : {x : Verdict} {a : Bool} → a ≡ names l.nodes (handed_on z) → a ≡ true → b ≡ false → x ≡ Broken 14 row c.start
         → x ≡ first_broken (block fifth row (line_end_checks file l r c k back))
     unfolding line_end_checks
-    end_unlisted n t u v = kept _ _ _ _ _ (named n t) (broke _ _ _ _ _ (waits _ _ (named n t) (lists ∙ not-true b u)) v)
+    end_unlisted n t u v = kept _ _ _ _ _ (named n t) (broke _ _ _ _ _ (waits _ _ (named n t) (lists ∙ u)) v)
 
   -- y is its link, w the node's frame, and d says whether they fit
   module _ {m : ℕ} {y w : ℤ} {d : Bool} (f : m ≡ node_of l (handed_on z)) (oky : InWord y) (ey : y ≡ number_on file r k)
@@ -96,35 +95,35 @@ module _ (file : List ℕ) (l : Layer) (r : ℕ) (c k : Span) (back : Bool) (row
     fits : link_fits (number_on file r k) (value_at file (node_of l (number_on file r c)) column.node_frame) ≡ d
     fits = told_both link_fits oky ey okw (ew ∙ ap (λ m. value_at file m column.node_frame) (sym (answer_is (node_of l) ok e f))) p
 
-    module _ {a b : Bool} {s : ℕ} (n : a ≡ names l.nodes (handed_on z)) (t : not a ≡ false)
-        (g : s ≡ serial_in file r column.line_serial) (q : b ≡ listed file m back s) (u : not b ≡ false) where
-      pub end_unfit : {x : Verdict} → not d ≡ true → x ≡ Broken 12 row k.start → x ≡ first_broken (block fifth row (line_end_checks file l r c k back))
+    module _ {a b : Bool} {s : ℕ} (n : a ≡ names l.nodes (handed_on z)) (t : a ≡ true)
+        (g : s ≡ serial_in file r column.line_serial) (q : b ≡ listed file m back s) (u : b ≡ true) where
+      pub end_unfit : {x : Verdict} → d ≡ false → x ≡ Broken 12 row k.start → x ≡ first_broken (block fifth row (line_end_checks file l r c k back))
       unfolding line_end_checks
       end_unfit h v =
           kept _ _ _ _ _ (named n t)
-          (kept _ _ _ _ _ (waits _ _ (named n t) (lists f g q ∙ not-false b u)) (broke _ _ _ _ _ (waits _ _ (named n t) (fits ∙ not-true d h)) v))
+          (kept _ _ _ _ _ (waits _ _ (named n t) (lists f g q ∙ u)) (broke _ _ _ _ _ (waits _ _ (named n t) (fits ∙ h)) v))
 
-      pub end_fine : not d ≡ false → Fine ≡ first_broken (block fifth row (line_end_checks file l r c k back))
+      pub end_fine : d ≡ true → Fine ≡ first_broken (block fifth row (line_end_checks file l r c k back))
       unfolding line_end_checks
       end_fine h =
           kept _ _ _ _ _ (named n t)
-          (kept _ _ _ _ _ (waits _ _ (named n t) (lists f g q ∙ not-false b u))
-          (kept _ _ _ _ _ (waits _ _ (named n t) (fits ∙ not-false d h)) (check_none fifth row)))
+          (kept _ _ _ _ _ (waits _ _ (named n t) (lists f g q ∙ u))
+          (kept _ _ _ _ _ (waits _ _ (named n t) (fits ∙ h)) (check_none fifth row)))
 
 -- ---- one side of a line
 
 -- z is its area number, and b says whether it names an area
 module _ (file t : List ℕ) (l : Layer) (r : ℕ) (c a : Span) (row : ℕ) {z : ℤ} {b : Bool}
     (ok : InWord z) (e : z ≡ number_on file r a) (n : b ≡ names l.areas (handed_on z)) where
-  unnamed : not b ≡ true
+  unnamed : b ≡ false
       → (not (names l.areas (number_on file r a)) || equal (code_on file r c) (code_on file (area_of t l (number_on file r a)) (span_of column.area_code))) ≡ true
-  unnamed h = rw (answer_is (names l.areas) ok e n ∙ not-true b h)
+  unnamed h = rw (answer_is (names l.areas) ok e n ∙ h)
 
-  area : not b ≡ false → names l.areas (number_on file r a) ≡ true
-  area h = answer_is (names l.areas) ok e n ∙ not-false b h
+  area : b ≡ true → names l.areas (number_on file r a) ≡ true
+  area h = answer_is (names l.areas) ok e n ∙ h
 
   -- it names none: d says whether it is 0
-  module _ {d : Bool} (h : not b ≡ true) (q : d ≡ is_zero (handed_on z)) where
+  module _ {d : Bool} (h : b ≡ false) (q : d ≡ is_zero (handed_on z)) where
     pub side_none : d ≡ true → Fine ≡ first_broken (block fifth row (side_checks file t l r c a))
     unfolding side_checks
     side_none u = kept _ _ _ _ _ (unnamed h) (kept _ _ _ _ _ (or_left _ _ (answer_is is_zero ok e q ∙ u)) (check_none fifth row))
@@ -132,7 +131,7 @@ module _ (file t : List ℕ) (l : Layer) (r : ℕ) (c a : Span) (row : ℕ) {z :
     pub side_unnamed : {x : Verdict} → d ≡ false → x ≡ Broken 11 row a.start → x ≡ first_broken (block fifth row (side_checks file t l r c a))
     unfolding side_checks
     side_unnamed u v =
-        kept _ _ _ _ _ (unnamed h) (broke _ _ _ _ _ (or_none _ _ (answer_is is_zero ok e q ∙ u) (answer_is (names l.areas) ok e n ∙ not-true b h)) v)
+        kept _ _ _ _ _ (unnamed h) (broke _ _ _ _ _ (or_none _ _ (answer_is is_zero ok e q ∙ u) (answer_is (names l.areas) ok e n ∙ h)) v)
 
   -- m is the area's record, y the line's code, w the area's
   module _ {m : ℕ} {y w : ℤ} (f : m ≡ area_of t l (handed_on z)) (oky : InWord y) (ey : y ≡ number_on file r c)
@@ -142,46 +141,17 @@ module _ (file t : List ℕ) (l : Layer) (r : ℕ) (c a : Span) (row : ℕ) {z :
         rw (code_on_lem file r c, code_on_lem file (area_of t l (number_on file r a)) (span_of column.area_code))
         (sym (compared oky ey okw (ew ∙ ap (λ m. value_at file m column.area_code) (sym (answer_is (area_of t l) ok e f)))))
 
-    pub side_unlike : {x : Verdict} → not b ≡ false → (of_z w32 y ≡ of_z w32 w → ⊥) → x ≡ Broken 12 row c.start
+    pub side_unlike : {x : Verdict} → b ≡ true → (of_z w32 y ≡ of_z w32 w → ⊥) → x ≡ Broken 12 row c.start
         → x ≡ first_broken (block fifth row (side_checks file t l r c a))
     unfolding side_checks
     side_unlike h u v = broke _ _ _ _ _ (waits _ _ (area h) (alike ∙ ne_eqb _ _ u)) v
 
-    pub side_fine : not b ≡ false → of_z w32 y ≡ of_z w32 w → Fine ≡ first_broken (block fifth row (side_checks file t l r c a))
+    pub side_fine : b ≡ true → of_z w32 y ≡ of_z w32 w → Fine ≡ first_broken (block fifth row (side_checks file t l r c a))
     unfolding side_checks
     side_fine h u =
         kept _ _ _ _ _ (waits _ _ (area h) (alike ∙ eq-eqb _ _ u)) (kept _ _ _ _ _ (or_right (is_zero (number_on file r a)) _ (area h)) (check_none fifth row))
 
 -- ---- points
-
--- a says whether v names a node
-module _ (file : List ℕ) (l : Layer) (v : ℤ) (r i : ℕ) {a : Bool} (ok : InWord v) (n : a ≡ names l.nodes (handed_on v)) where
-  at_names : names l.nodes v ≡ a
-  at_names = answer_is (names l.nodes) ok refl n
-
-  pub at_unnamed : not a ≡ true → true ≡ at_node file l v r i
-  unfolding at_node
-  at_unnamed t = rw (at_names ∙ not-true a t)
-
-  -- m is its record, x the point's X, and u the node's
-  module _ {m : ℕ} {x u : ℤ} (f : m ≡ node_of l (handed_on v)) (okx : InWord x) (ex : x ≡ slot_at file r column.points_x i)
-      (oku : InWord u) (eu : u ≡ value_at file m column.node_x) (t : not a ≡ false) where
-    there : m ≡ node_of l v
-    there = f ∙ ap (node_of l) (passed_on ok refl)
-
-    x_is : eqb (of_z w32 x) (of_z w32 u) ≡ equal (slot_at file r column.points_x i) (value_at file (node_of l v) column.node_x)
-    x_is = compared okx ex oku (eu ∙ ap (λ m. value_at file m column.node_x) there)
-
-    pub at_apart : eqb (of_z w32 x) (of_z w32 u) ≡ false → eqb (of_z w32 x) (of_z w32 u) ≡ at_node file l v r i
-    unfolding at_node
-    at_apart p = rw (p, at_names ∙ not-false a t, sym x_is ∙ p)
-
-    -- y is its Y, and w the node's
-    pub at_named : {y w : ℤ} → InWord y → y ≡ slot_at file r column.points_y i → InWord w → w ≡ value_at file m column.node_y
-        → eqb (of_z w32 x) (of_z w32 u) ≡ true → eqb (of_z w32 y) (of_z w32 w) ≡ at_node file l v r i
-    unfolding at_node
-    at_named oky ey okw ew p =
-        rw (at_names ∙ not-false a t, sym x_is ∙ p) (compared oky ey okw (ew ∙ ap (λ m. value_at file m column.node_y) there))
 
 module _ (file : List ℕ) (l : Layer) (q r left row : ℕ) where
   -- one point is no first point
@@ -197,16 +167,16 @@ module _ (file : List ℕ) (l : Layer) (q r left row : ℕ) where
 
     -- b says whether the first point is at its node
     module _ {w : ℤ} {b : Bool} (u : left ≡ n) (okw : InWord w) (ew : w ≡ value_at file q column.start_node) (a : b ≡ at_node file l (handed_on w) r 0) where
-      pub first_broken_lem : {x : Verdict} → not b ≡ true → x ≡ Broken 12 row 1 → x ≡ first_broken (block fifth row (first_point_checks file l q r left))
+      pub first_broken_lem : {x : Verdict} → b ≡ false → x ≡ Broken 12 row 1 → x ≡ first_broken (block fifth row (first_point_checks file l q r left))
       unfolding first_point_checks
       first_broken_lem t v =
-          rw (lt-ltb 1 left h, answer_is size ok e s, eq-eqb left n u) (broke _ _ _ _ _ (answer_is (λ v. at_node file l v r 0) okw ew a ∙ not-true b t) v)
+          rw (lt-ltb 1 left h, answer_is size ok e s, eq-eqb left n u) (broke _ _ _ _ _ (answer_is (λ v. at_node file l v r 0) okw ew a ∙ t) v)
 
-      pub first_kept : not b ≡ false → Fine ≡ first_broken (block fifth row (first_point_checks file l q r left))
+      pub first_kept : b ≡ true → Fine ≡ first_broken (block fifth row (first_point_checks file l q r left))
       unfolding first_point_checks
       first_kept t =
           rw (lt-ltb 1 left h, answer_is size ok e s, eq-eqb left n u)
-          (kept _ _ _ _ _ (answer_is (λ v. at_node file l v r 0) okw ew a ∙ not-false b t) (check_none fifth row))
+          (kept _ _ _ _ _ (answer_is (λ v. at_node file l v r 0) okw ew a ∙ t) (check_none fifth row))
 
   -- the last point is not in this record
   pub last_none : left ≡ 0 → Fine ≡ first_broken (block fifth row (last_point_checks file l q r left))
@@ -220,17 +190,17 @@ module _ (file : List ℕ) (l : Layer) (q r left row : ℕ) where
   -- it is: b says whether it is at its node
   module _ {w : ℤ} {b : Bool} (h : left ≡ 0 → ⊥) (u : left ≤ 7) (okw : InWord w)
       (ew : w ≡ value_at file q column.end_node) (a : b ≡ at_node file l (handed_on w) r (left - 1)) where
-    pub last_broken : {x : Verdict} → not b ≡ true → x ≡ Broken 12 row (slot_column column.points_x (left - 1))
+    pub last_broken : {x : Verdict} → b ≡ false → x ≡ Broken 12 row (slot_column column.points_x (left - 1))
         → x ≡ first_broken (block fifth row (last_point_checks file l q r left))
     unfolding last_point_checks
     last_broken t v =
-        rw (lt-ltb 0 left (omega (arith, h)), le-leb left 7 u) (broke _ _ _ _ _ (answer_is (λ v. at_node file l v r (left - 1)) okw ew a ∙ not-true b t) v)
+        rw (lt-ltb 0 left (omega (arith, h)), le-leb left 7 u) (broke _ _ _ _ _ (answer_is (λ v. at_node file l v r (left - 1)) okw ew a ∙ t) v)
 
-    pub last_kept : not b ≡ false → Fine ≡ first_broken (block fifth row (last_point_checks file l q r left))
+    pub last_kept : b ≡ true → Fine ≡ first_broken (block fifth row (last_point_checks file l q r left))
     unfolding last_point_checks
     last_kept t =
         rw (lt-ltb 0 left (omega (arith, h)), le-leb left 7 u)
-        (kept _ _ _ _ _ (answer_is (λ v. at_node file l v r (left - 1)) okw ew a ∙ not-false b t) (check_none fifth row))
+        (kept _ _ _ _ _ (answer_is (λ v. at_node file l v r (left - 1)) okw ew a ∙ t) (check_none fifth row))
 
   -- neither of them is: more than seven points are left, and fewer than the line's n
   pub points_later : {z : ℤ} {n : ℕ} → 7 < left → left < n → InWord z → z ≡ value_at file q column.line_points

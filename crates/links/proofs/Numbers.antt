@@ -27,7 +27,7 @@ pub told_both : {A : Type 0} (P : ℤ → ℤ → A) {v w x y : ℤ} {r : A} →
     → mag w < 2 ^ hbits w32 → w ≡ y → r ≡ P (to_z w32 (of_z w32 v)) (to_z w32 (of_z w32 w)) → P x y ≡ r
 told_both P f p g q h = sym (h ∙ rw (passed_on f p, passed_on g q))
 
--- ---- `==`
+-- ---- `==` and the definitions: of two numbers, and of two tests
 
 equal_self : (a : ℤ) → equal a a ≡ true
 unfolding equal
@@ -50,11 +50,11 @@ equal_is {a} {b} f g = by (eqb (of_z w32 a) (of_z w32 b)) (equal a b) refl refl
     by false false e h = refl
     by false true e h = let q : a ≡ b = equal_only a b h in absurd (false≢true (sym e ∙ eq-eqb _ _ (rw q refl)))
 
--- the same of two answers
+-- as code has it of two answers
 pub compared : {v w x y : ℤ} → mag v < 2 ^ hbits w32 → v ≡ x → mag w < 2 ^ hbits w32 → w ≡ y → eqb (of_z w32 v) (of_z w32 w) ≡ equal x y
 compared f p g q = rw (← p, ← q) (equal_is (record { sfits = f }) (record { sfits = g }))
 
--- two answers compared
+-- `==` of two tests
 pub same_is : (a b : Bool) → beq a b ≡ same a b
 same_is true true = refl
 same_is true false = refl

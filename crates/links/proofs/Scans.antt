@@ -5,18 +5,18 @@ use mathlib.Core.List.{List}
 use mathlib.Core.Logic.{⊎_elim}
 use mathlib.Core.Path.{◌≡◌, refl, sym, ◌∙◌}
 use Prim.Native.Nat.{ℕ, zero, suc, ◌+◌, ◌/◌, ◌%◌, ◌≤◌, ◌<◌}
-use native.Mathlib.Nat.{add-zero, zero-add, le_of_suc-le-suc, not-suc-le-zero, eq-or-lt_of_le}
+use native.Mathlib.Nat.{zero-add, le_of_suc-le-suc, not-suc-le-zero, eq-or-lt_of_le}
 use native.Mathlib.Numerals.{add-one}
 use native.Mathlib.Omega.{arith}
 use lib.Dec.{eqb}
 use lib.IntN.{ℤ, pos}
 use lib.ListN.{length, get_or}
 use borrow.Author.Tests.{eq-eqb, ne_eqb}
+use Rattle.std.specs.Prelude.{Err}
 use Rattle.std.specs.Bool.{MatchBool}
 use Rattle.std.specs.List.{range_with_len, HoldsAt, AllWithin}
 use Rattle.std.proofs.lemmas.List.FromFn.{length-range_with_len, get_or-range_with_len}
 use Rattle.records.proofs.Numbers.{record_past, number_none}
-use Rattle.std.specs.Prelude.{Err}
 use Rattle.verdict.specs.declared.Refusal.{Refusal}
 use Rattle.verdict.specs.Rules.{Verdict, Fine, Rule, Check, first_broken, block, rows, spread}
 use Rattle.verdict.proofs.Parts.{spread_rows, rows_stop, rows_done}
@@ -25,6 +25,15 @@ use Rattle.links.specs.Links.{equal, some, loop_entry, slot_of}
 use Rattle.links.specs.Scanning.{clean, FirstRepeat}
 
 -- ---- some of the first n
+
+pub some_none : (f : ℕ → Bool) → some 0 f ≡ false
+unfolding some
+some_none f = refl
+
+-- nor is it number n
+pub some_more : (n : ℕ) (f : ℕ → Bool) → some n f ≡ false → f n ≡ false → some (n + 1) f ≡ false
+unfolding some
+some_more n f h e = rw (add-one, h, e)
 
 pub some_hit : (n j : ℕ) (f : ℕ → Bool) → j < n → f j ≡ true → some n f ≡ true
 unfolding some
@@ -39,7 +48,7 @@ some_hit (suc n) j f l e =
     at_end true b e = refl
     at_end false b e = e
 
-pub some_never : (n : ℕ) (f : ℕ → Bool) → ((j : ℕ) → j < n → f j ≡ false) → some n f ≡ false
+some_never : (n : ℕ) (f : ℕ → Bool) → ((j : ℕ) → j < n → f j ≡ false) → some n f ≡ false
 unfolding some
 some_never zero f h = refl
 some_never (suc n) f h = rw (some_never n f (λ j l. h j (omega arith)), h n (omega arith))

@@ -29,7 +29,7 @@ line_is t a n e h = rw (← e) h
 
 -- ---- coordinates: q is the record of the line's L
 
-pub points_arm : (file t : List ℕ) (l : Layer) (line r : ℕ) {d : Due} {left q : ℕ} {v : Verdict}
+points_arm : (file t : List ℕ) (l : Layer) (line r : ℕ) {d : Due} {left q : ℕ} {v : Verdict}
     → d ≡ due.Coordinates left → q ≡ get_or t (l.line + (line - 1)) 0
     → v ≡ first_broken (block fifth r (point_checks file l q r left)) → v ≡ first_broken (block fifth r (link_checks d file t l line r))
 points_arm file t l line r e f h = rw (e, ← f) h

@@ -21,6 +21,7 @@ use walk::State;
 // ---- numbers
 
 // The entry +n or, backwards, -n.
+#[tactic(auto, using(crate::proofs::Numbers::same_is), unfolding(crate::specs::Links::entry_is))]
 pub fn entry_is(back: bool, n: usize, v: i32) -> bool
     ensures { result ≡ entry_is back n v }
 {
@@ -56,6 +57,7 @@ pub fn slot_broken(number: u32, row: u32, slots: Slots, i: usize) -> Verdict
 // ---- slots
 
 // Slot `i` of an N.
+#[tactic(auto, unfolding(crate::specs::Links::node_entry))]
 fn node_entry(file: &[u8], r: usize, i: usize) -> i32
     ensures { result ≡ node_entry file.now r i }
 {
@@ -63,6 +65,7 @@ fn node_entry(file: &[u8], r: usize, i: usize) -> i32
 }
 
 // Slot `e` of the loop records from record `f` on.
+#[tactic(auto, using(crate::proofs::Scans::slot_past), unfolding(crate::specs::Links::slot_of, crate::specs::Links::loop_entry))]
 pub fn slot_of(file: &[u8], f: usize, e: usize) -> i32
     ensures { result ≡ slot_of file.now f e }
 {
@@ -110,6 +113,7 @@ pub fn on_hand(file: &[u8], table: &[u32], l: Layer, c: Columns, d: Columns, v: 
 
 // Whether line `v` starts or, backwards, ends at the N of record `r`; it waits where a number names
 // nothing.
+#[tactic(auto, unfolding(crate::specs::Links::meets, crate::specs::Links::first_node))]
 fn meets(file: &[u8], table: &[u32], l: Layer, r: usize, v: i32) -> bool
     ensures { result ≡ meets file.now table.now l r v }
 {
@@ -173,6 +177,7 @@ fn listed(file: &[u8], r: usize, back: bool, n: usize) -> bool
 }
 
 // 0 exactly where the frame is.
+#[tactic(auto, using(crate::proofs::Numbers::same_is), unfolding(crate::specs::Links::link_fits))]
 fn link_fits(link: i32, frame: i32) -> bool
     ensures { result ≡ link_fits link frame }
 {
@@ -239,6 +244,7 @@ fn judge_side(
 }
 
 // The ends and the sides of the line at record `r`.
+#[tactic(auto, using(verdict::proofs::Parts::part_stops, verdict::proofs::Parts::part_passes), unfolding(crate::specs::Links::line_checks))]
 fn judge_line(file: &[u8], table: &[u32], l: Layer, r: usize, row: u32) -> Verdict
     ensures { result ≡ first_broken (block fifth row (line_checks file.now table.now l r)) }
 {
@@ -275,6 +281,7 @@ fn judge_line(file: &[u8], table: &[u32], l: Layer, r: usize, row: u32) -> Verdi
 // ---- coordinates
 
 // Whether pair `i` of the coordinate record `r` is where the N that `v` names stands.
+#[tactic(auto, using(crate::proofs::Numbers::compared), unfolding(crate::specs::Links::at_node))]
 fn at_node(file: &[u8], l: Layer, v: i32, r: usize, i: usize) -> bool
     ensures { result ≡ at_node file.now l v r i }
 {
@@ -323,6 +330,7 @@ fn judge_last(file: &[u8], l: Layer, q: usize, r: usize, left: usize, row: u32) 
 }
 
 // The first and the last point of a line.
+#[tactic(auto, using(verdict::proofs::Parts::part_stops, verdict::proofs::Parts::part_passes), unfolding(crate::specs::Links::point_checks))]
 fn judge_points(file: &[u8], l: Layer, q: usize, r: usize, left: usize, row: u32) -> Verdict
     ensures { result ≡ first_broken (block fifth row (point_checks file.now l q r left)) }
 {

@@ -13,7 +13,7 @@ returns-then-natural c =
 pub overflow_sub-result : goal.overflow_sub-result
 overflow_sub-result c = turned_fits (line_small _ (kept_small _ _) c.ranges.v c.line_measure-m.ensures)
 
-pub returns : goal.returns
-returns c =
+pub returns-else-natural : goal.returns-else-natural
+returns-else-natural c =
     let f = c.ranges.v in
     entry_backwards _ (kept_small _ _) f c.line_measure-m.ensures (own_asked natural f c.natural.ensures c.if-natural.false)

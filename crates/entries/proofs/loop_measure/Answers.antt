@@ -1,5 +1,5 @@
 use mathlib.Core.Path.{◌≡◌, refl, sym, ◌∙◌, ap₂}
-use Prim.Native.Nat.{◌*◌, ◌-◌, ◌<◌}
+use Prim.Native.Nat.{◌*◌, ◌<◌}
 use native.Mathlib.Omega.{arith}
 use lib.IntN.{◌+ℤ◌}
 use Rattle.links.proofs.Numbers.{told}
@@ -14,36 +14,29 @@ use Rattle.entries.proofs.Summing.{sum_fits, sum_small, sum_is, slot_small, loop
 use Rattle.entries.proofs.loop_measure.Goals as goal
 use Rattle.entries.proofs.loop_measure.Goals.{After-entry_measure-sum}
 
--- 834 records of twelve slots
-few : (c : After-entry_measure-sum) → c.loop-e.e < 10008
-few c = omega (arith, c.loop-e-test.true, c.loop_records-n.ensures.1)
-
-pub overflow_mul-n : goal.overflow_mul-n
-overflow_mul-n c = omega (arith, c.loop_records-n.ensures.1)
-
 pub loop-e-init : goal.loop-e-init
 unfolding loop_measure entries_to sum
-loop-e-init c = (omega arith, record { small = omega arith }, refl)
+loop-e-init c = (record { small = omega arith }, refl)
+
+-- 834 records of twelve slots
+few : (c : After-entry_measure-sum) → c.loop-e.e < 10008
+few c = omega (arith, c.loop_records-e-end.ensures.1)
 
 -- what the entry adds is small
 entry-small : (c : After-entry_measure-sum) → Small most c.entry_measure-sum.result
 entry-small c = rw c.entry_measure-sum.ensures (slot_small _ (kept_small _ _) _)
 
 pub overflow_add-sum : goal.overflow_add-sum
-overflow_add-sum c = sum_fits (few (goal.at.overflow_add-sum c).After-entry_measure-sum) c.loop-e.invariant.1 (entry-small (goal.at.overflow_add-sum c).After-entry_measure-sum)
-
-pub overflow_add-e : goal.overflow_add-e
-overflow_add-e c = omega (arith, few (goal.at.overflow_add-e c).After-entry_measure-sum)
+overflow_add-sum c = sum_fits (few (goal.at.overflow_add-sum c).After-entry_measure-sum) c.loop-e.invariant.0 (entry-small (goal.at.overflow_add-sum c).After-entry_measure-sum)
 
 pub loop-e-preserved : goal.loop-e-preserved
 loop-e-preserved c =
     let l = c.loop-e in
     let n = few (goal.at.loop-e-preserved c).After-entry_measure-sum in
     let a = c.args in (
-      omega (arith, c.loop-e-test.true),
-      sum_small n l.invariant.1 (entry-small (goal.at.loop-e-preserved c).After-entry_measure-sum),
-      sum_is n l.invariant.1 (entry-small (goal.at.loop-e-preserved c).After-entry_measure-sum)
-          ∙ ap₂ ◌+ℤ◌ l.invariant.2 (told (slot_measure _) c.slot_of-v.type_inv c.slot_of-v.ensures c.entry_measure-sum.ensures)
+      sum_small n l.invariant.0 (entry-small (goal.at.loop-e-preserved c).After-entry_measure-sum),
+      sum_is n l.invariant.0 (entry-small (goal.at.loop-e-preserved c).After-entry_measure-sum)
+          ∙ ap₂ ◌+ℤ◌ l.invariant.1 (told (slot_measure _) c.slot_of.type_inv c.slot_of.ensures c.entry_measure-sum.ensures)
           ∙ sym (loop_more _ (kept_none a.l a.kept.now) a.file.now a.f l.e),
     )
 
@@ -52,5 +45,5 @@ unfolding kept_loop loop_at
 returns c =
     let l = c.loop-e in
     let a = c.args in
-    let e : l.e ≡ 12 * records_for (count_at a.file.now a.f) = omega (arith, c.loop-e-test.false, c.loop_records-n.ensures.0) in
-    rw (← e) l.invariant.2
+    let e : l.e ≡ 12 * records_for (count_at a.file.now a.f) = omega (arith, c.loop_records-e-end.ensures.0) in
+    rw (← e) l.invariant.1

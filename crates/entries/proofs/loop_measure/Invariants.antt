@@ -1,7 +1,6 @@
 -- `entries::loop_measure` meets its contract: the loop adds up the slots' measures, at most 10008, so the sum fits. Assumes nothing.
 use mathlib.Core.Path.{◌≡◌}
-use Prim.Native.Nat.{◌*◌, ◌-◌, ◌≤◌}
-use Rattle.measures.specs.Sum.{sum}
+use Prim.Native.Nat.{◌*◌}
 use Rattle.measures.specs.Walks.{Small}
 use Rattle.measures.specs.Measures.{loop_measure}
 use Rattle.entries.specs.Entries.{entries_to}
@@ -10,7 +9,4 @@ use Rattle.entries.proofs.loop_measure.Given as goal
 
 abbrev pub invariant-loop-e : goal.invariant-loop-e
 invariant-loop-e l =
-    (l.e ≤ l.n) × Small (l.e * 200000000000000) l.sum × (l.sum ≡ loop_measure (kept_measure l.l l.kept) (entries_to l.file l.f l.e))
-
-abbrev pub decreases-loop-e : goal.decreases-loop-e
-decreases-loop-e l = l.n - l.e
+    Small (l.e * 200000000000000) l.sum × (l.sum ≡ loop_measure (kept_measure l.l l.kept) (entries_to l.file l.f l.e))

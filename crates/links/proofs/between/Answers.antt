@@ -1,12 +1,6 @@
 -- `links::between` meets its contract: no record is none, and the others have more than seven points left and not all. Assumes nothing.
-use Rattle.links.proofs.StageLaws.{between_none, between_some}
+use Rattle.links.proofs.StageLaws.{between_some}
 use Rattle.links.proofs.between.Goals as goal
-
-pub returns-then-s-le7 : goal.returns-then-s-le7
-returns-then-s-le7 c = between_none _ _ _ _
-
-pub returns-then-size-s : goal.returns-then-size-s
-returns-then-size-s c = between_none _ _ _ _
 
 pub returns : goal.returns
 returns c =

@@ -1,6 +1,5 @@
 -- `links::judge_entries` meets its contract: the loop leaves at the first entry that names nothing. Assumes nothing.
 use mathlib.Core.Path.{◌≡◌}
-use Prim.Native.Nat.{◌≤◌}
 use Rattle.verdict.specs.Rules.{Fine, first_broken, rows}
 use Rattle.links.specs.Links.{fifth}
 use Rattle.links.proofs.Scans.{slot_rules}

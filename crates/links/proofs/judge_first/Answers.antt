@@ -17,9 +17,9 @@ pub returns-then-not-at_node : goal.returns-then-not-at_node
 returns-then-not-at_node c =
     first_broken_lem _ _ _ _ _ _ c.if-left-le1.false c.value_at.type_inv c.value_at.ensures
     c.size.ensures c.if-left-size.false c.value_at-v.type_inv c.value_at-v.ensures
-    c.at_node.ensures c.if-not-at_node.true-raw (slot_told points_x (lit≤ tt) c.slot_broken.ensures)
+    c.at_node.ensures c.if-not-at_node.true (slot_told points_x (lit≤ tt) c.slot_broken.ensures)
 
 pub returns : goal.returns
 returns c =
     first_kept _ _ _ _ _ _ c.if-left-le1.false c.value_at.type_inv c.value_at.ensures c.size.ensures
-    c.if-left-size.false c.value_at-v.type_inv c.value_at-v.ensures c.at_node.ensures c.if-not-at_node.false-raw
+    c.if-left-size.false c.value_at-v.type_inv c.value_at-v.ensures c.at_node.ensures c.if-not-at_node.false

@@ -15,10 +15,10 @@ pub returns-then-not-at_node : goal.returns-then-not-at_node
 returns-then-not-at_node c =
     let i = c.if-left-eq0.false in
     last_broken _ _ _ _ _ _ i c.if-left-gt7.false c.value_at-v.type_inv
-    c.value_at-v.ensures c.at_node.ensures c.if-not-at_node.true-raw
+    c.value_at-v.ensures c.at_node.ensures c.if-not-at_node.true
     (slot_told points_x (omega arith) c.slot_broken.ensures)
 
 pub returns : goal.returns
 returns c =
     last_kept _ _ _ _ _ _ c.if-left-eq0.false c.if-left-gt7.false
-    c.value_at-v.type_inv c.value_at-v.ensures c.at_node.ensures c.if-not-at_node.false-raw
+    c.value_at-v.type_inv c.value_at-v.ensures c.at_node.ensures c.if-not-at_node.false

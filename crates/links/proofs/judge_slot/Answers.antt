@@ -20,22 +20,22 @@ returns-then-not-names_line c =
     let e = c.node_entry-v in
     slot_eleven _ _ _ _ _ _ (asked is_zero e.type_inv e.ensures c.is_zero.ensures c.if-is_zero.false)
     (slot_told node_entries c.requires.0 c.slot_broken.ensures)
-    (asked (names_line _) e.type_inv e.ensures c.names_line.ensures (not-true _ c.if-not-names_line.true-raw))
+    (asked (names_line _) e.type_inv e.ensures c.names_line.ensures c.if-not-names_line.true)
 
 pub returns-then-not-meets : goal.returns-then-not-meets
 returns-then-not-meets c =
     let e = c.node_entry-v in
     slot_twelve _ _ _ _ _ _ (asked is_zero e.type_inv e.ensures c.is_zero.ensures c.if-is_zero.false)
-    (asked (names_line _) e.type_inv e.ensures c.names_line.ensures (not-false _ c.if-not-names_line.false-raw))
+    (asked (names_line _) e.type_inv e.ensures c.names_line.ensures c.if-not-names_line.false)
     (slot_told node_entries c.requires.0 c.slot_broken-then-not-meets.ensures)
-    (asked (meets _ _ _ _) e.type_inv e.ensures c.meets.ensures (not-true _ c.if-not-meets.true-raw))
+    (asked (meets _ _ _ _) e.type_inv e.ensures c.meets.ensures c.if-not-meets.true)
 
 pub returns-then-again : goal.returns-then-again
 returns-then-again c =
     let e = c.node_entry-v in
     slot_thirteen _ _ _ _ _ _ (asked is_zero e.type_inv e.ensures c.is_zero.ensures c.if-is_zero.false)
-    (asked (names_line _) e.type_inv e.ensures c.names_line.ensures (not-false _ c.if-not-names_line.false-raw))
-    (asked (meets _ _ _ _) e.type_inv e.ensures c.meets.ensures (not-false _ c.if-not-meets.false-raw))
+    (asked (names_line _) e.type_inv e.ensures c.names_line.ensures c.if-not-names_line.false)
+    (asked (meets _ _ _ _) e.type_inv e.ensures c.meets.ensures c.if-not-meets.false)
     (slot_told node_entries c.requires.0 c.slot_broken-then-again.ensures)
     (not-true _ (sym c.requires.1 ∙ c.if-again.true))
 
@@ -43,6 +43,6 @@ pub returns : goal.returns
 returns c =
     let e = c.node_entry-v in
     slot_fine _ _ _ _ _ _ (asked is_zero e.type_inv e.ensures c.is_zero.ensures c.if-is_zero.false)
-    (asked (names_line _) e.type_inv e.ensures c.names_line.ensures (not-false _ c.if-not-names_line.false-raw))
-    (asked (meets _ _ _ _) e.type_inv e.ensures c.meets.ensures (not-false _ c.if-not-meets.false-raw))
+    (asked (names_line _) e.type_inv e.ensures c.names_line.ensures c.if-not-names_line.false)
+    (asked (meets _ _ _ _) e.type_inv e.ensures c.meets.ensures c.if-not-meets.false)
     (not-false _ (sym c.requires.1 ∙ c.if-again.false))

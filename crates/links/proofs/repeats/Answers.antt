@@ -1,7 +1,7 @@
 -- `links::repeats` meets its contract: it asks the earlier slots in their order. Assumes nothing.
-use mathlib.Core.Bool.{true, false, not}
-use mathlib.Core.Path.{◌≡◌, refl, sym, ◌∙◌}
-use Prim.Native.Nat.{◌≤◌, ◌<◌}
+use mathlib.Core.Bool.{true, false}
+use mathlib.Core.Path.{◌≡◌, refl}
+use Prim.Native.Nat.{◌<◌}
 use native.Mathlib.Nat.{le_refl}
 use native.Mathlib.Omega.{arith}
 use borrow.Author.Rules.{rules}
@@ -9,7 +9,6 @@ use Rattle.std.proofs.lemmas.Iterator.{cases_from_any, YieldsList-from_range}
 use Rattle.permitted.proofs.Signs.{passed_on}
 use Rattle.permitted.specs.Permitted.{is_zero}
 use Rattle.links.specs.Links.{equal}
-use Rattle.links.specs.Scanning.{clean}
 use Rattle.links.proofs.Numbers.{asked, compared}
 use Rattle.links.proofs.Scans.{any_told, none_repeats, entry_repeats}
 use Rattle.links.proofs.repeats.Goals as goal

@@ -1,8 +1,7 @@
 use mathlib.Core.Path.{refl}
 use native.Mathlib.Omega.{arith}
-use Prim.Native.Nat.{◌-◌}
 use Rattle.std.proofs.lemmas.Result.{err_from_is_err_and}
-use Rattle.layers.proofs.Walks.{stands, records_are, quiet_most, are_quiet, stands_behind, stands_past, records_past}
+use Rattle.layers.proofs.Walks.{stands, quiet_most, are_quiet, stands_behind, stands_past}
 use Rattle.layers.proofs.Stages.{passed_first, passed_more, passed_past, stage_stops, stage_done}
 use Rattle.links.specs.Links.{links_at, fifth, stage_four}
 use Rattle.links.proofs.StageLaws.{between_fine}
@@ -17,11 +16,6 @@ returns-in_err-judge_record c =
     let p = err_from_is_err_and c.from_residual.result c.from_residual.ensures.1 in
     let h = rw c.due.ensures at c.in_err-judge_record.ensures in
     rw (p.1, p.2) (stage_stops fifth (links_at _ _) _ _ _ c.loop-x.invariant.0.here c.records_of-n.ensures.0 c.loop-x-test.true h refl c.loop-x.invariant.1)
-
-pub loop-x-smaller : goal.loop-x-smaller
-loop-x-smaller c =
-    let y = c.behind-x.ensures c.loop-x.invariant.0.here (rw c.records_of-n.ensures.0 at c.loop-x-test.true) in
-    omega (arith, c.loop-x-test.true, records_are _ _ _ y, records_past _ _ c.past_quiet-x.ensures)
 
 pub loop-x-preserved : goal.loop-x-preserved
 loop-x-preserved c =
