@@ -3,15 +3,15 @@
 use mathlib.Core.Bool.{Bool, true, false, not, ◌||◌, false≢true}
 use mathlib.Core.List.{List}
 use mathlib.Core.Path.{◌≡◌, refl, ap}
-use Prim.Native.Nat.{ℕ, suc, ◌+◌, ◌<◌}
+use Prim.Native.Nat.{ℕ, zero, suc, ◌+◌, ◌<◌}
+use native.Mathlib.Omega.{arith}
 use lib.IntN.{ℤ, pos, negsuc}
 use lib.ListN.{get_or}
 use borrow.Author.Count.{below_none, below_more}
 use borrow.Author.Tests.{eqb-true}
 use Rattle.permitted.specs.Permitted.{is_zero}
-use Rattle.links.specs.Links.{equal, repeats, slot_of}
+use Rattle.links.specs.Links.{equal, some, repeats, slot_of}
 use Rattle.links.specs.Scanning.{clean}
-use Rattle.links.proofs.Scans.{some_never}
 use Rattle.loops.specs.Scanning.{mark_of, Unrepeated, Marking}
 
 -- ---- marks
@@ -32,6 +32,11 @@ equal_same (pos m) (pos n) e = ap pos (eqb-true m n e)
 equal_same (pos m) (negsuc n) e = absurd (false≢true e)
 equal_same (negsuc m) (pos n) e = absurd (false≢true e)
 equal_same (negsuc m) (negsuc n) e = let q : suc m ≡ suc n = eqb-true (suc m) (suc n) e in cc
+
+some_not : (n : ℕ) (f : ℕ → Bool) → ((j : ℕ) → j < n → f j ≡ false) → some n f ≡ false
+unfolding some
+some_not zero f h = refl
+some_not (suc n) f h = rw (some_not n f (λ j l. h j (omega arith)), h n (omega arith))
 
 module _ (file : List ℕ) (a e : ℕ) {before after : List ℕ} (m : Marking before (slot_of file (a + 1) e) a true after) (h : Marked file a before e) where
   pub marked_more : Marked file a after (e + 1)
@@ -56,4 +61,4 @@ module _ (file : List ℕ) (a e : ℕ) {before after : List ℕ} (m : Marking be
     where
       by : (b : Bool) → is_zero (slot_of file (a + 1) e) ≡ b → b || not (repeats (slot_of file (a + 1)) e) ≡ true
       by true z = refl
-      by false z = rw (some_never e (λ j. equal (slot_of file (a + 1) e) (slot_of file (a + 1) j)) (not_like z))
+      by false z = rw (some_not e (λ j. equal (slot_of file (a + 1) e) (slot_of file (a + 1) j)) (not_like z))

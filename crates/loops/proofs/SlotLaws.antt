@@ -29,7 +29,7 @@ pub slot_judged : (file t : List ℕ) (l : Layer) (a area f r i : ℕ) → first
     (Broken 15 r (slot_column loop_entries i)))
     (Broken 13 r (slot_column loop_entries i))
 unfolding loop_slot first_broken block clean repeats_area
-slot_judged file t l a area f r i = refl
+slot_judged _ _ _ _ _ _ _ _ = refl
 
 -- a slot that is fine is no entry or repeats none
 pub slot_clean : (file t : List ℕ) (l : Layer) (a area f r i : ℕ) → first_broken (block sixth r (loop_slot file t l a area f r i)) ≡ Fine

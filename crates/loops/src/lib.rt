@@ -25,10 +25,7 @@ use verdict::{Refusal, Verdict};
 fn mark_of(v: i32) -> usize
     ensures { result ≡ mark_of v }
 {
-    if permitted::natural(v) {
-        return 2 * permitted::size(v);
-    }
-    2 * permitted::size(v) + 1
+    2 * permitted::size(v) + usize::from(!permitted::natural(v))
 }
 
 // Marks the entry `v` with `a`, the record of its A. False where it bears that mark already, or where no
@@ -39,6 +36,7 @@ fn mark(marks: &mut [usize], v: i32, a: usize) -> bool
     if permitted::is_zero(v) {
         return true;
     }
+    // by index, since a slice's `get_mut` promises no element
     let i = mark_of(v);
     if marks.len() <= i || marks[i] == a {
         return false;
@@ -304,8 +302,8 @@ pub fn stage_five(file: &[u8], table: &[u32], b: Bases) -> Verdict
     let n = walk::records_of(file);
     let mut kept = [0i64; 9999];
     let mut marks = [0usize; 20000];
-    let mut have: usize = 0;
-    let mut known: usize = 0;
+    let mut have = 0;
+    let mut known = 0;
     let mut x = layers::at_first(table, b);
     // a quiet run is one step, so no range counts this
     while x.records < n {

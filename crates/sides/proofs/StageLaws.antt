@@ -32,7 +32,7 @@ lines_next (due.Loop last count (suc left)) s t h = h
 
 lines_small : (file : List ℕ) (k : ℕ) → (state_at file k).layer.lines ≤ 999999
 unfolding state_at next_of
-lines_small file zero = lit≤ tt
+lines_small _ zero = lit≤ tt
 lines_small file (suc k) = lines_next (due_of (state_at file k)) (state_at file k) (record_of file (suc k)) (lines_small file k)
 
 state_countable : (s : State) → s.layer.lines ≤ 999999 → LineCountable (due_of s)

@@ -45,6 +45,7 @@ fn mark_area(file: &[u8], a: usize, marks: &mut [usize])
 fn put_mark(marks: &mut [usize], i: usize, a: usize)
     ensures { marks.new ≡ put_mark marks.old i a }
 {
+    // by index, since a slice's `get_mut` promises no element
     if i < marks.len() {
         marks[i] = a;
     }

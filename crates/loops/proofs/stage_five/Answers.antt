@@ -1,7 +1,6 @@
-use mathlib.Core.Path.{◌≡◌, refl, sym}
+use mathlib.Core.Path.{◌≡◌, refl}
 use native.Mathlib.Omega.{arith}
 use lib.ListN.{length}
-use lib.Seq.{length-take-le}
 use borrow.Author.Rules.{rules}
 use Rattle.std.proofs.lemmas.Result.{err_from_is_err_and}
 use Rattle.walk.specs.States.{counts_at}
@@ -24,10 +23,6 @@ loop-x-init c =
       lines = λ h p. absurd (omega (arith, p, rows_are _ _ _ e));
       slots = unrepeated_none _ _;
     }
-
-pub slice_bounds-judge_record-end : goal.slice_bounds-judge_record-end
-slice_bounds-judge_record-end c =
-    sym (length-take-le _ _ (omega (arith, c.loop-x.invariant.room, c.loop-x.invariant.all_kept)))
 
 pub returns-in_err-judge_record : goal.returns-in_err-judge_record
 unfolding stage_five
