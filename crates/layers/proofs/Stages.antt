@@ -5,7 +5,9 @@ use mathlib.Core.List.{List, []}
 use mathlib.Core.Path.{◌≡◌, sym, ◌∙◌, ap}
 use Prim.Native.Nat.{ℕ, ◌+◌, ◌≤◌, ◌<◌}
 use native.Mathlib.Omega.{arith}
-use Rattle.verdict.specs.Rules.{Verdict, Fine, Broken, Check, first_broken, block, rows}
+use Rattle.std.specs.Prelude.{Err}
+use Rattle.verdict.specs.declared.Refusal.{Refusal}
+use Rattle.verdict.specs.Rules.{Verdict, Fine, Check, first_broken, block, rows}
 use Rattle.verdict.specs.Order.{Sorted, rising}
 use Rattle.verdict.proofs.Parts.{check_none, rows_none, rows_pass, rows_past, rows_stop, rows_done}
 use Rattle.verdict.proofs.Numbers.{ten_to18, numbered, Numbered, block_numbered, rows_numbered}
@@ -62,9 +64,9 @@ module _ (turn : ℕ) (g : Standing → List Check) where
             (sym (check_none turn (x.records + j + 1))))
 
       -- the verdict v of the next record is broken and is returned
-      pub stage_stops : {n : ℕ} → n ≡ records_of file → x.records < n → {v : Verdict} {a c d : ℕ} → v ≡ verdict_at x → v ≡ Broken a c d → Passed x
+      pub stage_stops : {n : ℕ} → n ≡ records_of file → x.records < n → {v : Verdict} {r : Refusal} → v ≡ verdict_at x → v ≡ Err r → Passed x
           → v ≡ first_broken (stage_of turn g file t b)
-      stage_stops r l h z f = rows_stop (rules_at turn g file t b) (records_of file) x.records (omega (arith, r)) f (h ∙ rule_is) z
+      stage_stops m l h z f = rows_stop (rules_at turn g file t b) (records_of file) x.records (omega (arith, m)) f (h ∙ rule_is) z
 
     -- all records were fine
     pub stage_done : {x : Standing} → Stands file t b x → {n : ℕ} → n ≡ records_of file → n ≤ x.records → Passed x

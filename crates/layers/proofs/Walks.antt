@@ -3,7 +3,7 @@ use mathlib.Core.Bool.{Bool, true, false, cond}
 use mathlib.Core.List.{List}
 use mathlib.Core.Path.{◌≡◌, refl, sym, ◌∙◌, ap, subst}
 use Prim.Native.Nat.{ℕ, ◌+◌, ◌-◌, ◌≤◌, ◌<◌, min}
-use native.Mathlib.Nat.{add-zero, min-le_left, min-le_right}
+use native.Mathlib.Nat.{min-le_left, min-le_right}
 use native.Mathlib.Numerals.{add-one}
 use native.Mathlib.Omega.{arith}
 use Rattle.records.specs.View.{record_of}
@@ -12,7 +12,7 @@ use Rattle.walk.specs.States.{due_of, start, next_of, state_at, counts_at}
 use Rattle.walk.specs.Stages.{records_of}
 use Rattle.walk.specs.Quiet.{passed, Quiet, quiet_ahead}
 use Rattle.walk.proofs.Walking.{next_state, counts_small}
-use Rattle.walk.proofs.Passing.{passed_none, passed_state, pass_are_quiet}
+use Rattle.walk.proofs.Passing.{passed_state, pass_are_quiet}
 use Rattle.layers.specs.declared.Bases.{Bases}
 use Rattle.layers.specs.declared.Layer.{Layer}
 use Rattle.layers.specs.declared.Standing.{Standing}
@@ -54,7 +54,7 @@ pub first_is : (file t : List ℕ) (b : Bases) {s : State} {l : Layer} → s ≡
 unfolding state_at counts_at layer_at
 first_is file t b e g = standing e refl g refl
 
--- ---- behind one record more: m is 1 where it is an H
+-- ---- behind one record more: h says whether it is an H
 
 module _ (file t : List ℕ) (b : Bases) {x : Standing} (e : x ≡ standing_at file t b x.records) where
   -- fewer layers came than there are records
@@ -79,31 +79,20 @@ module _ (file t : List ℕ) (b : Bases) {x : Standing} (e : x ≡ standing_at f
     pub layer_behind : y.layer ≡ cond (is_layer (due_of x.state)) (layer_in t b x.rows) x.layer
     layer_behind = layer_is file t b q ∙ layer_next
 
-  module _ {u : State} (f : u ≡ next_of x.state (record_of file (x.records + 1))) {m : ℕ} (g : m ≡ cond (is_layer (due_of x.state)) 1 0) where
-    pub behind_same : m ≡ 0 → record { state = u; rows = x.rows; layer = x.layer; records = x.records + 1 } ≡ standing_at file t b (x.records + 1)
-    behind_same z = by (is_layer (due_of x.state)) (sym g ∙ z) rows_next layer_next
-      where
-        by : (y : Bool) → ◌≡◌ {A = ℕ} (cond y 1 0) 0 → (counts_at file (x.records + 1)).layers ≡ x.rows + cond y 1 0
-            → layer_at file t b (x.records + 1) ≡ cond y (layer_in t b x.rows) x.layer
-            → record { state = u; rows = x.rows; layer = x.layer; records = x.records + 1 } ≡ standing_at file t b (x.records + 1)
-        by true o r l = absurd (omega arith)
-        by false o r l = standing (next_state file x.records (state_is file t b e) f) (omega arith) (sym l) refl
+  module _ {u : State} (f : u ≡ next_of x.state (record_of file (x.records + 1))) {h : Bool} (g : h ≡ is_layer (due_of x.state)) where
+    pub behind_same : h ≡ false → record { state = u; rows = x.rows; layer = x.layer; records = x.records + 1 } ≡ standing_at file t b (x.records + 1)
+    behind_same z =
+        let i : is_layer (due_of x.state) ≡ false = sym g ∙ z in
+        let r = rw i at rows_next in
+        standing (next_state file x.records (state_is file t b e) f) (omega (arith, r)) (sym (rw i at layer_next)) refl
 
-    pub behind_other : (m ≡ 0 → ⊥) → {l : Layer} → l ≡ layer_in t b x.rows
+    pub behind_other : h ≡ true → {l : Layer} → l ≡ layer_in t b x.rows
         → record { state = u; rows = x.rows + 1; layer = l; records = x.records + 1 } ≡ standing_at file t b (x.records + 1)
-    behind_other z {l} o = by (is_layer (due_of x.state)) g rows_next layer_next
-      where
-        by : (y : Bool) → m ≡ cond y 1 0 → (counts_at file (x.records + 1)).layers ≡ x.rows + cond y 1 0
-            → layer_at file t b (x.records + 1) ≡ cond y (layer_in t b x.rows) x.layer
-            → record { state = u; rows = x.rows + 1; layer = l; records = x.records + 1 } ≡ standing_at file t b (x.records + 1)
-        by true p r q = standing (next_state file x.records (state_is file t b e) f) (sym r) (o ∙ sym q) refl
-        by false p r q = absurd (z p)
+    behind_other z o =
+        let i : is_layer (due_of x.state) ≡ true = sym g ∙ z in
+        standing (next_state file x.records (state_is file t b e) f) (sym (rw i at rows_next)) (o ∙ sym (rw i at layer_next)) refl
 
 -- ---- behind quiet records
-
--- none
-pub past_none : (x : Standing) → x ≡ past_by x 0
-past_none x = rw (passed_none x.state, add-zero)
 
 -- they are quiet, no more than `most`, and the file has them
 module _ (file : List ℕ) (most : ℕ) (x : Standing) where
@@ -123,17 +112,12 @@ module _ (file : List ℕ) (most : ℕ) (x : Standing) where
   unfolding quiet_in
   are_quiet = pass_are_quiet x.state left refl
 
--- as code has it: the file has n records, and no more than m are passed
-module _ (file : List ℕ) (x : Standing) (most : ℕ) {n : ℕ} (e : n ≡ records_of file) where
-  pub quiet_none : n ≤ x.records → x ≡ past_by x (quiet_in file most x)
-  quiet_none l =
-      let z : quiet_in file most x ≡ 0 = omega (arith, e, quiet_left file most x) in
-      rw z (past_none x)
-
-  pub quiet_some : {m h : ℕ} {u : State} → m ≡ min most (n - x.records) → (h ≡ min m (quiet_ahead x.state)) × (u ≡ passed x.state h)
-      → record { state = u; rows = x.rows; layer = x.layer; records = x.records + h } ≡ past_by x (quiet_in file most x)
-  unfolding quiet_in
-  quiet_some g h = rw (← e, ← g, ← h.0) (standing h.1 refl refl refl)
+-- as code has it: no more than m are passed
+pub quiet_some : (file : List ℕ) (x : Standing) (most : ℕ) {m h : ℕ} {u : State} → m ≡ min most (records_of file - x.records)
+    → (h ≡ min m (quiet_ahead x.state)) × (u ≡ passed x.state h)
+    → record { state = u; rows = x.rows; layer = x.layer; records = x.records + h } ≡ past_by x (quiet_in file most x)
+unfolding quiet_in
+quiet_some file x most g h = rw (← g, ← h.0) (standing h.1 refl refl refl)
 
 -- the walk stands behind j of them
 pub past_is : (file t : List ℕ) (b : Bases) {x : Standing} → x ≡ standing_at file t b x.records → {h : ℕ} → Quiet x.state h → (j : ℕ) → j ≤ h

@@ -5,7 +5,7 @@
 // where a walk over the records stands.
 #![tactic(auto)]
 
-ghost use Rattle.std.specs.Prelude.{◌≡◌, cond, List, ℕ, ◌+◌, ◌-◌, ◌*◌, ◌≤◌, ◌<◌, min, get_or};
+ghost use Rattle.std.specs.Prelude.{◌≡◌, List, ℕ, ◌+◌, ◌*◌, ◌≤◌, ◌<◌, get_or};
 ghost use Rattle.walk.specs.Row.{row_length};
 ghost use Rattle.layers.specs.Naming.{row_word, words_before, layer_in, names, names_line, node_of, line_of, area_of};
 ghost use Rattle.layers.specs.Passing.{is_layer};
@@ -23,7 +23,7 @@ pub struct Bases {
 
 // A layer: its H record; how many nodes, lines and areas it has; and where the words of its first line
 // and of its first area stand in the table.
-#[derive(Clone, Copy)]
+#[derive(Clone, Copy, Default)]
 pub struct Layer {
     pub head: u32,
     pub nodes: u32,
@@ -38,40 +38,29 @@ fn row_word(table: &[u32], i: usize, j: usize) -> u32
     requires { (i ≤ 6399936) × (j < row_length) }
     ensures { result ≡ row_word table.now i j }
 {
-    let at = walk::ROW_LENGTH * i + j;
-    if at < table.len() {
-        return table[at];
-    }
-    0
+    table.get(walk::ROW_LENGTH * i + j).copied().unwrap_or(0)
 }
 
 // Word `j` of the rows before row `i`, added up.
+#[tactic(auto, unfolding(crate::specs::Naming::words_before))]
 fn words_before(table: &[u32], j: usize, i: usize) -> usize
     requires { (i ≤ 6399936) × (j < row_length) }
     ensures { (result ≡ words_before table.now j i) × (result ≤ 4294967296 * i) }
 {
     let mut sum: usize = 0;
-    let mut k: usize = 0;
-    while k < i {
+    for k in 0..i {
         sum += row_word(table, k, j) as usize;
-        k += 1;
     }
     sum
 }
 
 // Layer `i` of a table, counted from 0.
+#[tactic(auto, unfolding(crate::specs::Naming::layer_in))]
 pub fn layer_in(table: &[u32], b: Bases, i: usize) -> Layer
     ensures { result ≡ layer_in table.now b i }
 {
     if 6399936 < i {
-        return Layer {
-            head: 0,
-            nodes: 0,
-            lines: 0,
-            areas: 0,
-            line: 0,
-            area: 0,
-        };
+        return Layer::default();
     }
     Layer {
         head: row_word(table, i, walk::HEAD_WORD),
@@ -84,6 +73,7 @@ pub fn layer_in(table: &[u32], b: Bases, i: usize) -> Layer
 }
 
 // Whether a number is one of the serials 1 to `n`.
+#[tactic(auto, unfolding(crate::specs::Naming::names))]
 pub fn names(n: u32, v: i32) -> bool
     ensures { result ≡ names n v }
 {
@@ -91,14 +81,16 @@ pub fn names(n: u32, v: i32) -> bool
 }
 
 // Whether an entry, +n or -n, names one of the lines 1 to `n`.
+#[tactic(auto, unfolding(crate::specs::Naming::names_line))]
 pub fn names_line(n: u32, v: i32) -> bool
     ensures { result ≡ names_line n v }
 {
     let s = permitted::size(v);
-    (1 <= s) & (s <= n as usize)
+    1 <= s && s <= n as usize
 }
 
 // The N record that a number names in a layer; 0 where it names nothing.
+#[tactic(auto, unfolding(crate::specs::Naming::node_of))]
 pub fn node_of(l: Layer, v: i32) -> usize
     ensures { result ≡ node_of l v }
 {
@@ -112,16 +104,11 @@ pub fn node_of(l: Layer, v: i32) -> usize
 fn word_in(table: &[u32], at: usize, i: usize) -> u32
     ensures { result ≡ get_or table.now (at + i) 0 }
 {
-    if table.len() <= at {
-        return 0;
-    }
-    if table.len() - at <= i {
-        return 0;
-    }
-    table[at + i]
+    table.get(at..).unwrap_or(&[]).get(i).copied().unwrap_or(0)
 }
 
 // The L record that an entry names in a layer; 0 where it names nothing.
+#[tactic(auto, unfolding(crate::specs::Naming::line_of, crate::specs::Naming::names_line))]
 pub fn line_of(table: &[u32], l: Layer, v: i32) -> usize
     ensures { result ≡ line_of table.now l v }
 {
@@ -132,6 +119,7 @@ pub fn line_of(table: &[u32], l: Layer, v: i32) -> usize
 }
 
 // The A record that a number names in a layer; 0 where it names nothing.
+#[tactic(auto, unfolding(crate::specs::Naming::area_of, crate::specs::Naming::names, permitted::specs::Permitted::within))]
 pub fn area_of(table: &[u32], l: Layer, v: i32) -> usize
     ensures { result ≡ area_of table.now l v }
 {
@@ -157,19 +145,11 @@ pub fn area_word(table: &[u32], l: Layer, i: usize) -> usize
 
 // ---- from record to record
 
-// 1 for an H.
-pub fn rows_of(d: Due) -> usize
-    ensures { result ≡ cond (is_layer d) 1 0 }
+// Whether an H is due.
+pub fn is_layer(d: Due) -> bool
+    ensures { result ≡ is_layer d }
 {
-    match d {
-        Due::Mesh(_) => 0,
-        Due::Layer(_) => 1,
-        Due::Node(_, _) => 0,
-        Due::Line(_, _, _) => 0,
-        Due::Coordinates(_) => 0,
-        Due::Area(_, _) => 0,
-        Due::Loop(_, _, _) => 0,
-    }
+    matches!(d, Due::Layer(_))
 }
 
 // Where a walk stands behind its first `records` records: the state; how many layers came; and the layer
@@ -186,12 +166,10 @@ pub struct Standing {
 pub fn at_first(table: &[u32], b: Bases) -> Standing
     ensures { (file : List ℕ) → result ≡ standing_at file table.now b 0 }
 {
-    let state = walk::at_start();
-    let layer = layer_in(table, b, 0);
     Standing {
-        state,
+        state: walk::at_start(),
         rows: 0,
-        layer,
+        layer: layer_in(table, b, 0),
         records: 0,
     }
 }
@@ -201,61 +179,34 @@ pub fn behind(file: &[u8], table: &[u32], b: Bases, x: Standing) -> Standing
     ensures { Goes file.now table.now b x result }
 {
     let n = walk::records_of(file);
-    let k = x.records;
-    let rows = x.rows;
-    if n <= k {
+    if n <= x.records || n <= x.rows {
         return x;
     }
-    if n <= rows {
-        return x;
-    }
-    let s = x.state;
-    let state = walk::next(s, records::record_view(file, k + 1));
-    if rows_of(walk::due(s)) == 0 {
-        let layer = x.layer;
+    let state = walk::next(x.state, records::record_view(file, x.records + 1));
+    if is_layer(walk::due(x.state)) {
         return Standing {
             state,
-            rows,
-            layer,
-            records: k + 1,
+            rows: x.rows + 1,
+            layer: layer_in(table, b, x.rows),
+            records: x.records + 1,
         };
     }
-    let layer = layer_in(table, b, rows);
     Standing {
         state,
-        rows: rows + 1,
-        layer,
-        records: k + 1,
+        records: x.records + 1,
+        ..x
     }
-}
-
-// The lesser of two numbers.
-fn lesser(a: usize, b: usize) -> usize
-    ensures { result ≡ min a b }
-{
-    if a < b {
-        return a;
-    }
-    b
 }
 
 // Behind the quiet records that come next: those that the file has, and no more than `most`.
 pub fn past_quiet(file: &[u8], x: Standing, most: usize) -> Standing
     ensures { result ≡ past_by x (quiet_in file.now most x) }
 {
-    let n = walk::records_of(file);
-    let k = x.records;
-    if n <= k {
-        return x;
-    }
-    let s = x.state;
-    let p = walk::pass_quiet(s, lesser(most, n - k));
-    let state = p.state;
-    let layer = x.layer;
+    let left = walk::records_of(file).saturating_sub(x.records);
+    let p = walk::pass_quiet(x.state, most.min(left));
     Standing {
-        state,
-        rows: x.rows,
-        layer,
-        records: k + p.records,
+        state: p.state,
+        records: x.records + p.records,
+        ..x
     }
 }

@@ -181,7 +181,7 @@ fn mark_behind(d: Due, file: &[u8], table: &[u32], l: Layer, marks: &mut [usize]
     requires { Marks file.now marks.old }
     ensures { Marks file.now marks.new }
 {
-    if layers::rows_of(d) == 0 {
+    if !layers::is_layer(d) {
         return;
     }
     mark_layer(file, table, l, marks);

@@ -97,6 +97,18 @@ table_length file =
 
 -- ---- one record more
 
+-- a record that is no H, no L and no A gives none
+pub none_stored : (d : Due) (t : List ℕ) (r : ℕ) (c : Counts) (b : Bases) (ws : List ℕ) → ((last : ℕ) → d ≡ Layer last → ⊥)
+    → ((layer last letters : ℕ) → d ≡ Line layer last letters → ⊥) → ((layer last : ℕ) → d ≡ Area layer last → ⊥)
+    → ws ≡ sets ws (stored_at d c b) (record_words d t r)
+none_stored (Mesh last) t r c b ws o p q = refl
+none_stored (Layer last) t r c b ws o p q = absurd (o last refl)
+none_stored (Node layer last) t r c b ws o p q = refl
+none_stored (Line layer last letters) t r c b ws o p q = absurd (p layer last letters refl)
+none_stored (Coordinates left) t r c b ws o p q = refl
+none_stored (Area layer last) t r c b ws o p q = absurd (q layer last refl)
+none_stored (Loop last count left) t r c b ws o p q = refl
+
 -- the words xs, ys, zs in the sections: rows in p words, lines in q words, areas in the rest
 abbrev laid_out : List ℕ → List ℕ → List ℕ → ℕ → ℕ → List ℕ → List ℕ
 laid_out xs ys zs p q d = filled xs (take p d) ++ (filled ys (take q (drop p d)) ++ filled zs (drop q (drop p d)))

@@ -17,7 +17,7 @@ use Rattle.records.specs.Layout.{layout_of}
 use Rattle.records.specs.View.{record_of}
 use Rattle.records.specs.Columns.{span_of, area_loops}
 use Rattle.std.specs.Prelude.{Err}
-use Rattle.verdict.specs.Rules.{Verdict, Fine, Broken, first_broken}
+use Rattle.verdict.specs.Rules.{Verdict, Fine, first_broken}
 use Rattle.verdict.proofs.Holding.{Holding}
 use Rattle.verdict.proofs.Orders.{and_both}
 use Rattle.verdict.proofs.Parts.{both_fine}

@@ -8,7 +8,7 @@
 --   need_of file         the words that the file needs; 0 for a file refused in stage 1 or 2
 use Rattle.std.specs.Prelude.{Bool, true, false, cond, ◌&&◌, List, [], ◌∷◌, ◌++◌, ℕ, ◌+◌, ◌/◌, ◌%◌, ltb, leb, eqb, length, get_or, Result, Ok, Err}
 use Rattle.records.specs.View.{record_of}
-use Rattle.verdict.specs.Rules.{Verdict, Fine, Broken, Rule, Check, check, block, rows, first_broken}
+use Rattle.verdict.specs.Rules.{Verdict, Fine, Rule, Check, check, block, rows, first_broken}
 use Rattle.rules.specs.declared.Due.{Due}
 use Rattle.rules.specs.declared.Due.TheVariants.{Mesh, Layer, Node, Line, Coordinates, Area, Loop}
 use Rattle.rules.specs.Checks.{checks_of}

@@ -9,7 +9,7 @@ use Rattle.std.specs.Prelude.{cond, List, [], ◌∷◌, ◌++◌, ℕ, zero, su
 use Rattle.records.specs.View.{record_of}
 use Rattle.records.specs.Reading.{head_letters}
 use Rattle.records.specs.Columns.{layer_nodes, layer_lines, layer_areas}
-use Rattle.verdict.specs.Rules.{Verdict, Fine, Broken, first_broken}
+use Rattle.verdict.specs.Rules.{Verdict, Fine, first_broken}
 use Rattle.rules.specs.declared.Due.{Due}
 use Rattle.rules.specs.declared.Due.TheVariants.{Mesh, Layer, Node, Line, Coordinates, Area, Loop}
 use Rattle.walk.specs.Row.{row_of}

@@ -8,7 +8,7 @@
 ghost use Rattle.std.specs.Prelude.{◌≡◌, ◌+◌, ◌-◌, ◌*◌, ◌/◌, ◌≤◌, ◌<◌, min, length};
 ghost use Rattle.std.proofs.lemmas.List.Edits.{sets};
 ghost use Rattle.verdict.specs.Rules.{Broken, first_broken, block};
-ghost use Rattle.walk.specs.States.{size_in, due_of, start, layer_part, meshed, headed, next_of, no_counts, Countable, counted_for, counts_at};
+ghost use Rattle.walk.specs.States.{size_in, due_of, start, layer_part, meshed, headed, next_of, Countable, counted_for, counts_at};
 ghost use Rattle.walk.specs.Row.{row_length, row_of};
 ghost use Rattle.walk.specs.Stages.{records_of, end_checks, length_checks, stage_one, last_checks, stage_two, walked_by, walked_of, need_of, early};
 ghost use Rattle.walk.specs.Table.{table_of, filled, filled_by, tabled_of};
@@ -34,14 +34,14 @@ pub const AREAS_WORD: usize = 3;
 pub const LETTERS_WORD: usize = 4;
 
 // The mesh that the walk is in: its code, and how many of its layers have not begun.
-#[derive(Clone, Copy)]
+#[derive(Clone, Copy, Default)]
 pub struct MeshPart {
     pub code: usize,
     pub layers: usize,
 }
 
 // The layer: its code, its totals, how many of each came, and its letters.
-#[derive(Clone, Copy)]
+#[derive(Clone, Copy, Default)]
 pub struct LayerPart {
     pub code: usize,
     pub nodes: usize,
@@ -54,13 +54,13 @@ pub struct LayerPart {
 }
 
 // The line: how many of its points are left.
-#[derive(Clone, Copy)]
+#[derive(Clone, Copy, Default)]
 pub struct LinePart {
     pub points: usize,
 }
 
 // The area: its loops, how many of them were begun, and the last one's line count and entries left.
-#[derive(Clone, Copy)]
+#[derive(Clone, Copy, Default)]
 pub struct AreaPart {
     pub loops: usize,
     pub begun: usize,
@@ -69,7 +69,7 @@ pub struct AreaPart {
 }
 
 // Where the walk stands.
-#[derive(Clone, Copy)]
+#[derive(Clone, Copy, Default)]
 pub struct State {
     pub mesh: MeshPart,
     pub layer: LayerPart,
@@ -78,7 +78,7 @@ pub struct State {
 }
 
 // What the records were, and the words that the layers among them need.
-#[derive(Clone, Copy)]
+#[derive(Clone, Copy, Default)]
 pub struct Counts {
     pub meshes: usize,
     pub layers: usize,
@@ -118,6 +118,7 @@ pub fn size_at(t: &[u8], c: Columns) -> usize
 }
 
 // What is due.
+#[tactic(auto, unfolding(crate::specs::States::due_of))]
 pub fn due(s: State) -> Due
     ensures { result ≡ due_of s }
 {
@@ -149,49 +150,27 @@ pub fn due(s: State) -> Due
 pub fn at_start() -> State
     ensures { result ≡ start }
 {
-    State {
-        mesh: MeshPart { code: 0, layers: 0 },
-        layer: LayerPart {
-            code: 0,
-            nodes: 0,
-            node: 0,
-            lines: 0,
-            line: 0,
-            areas: 0,
-            area: 0,
-            letters: 0,
-        },
-        line: LinePart { points: 0 },
-        area: AreaPart {
-            loops: 0,
-            begun: 0,
-            count: 0,
-            entries: 0,
-        },
-    }
+    State::default()
 }
 
 // What is left of `n` when `by` are taken.
 pub fn less(n: usize, by: usize) -> usize
     ensures { result ≡ n - by }
 {
-    if n < by {
-        return 0;
-    }
-    n - by
+    n.saturating_sub(by)
 }
 
 // The state behind an M.
 fn behind_mesh(t: &[u8]) -> State
     ensures { result ≡ meshed t.now }
 {
-    let mut s = at_start();
-    let mesh = MeshPart {
-        code: size_at(t, records::MESH_CODE),
-        layers: size_at(t, records::MESH_LAYERS),
-    };
-    s.mesh = mesh;
-    s
+    State {
+        mesh: MeshPart {
+            code: size_at(t, records::MESH_CODE),
+            layers: size_at(t, records::MESH_LAYERS),
+        },
+        ..at_start()
+    }
 }
 
 // The layer behind its H.
@@ -201,12 +180,10 @@ fn layer_part(t: &[u8]) -> LayerPart
     LayerPart {
         code: size_at(t, records::LAYER_CODE),
         nodes: size_at(t, records::LAYER_NODES),
-        node: 0,
         lines: size_at(t, records::LAYER_LINES),
-        line: 0,
         areas: size_at(t, records::LAYER_AREAS),
-        area: 0,
         letters: records::head_letters(t),
+        ..LayerPart::default()
     }
 }
 
@@ -214,77 +191,88 @@ fn layer_part(t: &[u8]) -> LayerPart
 fn behind_layer(s: State, t: &[u8]) -> State
     ensures { result ≡ headed s t.now }
 {
-    let mut u = at_start();
-    let mesh = MeshPart {
-        code: s.mesh.code,
-        layers: less(s.mesh.layers, 1),
-    };
-    let layer = layer_part(t);
-    u.mesh = mesh;
-    u.layer = layer;
-    u
+    State {
+        mesh: MeshPart {
+            layers: s.mesh.layers.saturating_sub(1),
+            ..s.mesh
+        },
+        layer: layer_part(t),
+        ..at_start()
+    }
 }
 
 // The state behind the record `t`: each replaces a part.
+#[tactic(auto, using(crate::proofs::Walking::next_entries), unfolding(crate::specs::States::next_of, crate::specs::States::due_of))]
 pub fn next(s: State, t: &[u8]) -> State
     ensures { result ≡ next_of s t.now }
 {
-    let mut u = s;
-    let mut layer = s.layer;
-    let mut area = s.area;
     if 0 < s.line.points {
-        let line = LinePart {
-            points: less(s.line.points, 7),
+        return State {
+            line: LinePart {
+                points: s.line.points.saturating_sub(7),
+            },
+            ..s
         };
-        u.line = line;
-        return u;
     }
-    if 0 < area.entries {
-        area.entries = less(area.entries, 12);
-        u.area = area;
-        return u;
-    }
-    if area.begun < area.loops {
-        let n = size_at(t, records::LOOP_COUNT);
-        area.begun = area.begun + 1;
-        area.count = n;
-        area.entries = less(n, 12);
-        u.area = area;
-        return u;
-    }
-    if layer.node < layer.nodes {
-        layer.node = layer.node + 1;
-        u.layer = layer;
-        return u;
-    }
-    if layer.line < layer.lines {
-        layer.line = layer.line + 1;
-        let line = LinePart {
-            points: size_at(t, records::LINE_POINTS),
+    if 0 < s.area.entries {
+        return State {
+            area: AreaPart {
+                entries: s.area.entries.saturating_sub(12),
+                ..s.area
+            },
+            ..s
         };
-        u.layer = layer;
-        u.line = line;
-        return u;
     }
-    if layer.area < layer.areas {
-        layer.area = layer.area + 1;
-        let begun = AreaPart {
-            loops: size_at(t, records::AREA_LOOPS),
-            begun: 0,
-            count: 0,
-            entries: 0,
+    if s.area.begun < s.area.loops {
+        let count = size_at(t, records::LOOP_COUNT);
+        return State {
+            area: AreaPart {
+                begun: s.area.begun + 1,
+                count,
+                entries: count.saturating_sub(12),
+                ..s.area
+            },
+            ..s
         };
-        u.layer = layer;
-        u.area = begun;
-        return u;
     }
-    // each of these has a local of its own, which keeps `u` out of memory
+    if s.layer.node < s.layer.nodes {
+        return State {
+            layer: LayerPart {
+                node: s.layer.node + 1,
+                ..s.layer
+            },
+            ..s
+        };
+    }
+    if s.layer.line < s.layer.lines {
+        return State {
+            layer: LayerPart {
+                line: s.layer.line + 1,
+                ..s.layer
+            },
+            line: LinePart {
+                points: size_at(t, records::LINE_POINTS),
+            },
+            ..s
+        };
+    }
+    if s.layer.area < s.layer.areas {
+        return State {
+            layer: LayerPart {
+                area: s.layer.area + 1,
+                ..s.layer
+            },
+            area: AreaPart {
+                loops: size_at(t, records::AREA_LOOPS),
+                ..AreaPart::default()
+            },
+            ..s
+        };
+    }
     if 0 < s.mesh.layers {
-        let head = behind_layer(s, t);
-        return head;
+        return behind_layer(s, t);
     }
-    let mesh = behind_mesh(t);
-    mesh
+    behind_mesh(t)
 }
 
 // ---- quiet records
@@ -302,21 +290,18 @@ fn pass_points(s: State, most: usize) -> Pass
     ensures { (result.records ≡ min most ((s.line.points - 1) / 7 + 1)) × (result.state ≡ passed s result.records) }
 {
     let all = (s.line.points - 1) / 7 + 1;
-    let mut u = s;
     if most < all {
         let line = LinePart {
             points: s.line.points - 7 * most,
         };
-        u.line = line;
         return Pass {
-            state: u,
+            state: State { line, ..s },
             records: most,
         };
     }
     let line = LinePart { points: 0 };
-    u.line = line;
     Pass {
-        state: u,
+        state: State { line, ..s },
         records: all,
     }
 }
@@ -326,48 +311,31 @@ fn pass_nodes(s: State, most: usize) -> Pass
     requires { s.line.points ≤ 0 }
     ensures { (result.records ≡ min most (s.layer.nodes - s.layer.node)) × (result.state ≡ passed s result.records) }
 {
-    let all = less(s.layer.nodes, s.layer.node);
-    let mut u = s;
-    let mut layer = s.layer;
-    if most < all {
-        layer.node = layer.node + most;
-        u.layer = layer;
-        return Pass {
-            state: u,
-            records: most,
-        };
-    }
-    layer.node = layer.node + all;
-    u.layer = layer;
+    let records = s.layer.nodes.saturating_sub(s.layer.node).min(most);
+    let layer = LayerPart {
+        node: s.layer.node + records,
+        ..s.layer
+    };
     Pass {
-        state: u,
-        records: all,
-    }
-}
-
-// Passes no record.
-fn pass_none(s: State) -> Pass
-    ensures { (result.records ≡ 0) × (result.state ≡ passed s result.records) }
-{
-    Pass {
-        state: s,
-        records: 0,
+        state: State { layer, ..s },
+        records,
     }
 }
 
 // Passes the coordinate records that come next, or else the nodes, in one step: all of them, and no more
 // than `most`.
+#[tactic(auto, unfolding(crate::specs::Quiet::quiet_ahead))]
 pub fn pass_quiet(s: State, most: usize) -> Pass
     ensures { (result.records ≡ min most (quiet_ahead s)) × (result.state ≡ passed s result.records) }
 {
     if 0 < s.line.points {
         return pass_points(s, most);
     }
-    if 0 < s.area.entries {
-        return pass_none(s);
-    }
-    if s.area.begun < s.area.loops {
-        return pass_none(s);
+    if 0 < s.area.entries || s.area.begun < s.area.loops {
+        return Pass {
+            state: s,
+            records: 0,
+        };
     }
     pass_nodes(s, most)
 }
@@ -375,28 +343,26 @@ pub fn pass_quiet(s: State, most: usize) -> Pass
 // ---- stage 1
 
 // How many records are judged: those that there are, and no more than there may be.
+#[tactic(auto, using(std::proofs::lemmas::Bool::Decides::nat_tests), unfolding(crate::specs::Stages::records_of))]
 pub fn records_of(file: &[u8]) -> usize
     ensures { (result ≡ records_of file.now) × (result ≤ 6399936) }
 {
-    let n = file.len() / 74;
-    if 6399936 < n {
-        return 6399936;
-    }
-    n
+    (file.len() / 74).min(6399936)
 }
 
 // The line end of a record.
+#[tactic(auto, unfolding(crate::specs::Stages::end_checks, verdict::specs::Rules::first_broken, verdict::specs::Rules::block))]
 fn judge_end(t: &[u8], row: u32) -> Verdict
     ensures { result ≡ first_broken (block 1 row (end_checks t.now)) }
 {
-    if rules::byte_at(t, 72) != 13 {
+    if rules::byte_at(t, 72) != b'\r' {
         return Err(Refusal {
             number: 2,
             place: row,
             column: 73,
         });
     }
-    if rules::byte_at(t, 73) != 10 {
+    if rules::byte_at(t, 73) != b'\n' {
         return Err(Refusal {
             number: 2,
             place: row,
@@ -407,11 +373,12 @@ fn judge_end(t: &[u8], row: u32) -> Verdict
 }
 
 // The length of a file; `row` is the record behind the last that is judged.
+#[tactic(auto, unfolding(crate::specs::Stages::length_checks, verdict::specs::Rules::first_broken, verdict::specs::Rules::block))]
 fn judge_length(n: usize, row: u32) -> Verdict
     ensures { result ≡ first_broken (block 1 row (length_checks n)) }
 {
     let whole = n / 74;
-    if (1 <= whole) & ((whole <= 6399936) & (n % 74 == 0)) {
+    if 1 <= whole && whole <= 6399936 && n % 74 == 0 {
         return Ok(());
     }
     Err(Refusal {
@@ -426,62 +393,45 @@ fn stage_one(file: &[u8]) -> Verdict
     ensures { result ≡ first_broken (stage_one file.now) }
 {
     let n = records_of(file);
-    let mut k: usize = 0;
-    while k < n {
+    for k in 0..n {
         judge_end(records::record_view(file, k + 1), (k + 1) as u32)?;
-        k += 1;
     }
     judge_length(file.len(), (n + 1) as u32)
 }
 
 // ---- stage 2
 
-// Nothing counted.
-fn no_counts() -> Counts
-    ensures { result ≡ no_counts }
-{
-    Counts {
-        meshes: 0,
-        layers: 0,
-        nodes: 0,
-        lines: 0,
-        areas: 0,
-        words: 0,
-    }
-}
-
 // The counts with a record more.
+#[tactic(auto, unfolding(crate::specs::States::layer_words))]
 fn counted(c: Counts, d: Due, t: &[u8]) -> Counts
     requires { Countable c }
     ensures { result ≡ counted_for d c t.now }
 {
-    let mut e = c;
     match d {
-        Due::Mesh(_) => {
-            e.meshes = c.meshes + 1;
-            e
-        }
-        Due::Layer(_) => {
-            e.layers = c.layers + 1;
-            e.words = c.words
+        Due::Mesh(_) => Counts {
+            meshes: c.meshes + 1,
+            ..c
+        },
+        Due::Layer(_) => Counts {
+            layers: c.layers + 1,
+            words: c.words
                 + (ROW_LENGTH
-                    + (size_at(t, records::LAYER_LINES) + size_at(t, records::LAYER_AREAS)));
-            e
-        }
-        Due::Node(_, _) => {
-            e.nodes = c.nodes + 1;
-            e
-        }
-        Due::Line(_, _, _) => {
-            e.lines = c.lines + 1;
-            e
-        }
-        Due::Coordinates(_) => e,
-        Due::Area(_, _) => {
-            e.areas = c.areas + 1;
-            e
-        }
-        Due::Loop(_, _, _) => e,
+                    + (size_at(t, records::LAYER_LINES) + size_at(t, records::LAYER_AREAS))),
+            ..c
+        },
+        Due::Node(_, _) => Counts {
+            nodes: c.nodes + 1,
+            ..c
+        },
+        Due::Line(_, _, _) => Counts {
+            lines: c.lines + 1,
+            ..c
+        },
+        Due::Area(_, _) => Counts {
+            areas: c.areas + 1,
+            ..c
+        },
+        Due::Coordinates(_) | Due::Loop(_, _, _) => c,
     }
 }
 
@@ -493,34 +443,24 @@ fn counted_past(c: Counts, s: State, h: usize) -> Counts
     if 0 < s.line.points {
         return c;
     }
-    let mut e = c;
-    e.nodes = c.nodes + h;
-    e
+    Counts {
+        nodes: c.nodes + h,
+        ..c
+    }
 }
 
-// The file ends where a record is due.
-fn cut_off(row: u32) -> Verdict
-    ensures { result ≡ Broken 4 row 1 }
-{
-    Err(Refusal {
-        number: 4,
-        place: row,
-        column: 1,
-    })
-}
-
-// The end of a file where `d` is due.
+// The end of a file where `d` is due: 4 but for a mesh.
+#[tactic(auto, unfolding(crate::specs::Stages::last_checks, verdict::specs::Rules::first_broken, verdict::specs::Rules::block))]
 fn judge_last(d: Due, row: u32) -> Verdict
     ensures { result ≡ first_broken (block 2 row (last_checks d)) }
 {
     match d {
         Due::Mesh(_) => Ok(()),
-        Due::Layer(_) => cut_off(row),
-        Due::Node(_, _) => cut_off(row),
-        Due::Line(_, _, _) => cut_off(row),
-        Due::Coordinates(_) => cut_off(row),
-        Due::Area(_, _) => cut_off(row),
-        Due::Loop(_, _, _) => cut_off(row),
+        _ => Err(Refusal {
+            number: 4,
+            place: row,
+            column: 1,
+        }),
     }
 }
 
@@ -531,15 +471,13 @@ fn fine_ahead(file: &[u8], points: usize, k: usize, n: usize) -> usize
     ensures { result ≡ fine_ahead file.now points k (n - k) }
 {
     let mut left = points;
-    let mut i = k;
-    while (i < n) & (0 < left) {
-        if !quick::fine_coordinates(records::record_view(file, i + 1), left) {
+    for i in k..n {
+        if left == 0 || !quick::fine_coordinates(records::record_view(file, i + 1), left) {
             return i - k;
         }
-        left = less(left, 7);
-        i += 1;
+        left = left.saturating_sub(7);
     }
-    i - k
+    n - k
 }
 
 // Stage 2: every record by what is due, then the end of the file.
@@ -548,8 +486,9 @@ fn stage_two(file: &[u8]) -> Result<Counts, Refusal>
 {
     let n = records_of(file);
     let mut s = at_start();
-    let mut c = no_counts();
+    let mut c = Counts::default();
     let mut k: usize = 0;
+    // a quiet run is one step, so no range counts this
     while k < n {
         let t = records::record_view(file, k + 1);
         let d = due(s);
@@ -610,31 +549,22 @@ fn put_record(table: &mut [u32], d: Due, t: &[u8], row: u32, c: Counts, b: Bases
     ensures { table.new ≡ sets table.old (stored_at d c b) (record_words d t.now row) }
 {
     match d {
-        Due::Mesh(_) => {}
-        Due::Layer(_) => {
-            let nodes = size_at(t, records::LAYER_NODES);
-            let lines = size_at(t, records::LAYER_LINES);
-            let areas = size_at(t, records::LAYER_AREAS);
-            let letters = records::head_letters(t);
-            put_row(
-                table,
-                ROW_LENGTH * c.layers,
-                row,
-                nodes,
-                lines,
-                areas,
-                letters,
-            );
-        }
-        Due::Node(_, _) => {}
+        Due::Layer(_) => put_row(
+            table,
+            ROW_LENGTH * c.layers,
+            row,
+            size_at(t, records::LAYER_NODES),
+            size_at(t, records::LAYER_LINES),
+            size_at(t, records::LAYER_AREAS),
+            records::head_letters(t),
+        ),
         Due::Line(_, _, _) => {
             table[b.lines + c.lines] = row;
         }
-        Due::Coordinates(_) => {}
         Due::Area(_, _) => {
             table[b.areas + c.areas] = row;
         }
-        Due::Loop(_, _, _) => {}
+        _ => {}
     }
 }
 
@@ -651,12 +581,13 @@ fn fill(file: &[u8], total: Counts, table: &mut [u32])
         areas: rows + total.lines,
     };
     let mut s = at_start();
-    let mut c = no_counts();
+    let mut c = Counts::default();
     let mut k: usize = 0;
+    // a quiet run is one step, so no range counts this
     while k < n {
         let t = records::record_view(file, k + 1);
         let d = due(s);
-        put_record(&mut *table, d, t, (k + 1) as u32, c, b);
+        put_record(table, d, t, (k + 1) as u32, c, b);
         c = counted(c, d, t);
         s = next(s, t);
         k += 1;
@@ -689,6 +620,7 @@ pub fn fill_table(file: &[u8], table: &mut [u32]) -> Result<Counts, Refused>
 // ---- the need
 
 // The words that a file needs; 0 for a file refused in stage 1 or 2.
+#[tactic(auto, unfolding(crate::specs::Stages::need_of))]
 pub fn need(file: &[u8]) -> usize
     ensures { result ≡ need_of file.now }
 {

@@ -2,19 +2,21 @@
 use native.Mathlib.Omega.{arith}
 use Rattle.layers.proofs.Walks.{rows_less, behind_same, behind_other}
 use Rattle.layers.proofs.behind.Goals as goal
+use Rattle.layers.proofs.behind.Goals.{then-n-x-via-then-n-x, then-n-x-via-else-n-x+then-n-x-2}
 
-pub returns-then-n-k : goal.returns-then-n-k
-returns-then-n-k c = λ e l. absurd (omega (arith, l))
+pub returns-then-n-x : goal.returns-then-n-x
+returns-then-n-x c =
+    λ e l. elim c.then-n-x.branch [
+      | then-n-x-via-then-n-x w ↦ absurd (omega arith)
+      | then-n-x-via-else-n-x+then-n-x-2 w ↦ absurd (rows_less _ _ _ e w.if-n-x-2.true (omega arith))
+    ]
 
-pub returns-then-n-rows : goal.returns-then-n-rows
-returns-then-n-rows c = λ e l. absurd (rows_less _ _ _ e c.if-n-rows.true (omega (arith, l)))
-
-pub returns-then-rows_of-eq0 : goal.returns-then-rows_of-eq0
-returns-then-rows_of-eq0 c =
+pub returns-then-is_layer : goal.returns-then-is_layer
+returns-then-is_layer c =
     let u = rw c.record_view.ensures at c.next-state.ensures in
-    λ e l. behind_same _ _ _ e u (rw (← c.due.ensures) c.rows_of.ensures) c.if-rows_of-eq0.true
+    λ e l. behind_other _ _ _ e u (rw (← c.due.ensures) c.is_layer.ensures) c.if-is_layer.true c.layer_in.ensures
 
 pub returns : goal.returns
 returns c =
     let u = rw c.record_view.ensures at c.next-state.ensures in
-    λ e l. behind_other _ _ _ e u (rw (← c.due.ensures) c.rows_of.ensures) c.if-rows_of-eq0.false c.layer_in-layer.ensures
+    λ e l. behind_same _ _ _ e u (rw (← c.due.ensures) c.is_layer.ensures) c.if-is_layer.false

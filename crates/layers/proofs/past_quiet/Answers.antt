@@ -1,10 +1,8 @@
--- `layers::past_quiet` meets its contract. Assumes nothing.
-use Rattle.layers.proofs.Walks.{quiet_none, quiet_some}
+-- `layers::past_quiet` meets its contract: those that are left are what the file has behind the walk. Assumes nothing.
+use Rattle.layers.proofs.Walks.{quiet_some}
 use Rattle.layers.proofs.past_quiet.Goals as goal
-
-pub returns-then-n-k : goal.returns-then-n-k
-returns-then-n-k c = quiet_none _ _ _ c.records_of-n.ensures.0 c.if-n-k.true
 
 pub returns : goal.returns
 returns c =
-    quiet_some _ _ _ c.records_of-n.ensures.0 c.lesser.ensures c.pass_quiet-p.ensures
+    let m = rw (c.saturating_sub-left.ensures, c.records_of.ensures.0) at c.min.ensures in
+    quiet_some _ _ _ m c.pass_quiet-p.ensures

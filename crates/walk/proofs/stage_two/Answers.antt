@@ -1,24 +1,26 @@
-use mathlib.Core.Path.{refl, ap, ◌∙◌}
-use Prim.Native.Nat.{◌-◌}
+use mathlib.Core.Path.{◌≡◌, refl, ap, ◌∙◌}
 use native.Mathlib.Nat.{le_refl}
 use native.Mathlib.Omega.{arith}
 use borrow.Author.Rules.{rules}
+use Rattle.std.proofs.lemmas.Result.{err_from_is_err_and}
 use Rattle.verdict.proofs.Parts.{rows_none, rows_pass}
-use Rattle.walk.specs.States.{due_of}
+use Rattle.walk.specs.States.{no_counts, due_of}
 use Rattle.walk.proofs.Walking.{at_none, next_state, counts_none, next_counts, countable}
 use Rattle.walk.proofs.Passing.{past_counts, pass_most, pass_are_quiet, passed_state, passed_counts, found_most, found_fit, fine_rows}
 use Rattle.walk.proofs.Judging.{rule_is, two_stops, two_done, counts_done, walked_broken, walked_kept}
 use Rattle.walk.proofs.stage_two.Goals as goal
 
 pub loop-k-init : goal.loop-k-init
-loop-k-init c = (search rules, c.at_start-s.ensures ∙ at_none _, c.no_counts-c.ensures ∙ counts_none _, rows_none _)
+loop-k-init c =
+    let none : c.default-c.result ≡ no_counts = search rules in (search rules, c.at_start-s.ensures ∙ at_none _, none ∙ counts_none _, rows_none _)
 
-pub returns-in-Broken : goal.returns-in-Broken
-returns-in-Broken c =
-    walked_broken _ c.in-Broken.is
-    (two_stops _ c.records_of-n.ensures.0 _ c.in-Broken.is
-    (rule_is _ _ c.loop-k.invariant.1 c.due-d.ensures c.record_view-t.ensures c.judge_record-v.ensures) c.loop-k.invariant.3 (search rules))
-    c.refused.ensures
+pub returns-in_err-judge_record : goal.returns-in_err-judge_record
+returns-in_err-judge_record c =
+    let p = err_from_is_err_and c.from_residual.result c.from_residual.ensures.1 in
+    rw (p.1, p.2)
+    (walked_broken _
+    (two_stops _ c.records_of-n.ensures.0 _ refl
+    (rule_is _ _ c.loop-k.invariant.1 c.due-d.ensures c.record_view-t.ensures c.in_err-judge_record.ensures) c.loop-k.invariant.3 (search rules)))
 
 pub counted-c-requires : goal.counted-c-requires
 counted-c-requires c = rw c.loop-k.invariant.2 (countable _ _ (search rules))
@@ -59,18 +61,18 @@ loop-k-preserved c =
       g.1 ∙ passed_state _ _ s u _ (le_refl _),
       past_counts _ c.next-s.result _ (λ i. o.left (omega (arith, m))) ∙ passed_counts _ _ s u _ (le_refl _) n,
       fine_rows _ _ s u o m
-          (rows_pass _ _ c.loop-k.invariant.3 (rule_is _ _ c.loop-k.invariant.1 c.due-d.ensures r c.judge_record-v.ensures) c.in_default.is),
+          (rows_pass _ _ c.loop-k.invariant.3 (rule_is _ _ c.loop-k.invariant.1 c.due-d.ensures r c.in_ok-judge_record.ensures) refl),
     )
 
-pub returns-in-Broken-v : goal.returns-in-Broken-v
-returns-in-Broken-v c =
-    walked_broken _ c.in-Broken-v.is
-    (two_done _ c.records_of-n.ensures.0 _ c.loop-k.invariant.1 c.due.ensures c.judge_last-v.ensures c.loop-k.invariant.3 (search rules) (search rules))
-    c.refused-in-Broken-v.ensures
+pub returns-in_err-judge_last : goal.returns-in_err-judge_last
+returns-in_err-judge_last c =
+    let p = err_from_is_err_and c.from_residual-in_err-judge_last.result c.from_residual-in_err-judge_last.ensures.1 in
+    rw (p.1, p.2)
+    (walked_broken _
+    (two_done _ c.records_of-n.ensures.0 _ c.loop-k.invariant.1 c.due.ensures c.in_err-judge_last.ensures c.loop-k.invariant.3 (search rules) (search rules)))
 
 pub returns : goal.returns
 returns c =
-    walked_kept c.in_default-v.is
-    (two_done _ c.records_of-n.ensures.0 _ c.loop-k.invariant.1 c.due.ensures c.judge_last-v.ensures c.loop-k.invariant.3 (search rules) (search rules))
+    walked_kept
+    (two_done _ c.records_of-n.ensures.0 _ c.loop-k.invariant.1 c.due.ensures c.in_ok-judge_last.ensures c.loop-k.invariant.3 (search rules) (search rules))
     (counts_done _ c.records_of-n.ensures.0 _ c.loop-k.invariant.2 (search rules) (search rules))
-    refl
