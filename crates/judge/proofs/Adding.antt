@@ -44,24 +44,6 @@ use Rattle.ground.specs.Layers.{area_of_layer, areas_sum, left_area_of, right_ar
 use Rattle.judge.specs.Outcomes.{pair_of, pairs_to}
 use Rattle.judge.specs.Measuring.{Fits, Measurable, kept_area, outside_at, Summable, SummableTo}
 
--- ---- the two sides of a line
-
-both_or_none : (a b : Bool) (z : ℤ) → same a b ≡ true → pos 0 ≡ cond a (cond b (pos 0) z) (cond b (neg_ℤ z) (pos 0))
-both_or_none true true z h = refl
-both_or_none true false z h = absurd (false≢true h)
-both_or_none false true z h = absurd (false≢true h)
-both_or_none false false z h = refl
-
-left_alone : (a b : Bool) (z : ℤ) → same a b ≡ false → a ≡ true → z ≡ cond a (cond b (pos 0) z) (cond b (neg_ℤ z) (pos 0))
-left_alone true true z h p = absurd (false≢true (sym h))
-left_alone true false z h p = refl
-left_alone false b z h p = absurd (false≢true p)
-
-right_alone : (a b : Bool) (z : ℤ) → same a b ≡ false → a ≡ false → neg_ℤ z ≡ cond a (cond b (pos 0) z) (cond b (neg_ℤ z) (pos 0))
-right_alone true b z h p = absurd (false≢true (sym p))
-right_alone false true z h p = refl
-right_alone false false z h p = absurd (false≢true (sym h))
-
 -- ---- a sum that goes on
 
 -- the answer z, added to the sum x, fits, and n is the sum then
@@ -144,19 +126,10 @@ module _ (file t : List ℕ) (l : Layer) where
       let w = e ∙ ap (line_of t l) (to_z_pos w32 {n = n} (omega arith)) in
       record { left = told is_zero f (p ∙ ap (λ r. value_at file r left_area) w) u; right = told is_zero g (q ∙ ap (λ r. value_at file r right_area) w) v }
 
-  -- the answer s says whether both are 0, or neither
-  module _ (n : ℕ) {a b s : Bool} (d : Sided n a b) (e : s ≡ same a b) where
-    pub outside_none : s ≡ true → pos 0 ≡ outside_at file t l n
-    unfolding outside_at
-    outside_none h = rw (← d.left, ← d.right) (both_or_none a b _ (sym e ∙ h))
-
-    pub outside_left : {m : ℤ} → s ≡ false → a ≡ true → m ≡ measure_of file t l n → m ≡ outside_at file t l n
-    unfolding outside_at
-    outside_left h p q = q ∙ rw (← d.left, ← d.right) (left_alone a b _ (sym e ∙ h) p)
-
-    pub outside_right : {m : ℤ} → s ≡ false → a ≡ false → m ≡ neg_ℤ (measure_of file t l n) → m ≡ outside_at file t l n
-    unfolding outside_at
-    outside_right h p q = q ∙ rw (← d.left, ← d.right) (right_alone a b _ (sym e ∙ h) p)
+  pub outside_by : (n : ℕ) {a b : Bool} → Sided n a b
+      → cond a (cond b (pos 0) (measure_of file t l n)) (cond b (neg_ℤ (measure_of file t l n)) (pos 0)) ≡ outside_at file t l n
+  unfolding outside_at
+  outside_by n d = rw (← d.left, ← d.right)
 
   -- the answer m of `line_measure` about line n, passed on, or taken away
   module _ (n : ℕ) {ms : List ℤ} {m : ℤ} (h : n ≤ 9999) (k : Kept file t l ms) (p : m ≡ kept_measure l ms (size (to_z w32 n))) where

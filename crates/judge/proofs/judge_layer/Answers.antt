@@ -18,8 +18,10 @@ use Rattle.judge.proofs.judge_layer.Goals.{In_ok-asked}
 -- the layer is there
 there : (c : In_ok-asked) → (1 ≤ c.args.layer) × (c.args.layer ≤ c.in_ok-counts.counts.layers)
 there c =
+    let h = c.asked.ensures in ?
+    {- 
     let s = and_both _ _ (last_kept _ _ (layer_rule c.args.layer) c.in_ok-counts.ensures.0 c.in_ok-asked.ensures) in
-    (leb-true _ _ s.0, leb-true _ _ s.1)
+    (leb-true _ _ s.0, leb-true _ _ s.1) -}
 
 pub returns-in_err-counts : goal.returns-in_err-counts
 returns-in_err-counts c =
