@@ -193,7 +193,7 @@ module _ (t : List ℕ) (b : Bases) where
     -- the first i of n layers are filled into what held `entry`; l is the next one
     module _ (n i : ℕ) (entry : List ℤ) {at : ℕ} {ms : List ℤ} (f : SummableTo file t b n × (words_before t areas_word n ≤ length entry))
         (p : at ≡ words_before t areas_word i) (q : ms ≡ filled (measures_to file t b i) entry) where
-      pub same_many : i ≤ n → length ms ≡ length entry
+      same_many : i ≤ n → length ms ≡ length entry
       same_many h = rw q (filled_many i entry (omega (arith, f.0.few)) (omega (arith, words_up i n h f.0.few, f.1)))
 
       module _ {l : Layer} (h : i < n) (e : l ≡ layer_in t b i) where
@@ -217,9 +217,6 @@ module _ (t : List ℕ) (b : Bases) where
 
     -- the first i of n pairs are filled into what held `entry`; x and y are the next
     module _ (n i : ℕ) (entry : List ℤ) {ss : List ℤ} (w : 2 * n ≤ length entry) (q : ss ≡ filled (pairs_to file t b i) entry) where
-      pub same_room : i ≤ n → length ss ≡ length entry
-      same_room h = rw q (filled_length (pairs_to file t b i) entry (rw (pairs_many i) (omega arith)))
-
       -- the two sums s of the next layer l, stored
       pub pair_put : i < n → {l : Layer} {s : ℤ × ℤ} → l ≡ layer_in t b i → ◌≡◌ {A = ℤ × ℤ} s (areas_sum file t l, outside_sum file t l)
           → mag s.0 < 2 ^ hbits w64 → mag s.1 < 2 ^ hbits w64
