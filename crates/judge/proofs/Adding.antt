@@ -1,6 +1,6 @@
 -- Measures added up one by one, and stored one behind the other. What the machine adds is the sum, since each of the partial sums fits.
 -- Assumes nothing.
-use mathlib.Core.Bool.{Bool, true, false, cond, false≢true}
+use mathlib.Core.Bool.{Bool, cond}
 use mathlib.Core.List.{List}
 use mathlib.Core.Logic.{⊎_elim}
 use mathlib.Core.Path.{◌≡◌, refl, sym, ◌∙◌, ap, ap₂}
@@ -17,7 +17,7 @@ use mir.Facts.{to_z-of_z, to_z_pos}
 use mir.Syntax.{w32, w64}
 use mir.Val.{SFits, to_z, of_z, hbits}
 use Rattle.records.specs.Columns.{left_area, right_area, value_at}
-use Rattle.permitted.specs.Permitted.{size, same, is_zero}
+use Rattle.permitted.specs.Permitted.{size, is_zero}
 use Rattle.walk.specs.Row.{areas_word}
 use Rattle.walk.specs.Table.{filled}
 use Rattle.walk.proofs.Stores.{more_filled, filled_length}

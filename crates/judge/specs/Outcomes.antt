@@ -10,7 +10,7 @@
 --   sums_of file room i    the answer of the layer sums; table_after_sums: the table behind it
 --   outcome_of_all, table_after_all, sums_after  of all sums: the answer, the table, and the sums that held ss
 use Rattle.std.specs.Prelude.{cond, List, [], ◌∷◌, ◌++◌, ℕ, zero, suc, ◌-◌, eqb, leb, ℤ, pos, length, Result, Ok, Err}
-use Rattle.verdict.specs.Rules.{Verdict, Fine, Broken, Check, block, told_of, first_broken}
+use Rattle.verdict.specs.Rules.{Verdict, Fine, Check, block, told_of, first_broken}
 use Rattle.walk.specs.declared.Counts.{Counts}
 use Rattle.walk.specs.declared.Refused.{Refused}
 use Rattle.walk.specs.States.{no_counts, counts_at}
