@@ -1,6 +1,6 @@
 -- Measures added up one by one, and stored one behind the other. What the machine adds is the sum, since each of the partial sums fits.
 -- Assumes nothing.
-use mathlib.Core.Bool.{Bool, true, false, cond, false≢true}
+use mathlib.Core.Bool.{Bool, cond}
 use mathlib.Core.List.{List}
 use mathlib.Core.Logic.{⊎_elim}
 use mathlib.Core.Path.{◌≡◌, refl, sym, ◌∙◌, ap, ap₂}
@@ -17,7 +17,7 @@ use mir.Facts.{to_z-of_z, to_z_pos}
 use mir.Syntax.{w32, w64}
 use mir.Val.{SFits, to_z, of_z, hbits}
 use Rattle.records.specs.Columns.{left_area, right_area, value_at}
-use Rattle.permitted.specs.Permitted.{size, same, is_zero}
+use Rattle.permitted.specs.Permitted.{size, is_zero}
 use Rattle.walk.specs.Row.{areas_word}
 use Rattle.walk.specs.Table.{filled}
 use Rattle.walk.proofs.Stores.{more_filled, filled_length}
@@ -43,24 +43,6 @@ use Rattle.entries.proofs.Summing.{turned_fits, turned_back}
 use Rattle.ground.specs.Layers.{area_of_layer, areas_sum, left_area_of, right_area_of, outside_sum, measures_to}
 use Rattle.judge.specs.Outcomes.{pair_of, pairs_to}
 use Rattle.judge.specs.Measuring.{Fits, Measurable, kept_area, outside_at, Summable, SummableTo}
-
--- ---- the two sides of a line
-
-both_or_none : (a b : Bool) (z : ℤ) → same a b ≡ true → pos 0 ≡ cond a (cond b (pos 0) z) (cond b (neg_ℤ z) (pos 0))
-both_or_none true true z h = refl
-both_or_none true false z h = absurd (false≢true h)
-both_or_none false true z h = absurd (false≢true h)
-both_or_none false false z h = refl
-
-left_alone : (a b : Bool) (z : ℤ) → same a b ≡ false → a ≡ true → z ≡ cond a (cond b (pos 0) z) (cond b (neg_ℤ z) (pos 0))
-left_alone true true z h p = absurd (false≢true (sym h))
-left_alone true false z h p = refl
-left_alone false b z h p = absurd (false≢true p)
-
-right_alone : (a b : Bool) (z : ℤ) → same a b ≡ false → a ≡ false → neg_ℤ z ≡ cond a (cond b (pos 0) z) (cond b (neg_ℤ z) (pos 0))
-right_alone true b z h p = absurd (false≢true (sym p))
-right_alone false true z h p = refl
-right_alone false false z h p = absurd (false≢true (sym h))
 
 -- ---- a sum that goes on
 
@@ -144,19 +126,10 @@ module _ (file t : List ℕ) (l : Layer) where
       let w = e ∙ ap (line_of t l) (to_z_pos w32 {n = n} (omega arith)) in
       record { left = told is_zero f (p ∙ ap (λ r. value_at file r left_area) w) u; right = told is_zero g (q ∙ ap (λ r. value_at file r right_area) w) v }
 
-  -- the answer s says whether both are 0, or neither
-  module _ (n : ℕ) {a b s : Bool} (d : Sided n a b) (e : s ≡ same a b) where
-    pub outside_none : s ≡ true → pos 0 ≡ outside_at file t l n
-    unfolding outside_at
-    outside_none h = rw (← d.left, ← d.right) (both_or_none a b _ (sym e ∙ h))
-
-    pub outside_left : {m : ℤ} → s ≡ false → a ≡ true → m ≡ measure_of file t l n → m ≡ outside_at file t l n
-    unfolding outside_at
-    outside_left h p q = q ∙ rw (← d.left, ← d.right) (left_alone a b _ (sym e ∙ h) p)
-
-    pub outside_right : {m : ℤ} → s ≡ false → a ≡ false → m ≡ neg_ℤ (measure_of file t l n) → m ≡ outside_at file t l n
-    unfolding outside_at
-    outside_right h p q = q ∙ rw (← d.left, ← d.right) (right_alone a b _ (sym e ∙ h) p)
+  pub outside_by : (n : ℕ) {a b : Bool} → Sided n a b
+      → cond a (cond b (pos 0) (measure_of file t l n)) (cond b (neg_ℤ (measure_of file t l n)) (pos 0)) ≡ outside_at file t l n
+  unfolding outside_at
+  outside_by n d = rw (← d.left, ← d.right)
 
   -- the answer m of `line_measure` about line n, passed on, or taken away
   module _ (n : ℕ) {ms : List ℤ} {m : ℤ} (h : n ≤ 9999) (k : Kept file t l ms) (p : m ≡ kept_measure l ms (size (to_z w32 n))) where
@@ -220,7 +193,7 @@ module _ (t : List ℕ) (b : Bases) where
     -- the first i of n layers are filled into what held `entry`; l is the next one
     module _ (n i : ℕ) (entry : List ℤ) {at : ℕ} {ms : List ℤ} (f : SummableTo file t b n × (words_before t areas_word n ≤ length entry))
         (p : at ≡ words_before t areas_word i) (q : ms ≡ filled (measures_to file t b i) entry) where
-      pub same_many : i ≤ n → length ms ≡ length entry
+      same_many : i ≤ n → length ms ≡ length entry
       same_many h = rw q (filled_many i entry (omega (arith, f.0.few)) (omega (arith, words_up i n h f.0.few, f.1)))
 
       module _ {l : Layer} (h : i < n) (e : l ≡ layer_in t b i) where
@@ -244,9 +217,6 @@ module _ (t : List ℕ) (b : Bases) where
 
     -- the first i of n pairs are filled into what held `entry`; x and y are the next
     module _ (n i : ℕ) (entry : List ℤ) {ss : List ℤ} (w : 2 * n ≤ length entry) (q : ss ≡ filled (pairs_to file t b i) entry) where
-      pub same_room : i ≤ n → length ss ≡ length entry
-      same_room h = rw q (filled_length (pairs_to file t b i) entry (rw (pairs_many i) (omega arith)))
-
       -- the two sums s of the next layer l, stored
       pub pair_put : i < n → {l : Layer} {s : ℤ × ℤ} → l ≡ layer_in t b i → ◌≡◌ {A = ℤ × ℤ} s (areas_sum file t l, outside_sum file t l)
           → mag s.0 < 2 ^ hbits w64 → mag s.1 < 2 ^ hbits w64

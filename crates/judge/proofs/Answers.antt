@@ -10,7 +10,7 @@ use lib.Dec.{lit<}
 use lib.IntN.{ℤ}
 use lib.ListN.{length}
 use Rattle.std.specs.Prelude.{Err}
-use Rattle.verdict.specs.Rules.{Verdict, Fine, Broken, Rule, Check, told_of}
+use Rattle.verdict.specs.Rules.{Verdict, Fine, Rule, Check, told_of}
 use Rattle.verdict.specs.Order.{In, Answer, Sorted}
 use Rattle.verdict.proofs.Orders.{answers, only, block_sorted, block_in, UpTo, Of, turn_sorted, turn_up}
 use Rattle.verdict.proofs.Numbers.{unlike, between_unlike, given_unlike, Numbered, block_numbered, append_numbered, not_told}

@@ -16,7 +16,7 @@ use Rattle.walk.specs.declared.Counts.{Counts}
 use Rattle.walk.specs.declared.Refused.{Refused}
 use Rattle.walk.specs.Row.{areas_word}
 use Rattle.walk.specs.States.{Countable, counts_at}
-use Rattle.walk.specs.Stages.{records_of, stage_one, stage_two, room_rule, walked_of, verdict_in, counts_in, need_of, early}
+use Rattle.walk.specs.Stages.{records_of, stage_one, stage_two, room_rule, walked_of, verdict_in, need_of, early}
 use Rattle.walk.specs.Table.{table_of, filled, tabled_by}
 use Rattle.walk.proofs.Walking.{countable}
 use Rattle.walk.proofs.Judging.{records_small, walked_verdict, walked_fine, ended}
@@ -47,9 +47,6 @@ module _ (file : List ℕ) (room : ℕ) (q : first_broken (rules_of file room) �
   unfolding rules_of early
   walked_kept = walked_verdict file ∙ (both_fine (stage_one file ++ stage_two file) (room_rule file room) (both_fine (early file room) (late file) q).0).0
 
-  stages_kept : (first_broken (stage_two file) ≡ Fine) × (counts_in (walked_of file) ≡ counts_at file (records_of file))
-  stages_kept = ((walked_fine file walked_kept).1, (walked_fine file walked_kept).2)
-
   late_kept : first_broken (late file) ≡ Fine
   unfolding rules_of
   late_kept = (both_fine (early file room) (late file) q).1
@@ -60,7 +57,7 @@ module _ (file : List ℕ) (room : ℕ) (q : first_broken (rules_of file room) �
       let four = (both_fine (stage_three file) _ late_kept).1 in
       let five = (both_fine (stage_four file (table_of file) (bases_in file)) _ four).1 in
       let six = both_fine (stage_five file (table_of file) (bases_in file)) _ five in
-      record { two = stages_kept.0; four = (both_fine (stage_four file (table_of file) (bases_in file)) _ four).0; five = six.0; six = six.1 }
+      record { two = (walked_fine file walked_kept).1; four = (both_fine (stage_four file (table_of file) (bases_in file)) _ four).0; five = six.0; six = six.1 }
 
 -- a file that a call accepts keeps them, and what the call asks behind them
 module _ (file : List ℕ) (room : ℕ) (last : Counts → Check) (h : call_verdict file room last ≡ Fine) where

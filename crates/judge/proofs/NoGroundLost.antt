@@ -9,7 +9,7 @@ use native.Mathlib.Omega.{arith}
 use lib.IntN.{pos}
 use borrow.Author.Tests.{leb-true, le-leb}
 use Rattle.std.specs.Prelude.{Err}
-use Rattle.verdict.specs.Rules.{Verdict, Fine, Broken, Check, first_broken}
+use Rattle.verdict.specs.Rules.{Verdict, Fine, Check, first_broken}
 use Rattle.verdict.proofs.Orders.{and_both}
 use Rattle.verdict.proofs.Parts.{goes_on, check_none, check_kept}
 use Rattle.walk.specs.declared.Counts.{Counts}

@@ -9,7 +9,7 @@ use native.Mathlib.Omega.{arith}
 use lib.Dec.{lit<}
 use borrow.Author.Tests.{le-leb}
 use Rattle.std.specs.Prelude.{Err}
-use Rattle.verdict.specs.Rules.{Verdict, Fine, Broken, Rule, Check, block, first_broken, told_of}
+use Rattle.verdict.specs.Rules.{Verdict, Fine, Rule, Check, block, first_broken, told_of}
 use Rattle.verdict.proofs.Numbers.{unlike, between_unlike, given_unlike, numbered, Numbered, block_numbered, append_numbered, not_told}
 use Rattle.verdict.proofs.Parts.{◌or_else◌, in_turn, both_fine, check_none, check_kept}
 use Rattle.walk.specs.declared.Counts.{Counts}

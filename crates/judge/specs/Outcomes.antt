@@ -1,6 +1,8 @@
 -- What a call of the judge answers, and what each lent buffer holds afterwards (RULES 8.3 to 8.5, 9.1, 9.2, 9.11). Assumes nothing.
 --   judged_of, table_judged what all stages say of a file, and what the table holds behind them; asked_by: what a call then asks
 --   outcome_by v c n r    the verdict v by refusal numbers, with the need n where it is told, and the counts c and r records of acceptance
+--   told_behind file room last  what a call that asks `last` behind all stages finds: the counts, or the refusal; layer_told: with a layer's sums
+--   outcome_told, sums_told  such a finding by refusal numbers
 --   outcome_behind, table_behind  what is told by a call that asks `last` behind all stages, and the table that held the words ws behind it
 --   lent_by v zs ds        the buffer that held ds, where figures zs go to it on acceptance
 --   outcome_of file room p the judge's answer to a file, a table of `room` words and p places for measures
@@ -8,7 +10,7 @@
 --   sums_of file room i    the answer of the layer sums; table_after_sums: the table behind it
 --   outcome_of_all, table_after_all, sums_after  of all sums: the answer, the table, and the sums that held ss
 use Rattle.std.specs.Prelude.{cond, List, [], ◌∷◌, ◌++◌, ℕ, zero, suc, ◌-◌, eqb, leb, ℤ, pos, length, Result, Ok, Err}
-use Rattle.verdict.specs.Rules.{Verdict, Fine, Broken, Check, block, told_of, first_broken}
+use Rattle.verdict.specs.Rules.{Verdict, Fine, Check, block, told_of, first_broken}
 use Rattle.walk.specs.declared.Counts.{Counts}
 use Rattle.walk.specs.declared.Refused.{Refused}
 use Rattle.walk.specs.States.{no_counts, counts_at}
@@ -68,11 +70,11 @@ abbrev pub outcome_by : Verdict → Counts → ℕ → ℕ → Outcome
 outcome_by Fine c records n = outcome_with Fine c records n
 outcome_by (Err r) c records n = outcome_with (Err r) no_counts 0 n
 
--- RULES 6.1, 9.1: behind all stages and what a call asks, the counts, or the refusal, with the need where it is 9
+-- RULES 6.1, 9.1: behind all stages and what a call asks, the counts of acceptance, or the refusal, with the need where it is 9
 unfoldable pub told_behind : List ℕ → ℕ → (Counts → Check) → Result Counts Refused
 told_behind file room last = tabled_by (call_verdict file room last) (counts_at file (records_of file)) (need_of file)
 
--- RULES 9.1: such an answer of a call by refusal numbers, with r records if it accepts
+-- RULES 9.1: this by refusal numbers, with r records of acceptance; the counts are 0 if refused
 abbrev pub outcome_told : Result Counts Refused → ℕ → Outcome
 outcome_told (Ok c) r = outcome_by Fine c r 0
 outcome_told (Err x) r = record {
@@ -129,12 +131,12 @@ sums_by Fine file i =
     sums_with Fine (areas_sum file (table_of file) (layer_of file (i - 1))) (outside_sum file (table_of file) (layer_of file (i - 1)))
 sums_by (Err r) file i = sums_with (Err r) (pos 0) (pos 0)
 
--- RULES 9.2: where the call accepts, the two sums of layer number i
+-- RULES 9.2: the two sums of layer number i in place of the counts of acceptance
 abbrev pub layer_told : Result Counts Refused → List ℕ → ℕ → Result (ℤ × ℤ) Refused
 layer_told (Ok c) file i = Ok (areas_sum file (table_of file) (layer_of file (i - 1)), outside_sum file (table_of file) (layer_of file (i - 1)))
 layer_told (Err x) file i = Err x
 
--- RULES 9.2: such an answer by refusal numbers
+-- RULES 9.2: this by refusal numbers; both are 0 if refused
 abbrev pub sums_told : Result (ℤ × ℤ) Refused → Sums
 sums_told (Ok s) = sums_with Fine s.0 s.1
 sums_told (Err x) = sums_with (Err x.refusal) (pos 0) (pos 0)

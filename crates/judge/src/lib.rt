@@ -171,14 +171,11 @@ fn outside_at(file: &[u8], table: &[u32], l: Layer, kept: &[i64], n: usize) -> i
     let r = layers::line_of(table, l, v);
     let left = permitted::is_zero(records::value_at(file, r, records::LEFT_AREA));
     let right = permitted::is_zero(records::value_at(file, r, records::RIGHT_AREA));
-    if permitted::same(left, right) {
-        return 0;
+    match (left, right) {
+        (true, false) => entries::line_measure(l, kept, v),
+        (false, true) => -entries::line_measure(l, kept, v),
+        _ => 0,
     }
-    let m = entries::line_measure(l, kept, v);
-    if left {
-        return m;
-    }
-    -m
 }
 
 // A layer's outside sum.
@@ -311,7 +308,7 @@ fn judge_layer(file: &[u8], table: &mut [u32], layer: u32) -> Result<(i64, i64),
 {
     let counts = judge_file(file, table)?;
     let i = layer as usize;
-    asked(22, (1 <= i) & (i <= counts.layers))?;
+    asked(22, 1 <= i && i <= counts.layers)?;
     let mut measures = [0i64; 9999];
     let words = &table[..counts.words];
     let l = layers::layer_in(words, bases_of(counts), i - 1);
