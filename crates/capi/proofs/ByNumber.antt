@@ -3,7 +3,7 @@
 -- of a layout stand in the columns 1 to 72. Assumes nothing.
 use mathlib.Core.Bool.{Bool, true, false, cond}
 use mathlib.Core.List.{List, [], ◌∷◌}
-use mathlib.Core.Path.{◌≡◌, refl, sym}
+use mathlib.Core.Path.{◌≡◌, refl, sym, ◌∙◌}
 use Prim.Native.Nat.{ℕ, zero, suc, ◌+◌, ◌≤◌, ◌<◌}
 use native.Mathlib.Omega.{arith}
 use lib.Dec.{eqb}
@@ -12,15 +12,19 @@ use borrow.Author.Tests.{le-leb, lt-leb}
 use types.Run.{OneOf}
 use Rattle.records.specs.declared.Field.{Field}
 use Rattle.records.specs.declared.Kind.{Kind}
-use Rattle.records.specs.declared.Reading.{Reading}
+use Rattle.records.specs.declared.Misread.{Misread}
+use Rattle.records.specs.declared.Record.{Record}
+use Rattle.std.specs.Prelude.{Result, Ok, Err}
 use Rattle.records.specs.Layout.{layout_of, start_of, width_of}
 use Rattle.records.specs.Reading.{Fault, fault_of, fault_at, first_fault, fields_by, fields_of, reading_of}
 use Rattle.records.specs.Writing.{Written}
 use Rattle.records.proofs.Layouts.{beyond, tiles, tiled, tile, tiles_end}
+use Rattle.records.proofs.RecordLaws.{read_then_written}
+use Rattle.capi.proofs.ValueLaws.{meant_number}
 use Rattle.capi.specs.declared.Meant.{Meant}
 use Rattle.capi.specs.declared.Meant.TheVariants.{A, Nothing}
 use Rattle.capi.specs.declared.Value.{Value}
-use Rattle.capi.specs.Values.{kinds, meant_by, kind_number, meant_record, no_kind, found_of, WrittenValue}
+use Rattle.capi.specs.Values.{kinds, meant_by, meant_record, refused_found, no_kind, found_of, WrittenValue}
 
 -- ---- the kinds by number
 
@@ -54,20 +58,24 @@ fault_small (f ∷ L) c s h =
     (omega (arith, t.start, tiles_end (f ∷ L) c h))
     (fault_small L (c + width_of f) s t.rest)
 
-by_small : (k : Kind) (s : List ℕ) (n c : ℕ) → c ≤ 74 → (fields_by k s n c).column ≤ 74
-by_small k s zero c h = omega arith
+abbrev Small : Result Record Misread → Type 0
+Small (Ok r) = Unit {0}
+Small (Err m) = m.column ≤ 74
+
+by_small : (k : Kind) (s : List ℕ) (n c : ℕ) → c ≤ 74 → Small (fields_by k s n c)
+by_small k s zero c h = tt
 by_small k s (suc n) c h = h
 
-fields_small : (k : Kind) (s : List ℕ) → (fields_of k s).column ≤ 74
+fields_small : (k : Kind) (s : List ℕ) → Small (fields_of k s)
 unfolding fields_of
 fields_small k s =
     by_small k s (first_fault (layout_of k) s).number (first_fault (layout_of k) s).column (fault_small (layout_of k) 1 s (tiled k))
 
-either_small : (b : Bool) (x y : Reading) → x.column ≤ 74 → y.column ≤ 74 → (cond b x y).column ≤ 74
+either_small : (b : Bool) (x y : Result Record Misread) → Small x → Small y → Small (cond b x y)
 either_small true x y h l = h
 either_small false x y h l = l
 
-reading_small : (k : Kind) (s : List ℕ) → (reading_of k s).column ≤ 74
+reading_small : (k : Kind) (s : List ℕ) → Small (reading_of k s)
 unfolding reading_of
 reading_small k s =
     either_small (eqb (length s) 74) _ _
@@ -76,8 +84,8 @@ reading_small k s =
     (omega arith))
     (omega arith)
 
-pub column_small : (k : Kind) (s : List ℕ) {r : Reading} → r ≡ reading_of k s → r.column ≤ 74
-column_small k s e = rw e (reading_small k s)
+pub column_small : (k : Kind) (s : List ℕ) {x : Misread} → Err x ≡ reading_of k s → x.column ≤ 74
+column_small k s e = rw (← e) at (reading_small k s)
 
 -- ---- reading
 
@@ -86,16 +94,20 @@ module _ (n : ℕ) (s : List ℕ) {m : Meant} (e : m ≡ meant_by n) where
   unfolding found_of
   found_none z = rw (← e, z)
 
-  pub found_a : (k : Kind) {r : Reading} {j : ℕ} → m ≡ A k → r ≡ reading_of k s → j ≡ kind_number r.value.kind
+  pub found_a : (k : Kind) {r : Record} → m ≡ A k → Ok r ≡ reading_of k s
       → record {
-        number = r.number;
-        place = r.place;
-        column = r.column;
-        value = record { kind = j; numbers = r.value.numbers; name = r.value.name; marks = r.value.marks; letters = r.value.letters };
+        number = 0;
+        place = 0;
+        column = 0;
+        value = record { kind = n; numbers = r.numbers; name = r.name; marks = r.marks; letters = r.letters };
       }
       ≡ found_of n s
   unfolding found_of
-  found_a k z q p = rw (← e, z, p, q)
+  found_a k {r} z q = rw (← e, z, ← q, (read_then_written k s r (sym q)).2, meant_number n k (sym e ∙ z))
+
+  pub found_refused : (k : Kind) {x : Misread} → m ≡ A k → Err x ≡ reading_of k s → refused_found n x.number x.column ≡ found_of n s
+  unfolding found_of
+  found_refused k z q = rw (← e, z, ← q, meant_number n k (sym e ∙ z))
 
 -- ---- writing
 

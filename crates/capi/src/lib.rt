@@ -11,7 +11,7 @@ ghost use Rattle.dues.specs.Dues.{due_at};
 ghost use Rattle.judge.specs.Outcomes.{outcome_of, table_after, measures_after, sums_of, table_after_sums};
 ghost use Rattle.judge.specs.Outcomes.{outcome_of_all, table_after_all, sums_after};
 ghost use Rattle.positions.specs.Degrees.{position_of};
-ghost use Rattle.capi.specs.Values.{meant_by, kind_number, owed_number, no_kind, found_of, WrittenValue};
+ghost use Rattle.capi.specs.Values.{meant_by, kind_number, owed_number, refused_found, no_kind, found_of, WrittenValue};
 
 use dues::Owed;
 use judge::{Outcome, Sums};
@@ -137,25 +137,29 @@ fn number_of(k: Kind) -> u32
     }
 }
 
+// A refused reading: record 1, and the kind's number with all else 0.
+fn refused(kind: u32, number: u32, column: u32) -> Found
+    ensures { result ≡ refused_found kind number column }
+{
+    Found {
+        number,
+        place: 1,
+        column,
+        value: Value {
+            kind,
+            numbers: [0; 16],
+            name: [0; 40],
+            marks: [0; 2],
+            letters: 0,
+        },
+    }
+}
+
 // The answer where the number stands for no kind.
 fn no_kind() -> Found
     ensures { result ≡ no_kind }
 {
-    let numbers = [0i32; 16];
-    let name = [0u8; 40];
-    let marks = [0u32; 2];
-    Found {
-        number: 3,
-        place: 1,
-        column: 1,
-        value: Value {
-            kind: 0,
-            numbers,
-            name,
-            marks,
-            letters: 0,
-        },
-    }
+    refused(0, 3, 1)
 }
 
 // Reads one record of the kind that the number `kind` stands for.
@@ -167,23 +171,25 @@ pub extern "C" fn stragumella_read_record(kind: u32, bytes: &[u8]) -> Found
     let Meant::A(k) = meant else {
         return no_kind();
     };
-    let reading = record_reader::read_record(k, bytes);
-    let value = reading.value;
-    let same = value.kind;
-    let numbers = value.numbers;
-    let name = value.name;
-    let marks = value.marks;
-    Found {
-        number: reading.number,
-        place: reading.place,
-        column: reading.column as u32,
-        value: Value {
-            kind: number_of(same),
-            numbers,
-            name,
-            marks,
-            letters: value.letters,
-        },
+    match record_reader::read_record(k, bytes) {
+        Ok(r) => {
+            let numbers = r.numbers;
+            let name = r.name;
+            let marks = r.marks;
+            Found {
+                number: 0,
+                place: 0,
+                column: 0,
+                value: Value {
+                    kind,
+                    numbers,
+                    name,
+                    marks,
+                    letters: r.letters,
+                },
+            }
+        }
+        Err(e) => refused(kind, e.number, e.column as u32),
     }
 }
 
@@ -202,14 +208,15 @@ pub extern "C" fn stragumella_write_record(value: Value, buffer: &mut [u8]) -> u
     let numbers = value.numbers;
     let name = value.name;
     let marks = value.marks;
-    record_writer::write_record(
-        buffer,
-        Record {
-            kind,
-            numbers,
-            name,
-            marks,
-            letters: value.letters,
-        },
-    )
+    let record = Record {
+        kind,
+        numbers,
+        name,
+        marks,
+        letters: value.letters,
+    };
+    match record_writer::write_record(buffer, record) {
+        Ok(()) => 0,
+        Err(e) => e.number(),
+    }
 }
