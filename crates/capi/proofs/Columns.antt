@@ -9,7 +9,9 @@ use lib.Dec.{eqb}
 use lib.ListN.{length, get_or}
 use Rattle.records.specs.declared.Field.{Field}
 use Rattle.records.specs.declared.Kind.{Kind}
-use Rattle.records.specs.declared.Reading.{Reading}
+use Rattle.records.specs.declared.Misread.{Misread}
+use Rattle.records.specs.declared.Record.{Record}
+use Rattle.std.specs.Prelude.{Result, Ok, Err}
 use Rattle.records.specs.Layout.{layout_of, start_of, width_of}
 use Rattle.records.specs.Reading.{Fault, fault_of, fault_at, first_fault, fields_by, fields_of, reading_of}
 use Rattle.records.proofs.Layouts.{tiles, tiled, tile, tiles_end}
@@ -27,20 +29,24 @@ fault_small (f ∷ L) c s h =
     (omega (arith, t.start, tiles_end (f ∷ L) c h))
     (fault_small L (c + width_of f) s t.rest)
 
-by_small : (k : Kind) (s : List ℕ) (n c : ℕ) → c ≤ 74 → (fields_by k s n c).column ≤ 74
-by_small k s zero c h = omega arith
+abbrev Small : Result Record Misread → Type 0
+Small (Ok r) = Unit {0}
+Small (Err m) = m.column ≤ 74
+
+by_small : (k : Kind) (s : List ℕ) (n c : ℕ) → c ≤ 74 → Small (fields_by k s n c)
+by_small k s zero c h = tt
 by_small k s (suc n) c h = h
 
-fields_small : (k : Kind) (s : List ℕ) → (fields_of k s).column ≤ 74
+fields_small : (k : Kind) (s : List ℕ) → Small (fields_of k s)
 unfolding fields_of
 fields_small k s =
     by_small k s (first_fault (layout_of k) s).number (first_fault (layout_of k) s).column (fault_small (layout_of k) 1 s (tiled k))
 
-either_small : (b : Bool) (x y : Reading) → x.column ≤ 74 → y.column ≤ 74 → (cond b x y).column ≤ 74
+either_small : (b : Bool) (x y : Result Record Misread) → Small x → Small y → Small (cond b x y)
 either_small true x y h l = h
 either_small false x y h l = l
 
-reading_small : (k : Kind) (s : List ℕ) → (reading_of k s).column ≤ 74
+reading_small : (k : Kind) (s : List ℕ) → Small (reading_of k s)
 unfolding reading_of
 reading_small k s =
     either_small (eqb (length s) 74) _ _
@@ -50,5 +56,5 @@ reading_small k s =
     (omega arith)
 
 -- so it fits C's 32 bits
-pub column_small : (k : Kind) (s : List ℕ) {r : Reading} → r ≡ reading_of k s → r.column ≤ 74
-column_small k s e = rw e (reading_small k s)
+pub column_small : (k : Kind) (s : List ℕ) {x : Misread} → Err x ≡ reading_of k s → x.column ≤ 74
+column_small k s e = rw (← e) at (reading_small k s)

@@ -14,7 +14,8 @@ use Rattle.records.specs.declared.Field.TheVariants as field
 use Rattle.records.specs.declared.Kind.{Kind}
 use Rattle.records.specs.declared.Kind.TheVariants as kind
 use Rattle.records.specs.Layout.{layout_of}
-use Rattle.records.specs.Reading.{fault_of, first_fault, no_fault, zeros, fields_of, reading_of}
+use Rattle.records.specs.Reading.{fault_of, first_fault, no_fault, zeros, value_in, fields_of, reading_of}
+use Rattle.std.specs.Prelude.{Ok}
 use Rattle.records.specs.View.{record_of}
 use Rattle.records.proofs.Numbers.{record_length}
 use Rattle.records.proofs.RecordLaws.{fault_free}
@@ -81,7 +82,7 @@ module _ (t : List ℕ) where
 
 -- READ AS TOLD: in a file that keeps stages 1 and 2 each record is read by the kind that is told of it, without a refusal
 pub read_as_told : (file : List ℕ) → first_broken (stage_one file) ≡ Fine → first_broken (stage_two file) ≡ Fine
-    → (k : ℕ) → k < records_of file → {j : Kind} → due_at file (k + 1) ≡ Some j → (reading_of j (record_of file (k + 1))).number ≡ 0
+    → (k : ℕ) → k < records_of file → {j : Kind} → due_at file (k + 1) ≡ Some j → reading_of j (record_of file (k + 1)) ≡ Ok (value_in j (record_of file (k + 1)))
 unfolding stage_one end_checks checks_of fields_of reading_of
 read_as_told file one two k l {j} e =
     let t = record_of file (k + 1) in

@@ -1,4 +1,4 @@
--- A record's codes: what the steps of the code found, and what a code is to whoever looks at values alone. Assumes nothing.
+-- A record's codes: what a code is to whoever looks at values alone. Assumes nothing.
 use mathlib.Core.Bool.{Bool, true, false}
 use mathlib.Core.List.{List}
 use mathlib.Core.Path.{◌≡◌, refl, sym, ◌∙◌}
@@ -13,8 +13,6 @@ use Rattle.codes.proofs.CodeLaws.{code_value_lem, marked_zero}
 use Rattle.records.specs.Reading.{in_layer_five, landed, code_in}
 use Rattle.records.specs.View.{number_in}
 use Rattle.records.specs.Columns.{Span, number_on, code_on}
-
--- ---- codes as values
 
 -- the value of a code with a mark is 0, so one that is refused for its layer has lost nothing
 marked_by : (s : List ℕ) (c w : ℕ) (five : Bool) (v : ℤ) (m : ℕ) → code_at s c w ≡ Some (code v m) → code_value (landed five (Some (code v m))) ≡ v

@@ -1,10 +1,11 @@
 -- What a record's bytes say (RULES 9.4, the reader), over any layout. Assumes nothing.
+--   letters_right a b c x y  whether the letters x, y are those due: a, and b or c
 --   fault_of f s     the refusal that field f of the record s gives: 0, 3 or 5
 --   letters_in k s   the letters of a record of kind k: 1 or 2 for an H, 0 for any other
 --   code_in s c w     the code in the w columns of the record s from column c on
 --   numbers_in, name_in, marks_in  what the field adds to the record's numbers, its name and its marks
 --   first_fault L s  the first refusal along the layout L, with its column
---   reading_of k s    the answer to a record of kind k
+--   reading_of k s    the answer to a record of kind k: its value, or a refusal's number and column
 use Rattle.std.specs.Prelude.{Bool, true, false, cond, ◌&&◌, ◌||◌, List, [], ◌∷◌, ◌++◌, ℕ, zero, suc, eqb, ℤ, pos, length, get_or, replicate}
 use Rattle.std.specs.Prelude.{Option, Some, None, Result, Ok, Err}
 use Rattle.std.proofs.lemmas.List.Edits.{sets}

@@ -3,6 +3,7 @@
 --   fits five L ns nm ms   whether each field holds its own and the unused entries are 0; five says that the record is of layer 5
 --   letters_fit k l  whether a record of kind k may have the letters l
 --   record_bytes r   the record's 74 bytes
+--   spelled r        the same where its fields fit, and else none
 --   Written          the writer's answer and its buffer afterwards
 use Rattle.std.specs.Prelude.{◌≡◌, Bool, true, cond, ◌&&◌, ◌||◌, List, [], ◌∷◌, ◌++◌, ℕ, leb, eqb, ℤ, pos, length, get_or, take, drop, replicate}
 use Rattle.std.specs.Prelude.{Result, Ok, Err}

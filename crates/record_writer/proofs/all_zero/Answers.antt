@@ -12,11 +12,17 @@ use Rattle.record_writer.proofs.all_zero.Goals as goal
 
 pub returns-then-all-2 : goal.returns-then-all-2
 returns-then-all-2 c =
-    let n = all_from_yields_List is_zero _ _ c.all.result c.all.ensures.ran (YieldsList-from_slice c.args.numbers.now cc) (λ x b q k. search (rules, tests)) in
-    let q = all_from_yields_List (λ b. eqb b 0) _ _ c.all-then-all-2.result c.all-then-all-2.ensures.ran (YieldsList-from_slice c.args.marks.now cc) (λ x b q k. search (rules, tests)) in
+    let n =
+    all_from_yields_List is_zero _ _ c.all.result c.all.ensures.ran
+    (YieldsList-from_slice c.args.numbers.now cc) (λ x b q k. search (rules, tests)) in
+    let q =
+    all_from_yields_List (λ b. eqb b 0) _ _ c.all-then-all-2.result c.all-then-all-2.ensures.ran
+    (YieldsList-from_slice c.args.marks.now cc) (λ x b q k. search (rules, tests)) in
     elim c.if-all.branch [
       | then-all w ↦
-          let m = all_from_yields_List (λ b. eqb b 0) _ _ w.all-then-all.result w.all-then-all.ensures.ran (YieldsList-from_slice c.args.name.now cc) (λ x b q k. search (rules, tests)) in
+          let m =
+          all_from_yields_List (λ b. eqb b 0) _ _ w.all-then-all.result w.all-then-all.ensures.ran
+          (YieldsList-from_slice c.args.name.now cc) (λ x b q k. search (rules, tests)) in
           let u : c.all.result ≡ true = w.if-all.true in
           let v : w.all-then-all.result ≡ true = cc in
           rw (← n, ← m, u, v) q
