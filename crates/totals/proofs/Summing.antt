@@ -1,5 +1,5 @@
 -- Stage 3 as the code judges it: sums record by record, and its rules in the order of RULES 6.1. Assumes nothing.
-use mathlib.Core.Bool.{true, false, cond}
+use mathlib.Core.Bool.{Bool, true, false, cond}
 use mathlib.Core.List.{List, [], ◌∷◌}
 use mathlib.Core.Path.{◌≡◌, refl, sym, ◌∙◌}
 use Prim.Native.Nat.{ℕ, zero, suc, ◌+◌, ◌-◌, ◌≤◌, ◌<◌}
@@ -7,7 +7,7 @@ use native.Mathlib.Nat.{add-zero}
 use native.Mathlib.Numerals.{add-one}
 use native.Mathlib.Omega.{arith}
 use lib.Dec.{leb, eqb}
-use borrow.Author.Tests.{le-leb, lt-leb, eq-eqb, ne_eqb}
+use borrow.Author.Tests.{le-leb, lt-leb, leb-true, leb-false, eq-eqb, ne_eqb}
 use Rattle.records.specs.View.{record_of}
 use Rattle.std.specs.Prelude.{Err}
 use Rattle.verdict.specs.declared.Refusal.{Refusal}
@@ -25,9 +25,12 @@ use Rattle.walk.specs.Quiet.{is_quiet, Quiet}
 use Rattle.walk.proofs.Walking.{size_small}
 use Rattle.walk.proofs.Passing.{by_quiet, quiet_is, passed_due, passed_rows}
 use Rattle.totals.specs.declared.Sums.{Sums}
-use Rattle.totals.specs.Totals.{rank_of, no_sums, one_more, added_for, sums_from, sums_behind}
+use Rattle.totals.specs.Totals.{rank_number, rank_of, no_sums, one_more, added_for, sums_from, sums_behind}
 use Rattle.totals.specs.Totals.{mesh_totals, layer_totals, area_totals, total_checks, fourth, stage_three}
 use Rattle.totals.specs.Adding.{Addable}
+use Rattle.totals.specs.declared.Rank.{Rank}
+use Rattle.totals.specs.contracts.RankPartialOrd.TheImpl as order
+use Rattle.core.specs.Ordering.{partial_le}
 
 -- ---- sums stay small
 
@@ -108,6 +111,18 @@ quiet_addable k h a = record {
   areas = omega (arith, a.areas);
   entries = omega (arith, a.entries);
 }
+
+-- ---- ranks
+
+-- the code compares ranks as their numbers
+rank_le : (x y : Rank) → partial_le (order.partial_cmp-value).it x y ≡ leb (rank_number x) (rank_number y)
+rank_le x y = grind arith
+
+pub at_most_rank : (x y : Rank) {b : Bool} → b ≡ partial_le (order.partial_cmp-value).it x y → b ≡ true → rank_number x ≤ rank_number y
+at_most_rank x y e t = leb-true _ _ (sym (rank_le x y) ∙ sym e ∙ t)
+
+pub above_rank : (x y : Rank) {b : Bool} → b ≡ partial_le (order.partial_cmp-value).it x y → b ≡ false → rank_number y < rank_number x
+above_rank x y e t = leb-false _ _ (sym (rank_le x y) ∙ sym e ∙ t)
 
 -- ---- the loop over what follows
 

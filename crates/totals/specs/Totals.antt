@@ -1,7 +1,7 @@
 -- Stage 3 (RULES 6.6): 10 where a total of an M, an H or an A is not what was counted. M's nodes, lines and areas are the sums of its
 -- layers'; A's lines are the sum of its loops' line counts; M's and H's records are those that follow in the mesh or layer, the bearer left out.
 -- Assumes nothing.
---   rank_of d            0 for an M, 1 for an H, 3 for a loop record, 2 for the others
+--   rank_of d            0 for an M, 1 for an H, 3 for a loop record, 2 for the others; rank_number is the same of the code's ranks
 --   sums_behind r file k what follows the first k records, up to the next of rank r or above, added up
 --   total_checks d file k  the checks of stage 3 on record k + 1, due as d
 --   stage_three file    all of them, in the order of RULES 6.1
@@ -15,6 +15,8 @@ use Rattle.rules.specs.declared.Due.TheVariants.{Mesh, Layer, Node, Line, Coordi
 use Rattle.walk.specs.States.{size_at, due_of, state_at}
 use Rattle.walk.specs.Stages.{records_of}
 use Rattle.totals.specs.declared.Sums.{Sums}
+use Rattle.totals.specs.declared.Rank.{Rank}
+use Rattle.totals.specs.declared.Rank.TheVariants as rank
 
 -- ---- what follows a record
 
@@ -27,6 +29,13 @@ rank_of (Line layer last letters) = 2
 rank_of (Coordinates left) = 2
 rank_of (Area layer last) = 2
 rank_of (Loop last count left) = 3
+
+-- the code's ranks, which the code compares by the order of their names
+abbrev pub rank_number : Rank → ℕ
+rank_number rank.Mesh = 0
+rank_number rank.Layer = 1
+rank_number rank.Part = 2
+rank_number rank.Loop = 3
 
 abbrev pub no_sums : Sums
 no_sums = record { records = 0; nodes = 0; lines = 0; areas = 0; entries = 0 }

@@ -7,7 +7,7 @@
 ghost use Rattle.std.specs.Prelude.{◌≡◌, [], ◌∷◌, ◌+◌, ◌≤◌, ◌<◌, eqb};
 ghost use Rattle.verdict.specs.Rules.{check, first_broken, block};
 ghost use Rattle.walk.specs.States.{size_in, state_at};
-ghost use Rattle.totals.specs.Totals.{rank_of, one_more, layer_more, loop_more, added_for, sums_behind, mesh_totals, total_checks, fourth, stage_three};
+ghost use Rattle.totals.specs.Totals.{rank_number, rank_of, one_more, layer_more, loop_more, added_for, sums_behind, mesh_totals, total_checks, fourth, stage_three};
 ghost use Rattle.totals.specs.Adding.{Addable};
 
 use records::Columns;
@@ -35,16 +35,25 @@ const NO_SUMS: Sums = Sums {
     entries: 0,
 };
 
-// 0 for an M, 1 for an H, 3 for a loop record, 2 for the others. Sums of a rank end at the next record of
-// that number or a smaller one.
-fn rank_of(d: Due) -> usize
-    ensures { result ≡ rank_of d }
+// How far a record's sums reach: up to the next record of its rank or one above it. An M is the first.
+#[derive(Clone, Copy, PartialEq, Eq, PartialOrd, Ord)]
+enum Rank {
+    Mesh,
+    Layer,
+    // of a layer: an N, an L, coordinates or an A
+    Part,
+    Loop,
+}
+
+// Where a record stands among the ranks.
+fn rank_of(d: Due) -> Rank
+    ensures { rank_number result ≡ rank_of d }
 {
     match d {
-        Due::Mesh(_) => 0,
-        Due::Layer(_) => 1,
-        Due::Loop(_, _, _) => 3,
-        _ => 2,
+        Due::Mesh(_) => Rank::Mesh,
+        Due::Layer(_) => Rank::Layer,
+        Due::Loop(_, _, _) => Rank::Loop,
+        _ => Rank::Part,
     }
 }
 
@@ -98,18 +107,18 @@ fn added(d: Due, s: Sums, t: &[u8]) -> Sums
 }
 
 // How many quiet records are passed at most, with `left` records left: none where one of them ends the sums.
-fn room_for(rank: usize, left: usize) -> usize
-    ensures { (result ≤ left) × (0 < result → rank < 2) }
+fn room_for(rank: Rank, left: usize) -> usize
+    ensures { (result ≤ left) × (0 < result → rank_number rank < 2) }
 {
-    if rank < 2 { left } else { 0 }
+    if rank < Rank::Part { left } else { 0 }
 }
 
 // What follows the first `k` records, behind which the walk is in the state `s`, up to the next record of
 // rank `rank` or above.
 #[tactic(auto, using(walk::proofs::Passing::pass_most, crate::proofs::Summing::most_addable, crate::proofs::Summing::more_addable))]
-fn sums_behind(rank: usize, file: &[u8], k: usize, s: State) -> Sums
+fn sums_behind(rank: Rank, file: &[u8], k: usize, s: State) -> Sums
     requires { (k ≤ 6399936) × (s ≡ state_at file.now k) }
-    ensures { result ≡ sums_behind rank file.now k }
+    ensures { result ≡ sums_behind (rank_number rank) file.now k }
 {
     let n = walk::records_of(file);
     let mut sums = NO_SUMS;
@@ -168,13 +177,13 @@ fn judge_totals(d: Due, file: &[u8], k: usize, next: State) -> Verdict
     let row = (k + 1) as u32;
     let t = records::record_view(file, k + 1);
     match d {
-        Due::Mesh(_) => judge_mesh(t, sums_behind(0, file, k + 1, next), row),
+        Due::Mesh(_) => judge_mesh(t, sums_behind(Rank::Mesh, file, k + 1, next), row),
         Due::Layer(_) => {
-            let s = sums_behind(1, file, k + 1, next);
+            let s = sums_behind(Rank::Layer, file, k + 1, next);
             judge_total(t, records::LAYER_RECORDS, s.records, row)
         }
         Due::Area(_, _) => {
-            let s = sums_behind(2, file, k + 1, next);
+            let s = sums_behind(Rank::Part, file, k + 1, next);
             judge_total(t, records::AREA_LINES, s.entries, row)
         }
         _ => Ok(()),

@@ -3,16 +3,16 @@ use native.Mathlib.Nat.{le_refl}
 use native.Mathlib.Omega.{arith}
 use Rattle.walk.proofs.Walking.{next_state}
 use Rattle.walk.proofs.Passing.{pass_most, pass_are_quiet, passed_state}
-use Rattle.totals.proofs.Summing.{none_addable, more_addable, quiet_addable, sums_start, sums_stop, sums_more, sums_quiet, sums_end}
+use Rattle.totals.proofs.Summing.{at_most_rank, above_rank, none_addable, more_addable, quiet_addable, sums_start, sums_stop, sums_more, sums_quiet, sums_end}
 use Rattle.totals.proofs.sums_behind.Goals as goal
 
 pub loop-i-init : goal.loop-i-init
 loop-i-init c = (c.requires.0, c.requires.1, none_addable _, sums_start _ _ _)
 
-pub returns-then-rank_of-rank : goal.returns-then-rank_of-rank
-returns-then-rank_of-rank c =
+pub returns-then-le : goal.returns-then-le
+returns-then-le c =
     sums_stop _ _ _ (rw c.records_of-n.ensures.0 at c.loop-i-test.true)
-    c.loop-i.invariant.1 c.due-d.ensures c.rank_of.ensures c.if-rank_of-rank.true c.loop-i.invariant.3
+    c.loop-i.invariant.1 c.due-d.ensures c.rank_of.ensures (at_most_rank _ _ c.le.ensures c.if-le.true) c.loop-i.invariant.3
 
 pub loop-i-preserved : goal.loop-i-preserved
 loop-i-preserved c =
@@ -20,7 +20,7 @@ loop-i-preserved c =
     let n = c.next-state.ensures in
     let a = c.added-sums.ensures in
     let v = c.record_view-t in
-    let i = c.if-rank_of-rank.false in
+    let i = above_rank _ _ c.le.ensures c.if-le.false in
     let o = c.rank_of.ensures in
     let d = c.due-d in
     let t = c.loop-i-test.true in
