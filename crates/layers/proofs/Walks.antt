@@ -3,7 +3,7 @@ use mathlib.Core.Bool.{Bool, true, false, cond}
 use mathlib.Core.List.{List}
 use mathlib.Core.Path.{◌≡◌, refl, sym, ◌∙◌, ap, subst}
 use Prim.Native.Nat.{ℕ, ◌+◌, ◌-◌, ◌≤◌, ◌<◌, min}
-use native.Mathlib.Nat.{add-zero, min-le_left, min-le_right}
+use native.Mathlib.Nat.{min-le_left, min-le_right}
 use native.Mathlib.Numerals.{add-one}
 use native.Mathlib.Omega.{arith}
 use Rattle.records.specs.View.{record_of}
@@ -12,7 +12,7 @@ use Rattle.walk.specs.States.{due_of, start, next_of, state_at, counts_at}
 use Rattle.walk.specs.Stages.{records_of}
 use Rattle.walk.specs.Quiet.{passed, Quiet, quiet_ahead}
 use Rattle.walk.proofs.Walking.{next_state, counts_small}
-use Rattle.walk.proofs.Passing.{passed_none, passed_state, pass_are_quiet}
+use Rattle.walk.proofs.Passing.{passed_state, pass_are_quiet}
 use Rattle.layers.specs.declared.Bases.{Bases}
 use Rattle.layers.specs.declared.Layer.{Layer}
 use Rattle.layers.specs.declared.Standing.{Standing}
@@ -93,10 +93,6 @@ module _ (file t : List ℕ) (b : Bases) {x : Standing} (e : x ≡ standing_at f
         standing (next_state file x.records (state_is file t b e) f) (sym (rw i at rows_next)) (o ∙ sym (rw i at layer_next)) refl
 
 -- ---- behind quiet records
-
--- none
-pub past_none : (x : Standing) → x ≡ past_by x 0
-past_none x = rw (passed_none x.state, add-zero)
 
 -- they are quiet, no more than `most`, and the file has them
 module _ (file : List ℕ) (most : ℕ) (x : Standing) where

@@ -23,7 +23,7 @@ pub struct Bases {
 
 // A layer: its H record; how many nodes, lines and areas it has; and where the words of its first line
 // and of its first area stand in the table.
-#[derive(Clone, Copy)]
+#[derive(Clone, Copy, Default)]
 pub struct Layer {
     pub head: u32,
     pub nodes: u32,
@@ -42,6 +42,7 @@ fn row_word(table: &[u32], i: usize, j: usize) -> u32
 }
 
 // Word `j` of the rows before row `i`, added up.
+#[tactic(auto, unfolding(crate::specs::Naming::words_before))]
 fn words_before(table: &[u32], j: usize, i: usize) -> usize
     requires { (i ≤ 6399936) × (j < row_length) }
     ensures { (result ≡ words_before table.now j i) × (result ≤ 4294967296 * i) }
@@ -54,18 +55,12 @@ fn words_before(table: &[u32], j: usize, i: usize) -> usize
 }
 
 // Layer `i` of a table, counted from 0.
+#[tactic(auto, unfolding(crate::specs::Naming::layer_in))]
 pub fn layer_in(table: &[u32], b: Bases, i: usize) -> Layer
     ensures { result ≡ layer_in table.now b i }
 {
     if 6399936 < i {
-        return Layer {
-            head: 0,
-            nodes: 0,
-            lines: 0,
-            areas: 0,
-            line: 0,
-            area: 0,
-        };
+        return Layer::default();
     }
     Layer {
         head: row_word(table, i, walk::HEAD_WORD),
@@ -78,6 +73,7 @@ pub fn layer_in(table: &[u32], b: Bases, i: usize) -> Layer
 }
 
 // Whether a number is one of the serials 1 to `n`.
+#[tactic(auto, unfolding(crate::specs::Naming::names))]
 pub fn names(n: u32, v: i32) -> bool
     ensures { result ≡ names n v }
 {
@@ -85,14 +81,16 @@ pub fn names(n: u32, v: i32) -> bool
 }
 
 // Whether an entry, +n or -n, names one of the lines 1 to `n`.
+#[tactic(auto, unfolding(crate::specs::Naming::names_line))]
 pub fn names_line(n: u32, v: i32) -> bool
     ensures { result ≡ names_line n v }
 {
     let s = permitted::size(v);
-    (1 <= s) & (s <= n as usize)
+    1 <= s && s <= n as usize
 }
 
 // The N record that a number names in a layer; 0 where it names nothing.
+#[tactic(auto, unfolding(crate::specs::Naming::node_of))]
 pub fn node_of(l: Layer, v: i32) -> usize
     ensures { result ≡ node_of l v }
 {
@@ -110,6 +108,7 @@ fn word_in(table: &[u32], at: usize, i: usize) -> u32
 }
 
 // The L record that an entry names in a layer; 0 where it names nothing.
+#[tactic(auto, unfolding(crate::specs::Naming::line_of, crate::specs::Naming::names_line))]
 pub fn line_of(table: &[u32], l: Layer, v: i32) -> usize
     ensures { result ≡ line_of table.now l v }
 {
@@ -120,6 +119,7 @@ pub fn line_of(table: &[u32], l: Layer, v: i32) -> usize
 }
 
 // The A record that a number names in a layer; 0 where it names nothing.
+#[tactic(auto, unfolding(crate::specs::Naming::area_of, crate::specs::Naming::names, permitted::specs::Permitted::within))]
 pub fn area_of(table: &[u32], l: Layer, v: i32) -> usize
     ensures { result ≡ area_of table.now l v }
 {

@@ -2,56 +2,25 @@
 -- entries leave their marks at one place. Assumes nothing.
 use mathlib.Core.Bool.{Bool, true, false, not, ◌||◌, false≢true}
 use mathlib.Core.List.{List}
-use mathlib.Core.Path.{◌≡◌, refl, sym, ◌∙◌, ap}
-use Prim.Native.Nat.{ℕ, zero, suc, ◌+◌, ◌≤◌, ◌<◌}
+use mathlib.Core.Path.{◌≡◌, refl, ap}
+use Prim.Native.Nat.{ℕ, zero, suc, ◌+◌, ◌<◌}
 use native.Mathlib.Omega.{arith}
 use lib.IntN.{ℤ, pos, negsuc}
-use lib.ListN.{length, get_or, set, length-set}
-use lib.Seq.{get_or-set_same, get_or-set_other}
+use lib.ListN.{get_or}
 use borrow.Author.Count.{below_none, below_more}
 use borrow.Author.Tests.{eqb-true}
 use Rattle.permitted.specs.Permitted.{is_zero}
 use Rattle.links.specs.Links.{equal, some, repeats, slot_of}
-use Rattle.links.specs.Scanning.{clean, FirstRepeat}
+use Rattle.links.specs.Scanning.{clean}
 use Rattle.loops.specs.Scanning.{mark_of, Unrepeated, Marking}
 
--- ---- without a scan
-
--- all slots of a record, from slot `from` on, are among those that are known to repeat none
-pub repeats_none : (file : List ℕ) (a from : ℕ) {known : ℕ} → Unrepeated file a known → from + 12 ≤ known → FirstRepeat (slot_of file (a + 1)) from 12 12
-repeats_none file a from u l = record {
-  within = omega arith;
-  before = λ i m. u.unrepeated (from + i) (omega arith);
-  found = λ m. absurd (omega arith);
-}
-
 -- ---- marks
-
-module _ {before : List ℕ} {v : ℤ} {a : ℕ} where
-  -- no entry leaves no mark
-  pub marking_none : is_zero v ≡ true → Marking before v a true before
-  marking_none z = record { length = refl; fresh = λ e n. absurd (false≢true (sym n ∙ z)); kept = λ e i h. h }
-
-  -- false shows nothing
-  pub marking_not : Marking before v a false before
-  marking_not = record { length = refl; fresh = λ e n. absurd (false≢true e); kept = λ e i h. h }
-
-  -- the mark is left
-  pub marking_left : (m : ℕ) → m ≡ mark_of v → m < length before → (get_or before m 0 ≡ a → ⊥) → Marking before v a true (set before m a)
-  marking_left m e l n = record {
-    length = length-set before m a;
-    fresh = λ t z. rw (← e) (n, get_or-set_same before m a 0 l);
-    kept = λ t i h. get_or-set_other before m i a 0 (λ q. n (rw q at h)) ∙ h;
-  }
 
 -- the first e slots bear the mark
 pub record Marked (file : List ℕ) (a : ℕ) (marks : List ℕ) (e : ℕ) : Type 0 where
   pub marked : (j : ℕ) → j < e → is_zero (slot_of file (a + 1) j) ≡ false → get_or marks (mark_of (slot_of file (a + 1) j)) 0 ≡ a
 
 -- at the beginning
-pub marked_none : (file : List ℕ) (a : ℕ) (marks : List ℕ) → Marked file a marks 0
-marked_none file a marks = record { marked = below_none _ }
-
 pub unrepeated_none : (file : List ℕ) (a : ℕ) → Unrepeated file a 0
 unrepeated_none file a = record { unrepeated = below_none _ }
 

@@ -36,14 +36,6 @@ use Rattle.loops.proofs.Repeats.{unrepeated_none}
 -- ---- line measures
 
 module _ (file t : List ℕ) (l : Layer) (have : ℕ) (ms : List ℤ) where
-  -- another record than an H leaves them
-  pub kept_stays : have ≤ length ms → KeptBehind false file t l have ms have ms
-  kept_stays h = record {
-    room = h;
-    new = λ e. absurd (false≢true e);
-    old = λ e. (refl, refl);
-  }
-
   -- behind an H there are n, ns, of its layer
   pub kept_anew : {n : ℕ} {ns : List ℤ} → (n ≡ min l.lines (length ms)) × (ns ≡ sets ms 0 (walked_to file t l n)) → KeptBehind true file t l have ms n ns
   kept_anew h = record {

@@ -16,7 +16,6 @@ ghost use Rattle.loops.specs.Loops.{entry_before, joins, slot_from, loop_slot, w
 ghost use Rattle.loops.specs.Scanning.{mark_of, Unrepeated, Marking, KeptFor, KeptBehind, SoundTable, KnownBehind};
 
 use layers::{Bases, Layer};
-use links::Owner;
 use rules::Due;
 use verdict::{Refusal, Verdict};
 
@@ -26,10 +25,7 @@ use verdict::{Refusal, Verdict};
 fn mark_of(v: i32) -> usize
     ensures { result ≡ mark_of v }
 {
-    if permitted::natural(v) {
-        return 2 * permitted::size(v);
-    }
-    2 * permitted::size(v) + 1
+    2 * permitted::size(v) + usize::from(!permitted::natural(v))
 }
 
 // Marks the entry `v` with `a`, the record of its A. False where it bears that mark already, or where no
@@ -40,11 +36,9 @@ fn mark(marks: &mut [usize], v: i32, a: usize) -> bool
     if permitted::is_zero(v) {
         return true;
     }
+    // by index, since a slice's `get_mut` promises no element
     let i = mark_of(v);
-    if marks.len() <= i {
-        return false;
-    }
-    if marks[i] == a {
+    if marks.len() <= i || marks[i] == a {
         return false;
     }
     marks[i] = a;
@@ -58,13 +52,10 @@ fn unrepeated(file: &[u8], a: usize, marks: &mut [usize]) -> usize
     ensures { Unrepeated file.now a result }
 {
     let n = entries::area_slots(file, a);
-    let mut e: usize = 0;
-    while e < n {
-        let v = links::slot_of(file, a + 1, e);
-        if !mark(marks, v, a) {
+    for e in 0..n {
+        if !mark(marks, links::slot_of(file, a + 1, e), a) {
             return 0;
         }
-        e += 1;
     }
     n
 }
@@ -75,33 +66,35 @@ fn repeat_in(file: &[u8], a: usize, r: usize, known: usize) -> usize
     requires { (a ≤ 4294967295) × (r ≤ 6399936) × Unrepeated file.now a known }
     ensures { FirstRepeat (slot_of file.now (a + 1)) (12 * (r - (a + 1))) 12 result }
 {
-    let from = 12 * walk::less(r, a + 1);
+    let from = 12 * r.saturating_sub(a + 1);
     if from + 12 <= known {
         return 12;
     }
-    links::first_repeat(Owner::Area, file, a + 1, from)
+    links::first_repeat(from, from + 12, |e| links::slot_of(file, a + 1, e)) - from
 }
 
 // ---- slots
 
 // The entry before slot `e` of the loop whose first record is `f`; before the first one, the last.
+#[tactic(auto, unfolding(crate::specs::Loops::entry_before))]
 fn entry_before(file: &[u8], f: usize, e: usize) -> i32
     ensures { result ≡ entry_before file.now f e }
 {
     if e == 0 {
-        return links::slot_of(file, f, walk::less(entries::count_at(file, f), 1));
+        return links::slot_of(file, f, entries::count_at(file, f).saturating_sub(1));
     }
     links::slot_of(file, f, e - 1)
 }
 
 // Whether the entry `v` in slot `e` begins where the one before it ends.
+#[tactic(auto, using(links::proofs::Numbers::compared), unfolding(crate::specs::Loops::joins, crate::specs::Loops::last_node, links::specs::Links::first_node))]
 fn joins(file: &[u8], table: &[u32], l: Layer, f: usize, e: usize, v: i32) -> bool
     ensures { result ≡ joins file.now table.now l f e v }
 {
     let w = entry_before(file, f, e);
     let last = links::on_hand(file, table, l, records::END_NODE, records::START_NODE, w);
     let first = links::on_hand(file, table, l, records::START_NODE, records::END_NODE, v);
-    links::equal(first, last)
+    first == last
 }
 
 // A refusal of slot `i`.
@@ -114,6 +107,7 @@ fn broken(number: u32, r: usize, i: usize) -> Verdict
 
 // Slot `i` of the loop record `r`, of the area `area`, in the loop whose first record is `f`; `again` says
 // that it repeats an earlier one of the area, whose A is record `a`.
+#[tactic(auto, using(crate::proofs::SlotLaws::slot_judged, links::proofs::Scans::slot_first), unfolding(crate::specs::Loops::area_on_hand))]
 fn judge_slot(
     file: &[u8],
     table: &[u32],
@@ -135,7 +129,7 @@ fn judge_slot(
     if permitted::is_zero(v) {
         return Ok(());
     }
-    if !joins(file, table, l, f, 12 * walk::less(r, f) + i, v) {
+    if !joins(file, table, l, f, 12 * r.saturating_sub(f) + i, v) {
         return broken(15, r, i);
     }
     let right = links::on_hand(file, table, l, records::RIGHT_AREA, records::LEFT_AREA, v);
@@ -159,10 +153,8 @@ fn judge_slots(
     requires { (r ≤ 6399936) × FirstRepeat (slot_of file.now (a + 1)) (12 * (r - (a + 1))) 12 at }
     ensures { result ≡ first_broken (block sixth r (spread 12 (loop_slot file.now table.now l a area f r))) }
 {
-    let mut i: usize = 0;
-    while i < 12 {
+    for i in 0..12 {
         judge_slot(file, table, l, a, area, f, r, i, i == at)?;
-        i += 1;
     }
     Ok(())
 }
@@ -170,6 +162,7 @@ fn judge_slots(
 // ---- loops
 
 // Whether a measure has the sign that the serial asks for.
+#[tactic(auto, unfolding(crate::specs::Loops::winds))]
 fn winds(serial: i32, m: i64) -> bool
     ensures { result ≡ winds serial m }
 {
@@ -181,6 +174,7 @@ fn winds(serial: i32, m: i64) -> bool
 
 // The way round of the loop that begins at record `r`, by the line measures `kept` of its layer; nothing of
 // a later record.
+#[tactic(auto, unfolding(crate::specs::Loops::wind_checks, verdict::specs::Rules::first_broken, verdict::specs::Rules::block))]
 fn judge_winding(file: &[u8], l: Layer, kept: &[i64], left: usize, r: usize) -> Verdict
     requires { r ≤ 6399936 }
     ensures { result ≡ first_broken (block sixth r (wind_checks file.now (kept_loop file.now l kept.now r) r left)) }
@@ -201,23 +195,26 @@ fn judge_winding(file: &[u8], l: Layer, kept: &[i64], left: usize, r: usize) -> 
 }
 
 // The first record of a loop: of its `count` entries `left` are left.
+#[tactic(auto, unfolding(crate::specs::Loops::first_record))]
 fn first_record(r: usize, count: usize, left: usize) -> usize
     ensures { result ≡ first_record r count left }
 {
     if 0 < left {
-        return walk::less(r, walk::less(count, left) / 12);
+        return r.saturating_sub(count.saturating_sub(left) / 12);
     }
     r
 }
 
 // The A of the layer's area `area`.
+#[tactic(auto, unfolding(crate::specs::Loops::area_record))]
 fn area_record(table: &[u32], l: Layer, area: usize) -> usize
     ensures { (result ≡ area_record table.now l area) × (result ≤ 4294967295) }
 {
-    layers::area_word(table, l, walk::less(area, 1))
+    layers::area_word(table, l, area.saturating_sub(1))
 }
 
 // The loop record `r` of the area `area`, of which the first `known` slots are known to repeat none.
+#[tactic(auto, using(crate::proofs::SlotLaws::wind_kept, crate::proofs::SlotLaws::loop_stops, crate::proofs::SlotLaws::loop_passes))]
 fn judge_loop(
     file: &[u8],
     table: &[u32],
@@ -241,6 +238,7 @@ fn judge_loop(
 // ---- the stage
 
 // Record `r`, due as `d`, in the layer `l`; its last area is `area`.
+#[tactic(auto, using(verdict::proofs::Parts::check_none))]
 fn judge_record(
     d: Due,
     file: &[u8],
@@ -255,15 +253,10 @@ fn judge_record(
     ensures { KeptFor d file.now table.now l kept.now → result ≡ first_broken (block sixth r (area_checks d file.now table.now l area r)) }
 {
     match d {
-        Due::Mesh(_) => Ok(()),
-        Due::Layer(_) => Ok(()),
-        Due::Node(_, _) => Ok(()),
-        Due::Line(_, _, _) => Ok(()),
-        Due::Coordinates(_) => Ok(()),
-        Due::Area(_, _) => Ok(()),
         Due::Loop(_, count, left) => {
             judge_loop(file, table, l, kept, area, known, count, left, r)
         }
+        _ => Ok(()),
     }
 }
 
@@ -274,18 +267,14 @@ fn kept_behind(d: Due, file: &[u8], table: &[u32], l: Layer, have: usize, kept: 
     ensures { KeptBehind (is_layer d) file.now table.now l have kept.old result kept.new }
 {
     match d {
-        Due::Mesh(_) => have,
         Due::Layer(_) => entries::keep_measures(file, table, l, kept),
-        Due::Node(_, _) => have,
-        Due::Line(_, _, _) => have,
-        Due::Coordinates(_) => have,
-        Due::Area(_, _) => have,
-        Due::Loop(_, _, _) => have,
+        _ => have,
     }
 }
 
 // How many slots of the layer's last area are known to repeat none, behind a record that was due as `d`:
 // behind an A, the one behind the first `area`, they are looked at; a loop record leaves them as they were.
+#[tactic(auto, using(crate::proofs::StageLaws::next_area))]
 fn known_behind(
     d: Due,
     file: &[u8],
@@ -299,13 +288,9 @@ fn known_behind(
     ensures { KnownBehind d file.now table.now l area result }
 {
     match d {
-        Due::Mesh(_) => 0,
-        Due::Layer(_) => 0,
-        Due::Node(_, _) => 0,
-        Due::Line(_, _, _) => 0,
-        Due::Coordinates(_) => 0,
         Due::Area(_, _) => unrepeated(file, layers::area_word(table, l, area), marks),
         Due::Loop(_, _, _) => known,
+        _ => 0,
     }
 }
 
@@ -317,27 +302,33 @@ pub fn stage_five(file: &[u8], table: &[u32], b: Bases) -> Verdict
     let n = walk::records_of(file);
     let mut kept = [0i64; 9999];
     let mut marks = [0usize; 20000];
-    let mut have: usize = 0;
-    let mut known: usize = 0;
+    let mut have = 0;
+    let mut known = 0;
     let mut x = layers::at_first(table, b);
+    // a quiet run is one step, so no range counts this
     while x.records < n {
-        let s = x.state;
-        let l = x.layer;
-        let d = walk::due(s);
+        let d = walk::due(x.state);
         judge_record(
             d,
             file,
             table,
-            l,
+            x.layer,
             &kept[..have],
-            s.layer.area,
+            x.state.layer.area,
             known,
             x.records + 1,
         )?;
-        known = known_behind(d, file, table, l, s.layer.area, known, &mut marks);
+        known = known_behind(
+            d,
+            file,
+            table,
+            x.layer,
+            x.state.layer.area,
+            known,
+            &mut marks,
+        );
         x = layers::behind(file, table, b, x);
-        let layer = x.layer;
-        have = kept_behind(d, file, table, layer, have, &mut kept);
+        have = kept_behind(d, file, table, x.layer, have, &mut kept);
         x = layers::past_quiet(file, x, n);
     }
     Ok(())

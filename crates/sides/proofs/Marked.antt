@@ -1,7 +1,7 @@
 -- Marks: where they stand, that marking an area's entry keeps them true, and that a mark answers for the search. Assumes nothing.
 use mathlib.Core.Bool.{Bool, true, false, cond, not}
 use mathlib.Core.List.{List}
-use mathlib.Core.Path.{◌≡◌, refl, sym}
+use mathlib.Core.Path.{◌≡◌, refl}
 use Prim.Native.Nat.{ℕ, ◌+◌, ◌^◌, ◌≤◌, ◌<◌, ◌/◌}
 use native.Mathlib.Omega.{arith}
 use lib.Dec.{eqb, leb, ltb}
@@ -11,16 +11,15 @@ use lib.Seq.{get_or-set_same, get_or-set_other}
 use lib.Signed.{mag}
 use mir.Syntax.{w32}
 use mir.Val.{to_z, of_z, hbits}
-use borrow.Author.Tests.{ltb-true, leb-false, leb-true, eqb-true, eqb-false, eq-eqb}
+use borrow.Author.Tests.{ltb-true, eqb-true, eqb-false, eq-eqb}
 use Rattle.records.specs.View.{record_of, number_in}
 use Rattle.verdict.proofs.Orders.{and_both}
 use Rattle.permitted.specs.Permitted.{natural, size, same}
 use Rattle.permitted.proofs.Signs.{passed_on}
 use Rattle.walk.specs.States.{size_in}
 use Rattle.walk.proofs.Walking.{size_small}
-use Rattle.links.specs.Links.{entry_is, some, loop_entry}
-use Rattle.links.proofs.Numbers.{asked}
-use Rattle.links.proofs.Scans.{some_none, some_more, some_hit}
+use Rattle.links.specs.Links.{entry_is, loop_entry}
+use Rattle.links.proofs.Scans.{some_hit}
 use Rattle.entries.specs.Entries.{slot_of, slots_of}
 use Rattle.entries.proofs.Slots.{slots_none}
 use Rattle.sides.specs.Sides.{lists}
@@ -34,35 +33,12 @@ slot_is file a back n e = entry_is back n (slot_of file (a + 1) e)
 
 -- a record with slots is one that the file has
 pub area_there : (file : List ℕ) (a e : ℕ) {slots : ℕ} → slots ≡ slots_of file a → e < slots → a ≤ length file / 74
-area_there file a e q l = by (leb a (length file / 74)) refl
-  where
-    by : (b : Bool) → leb a (length file / 74) ≡ b → a ≤ length file / 74
-    by true h = leb-true a (length file / 74) h
-    by false h = absurd (omega (arith, q, l, slots_none file a (leb-false a (length file / 74) h)))
+area_there file a e q l = grind (arith, slots_none)
 
 -- a slot's number has at most 6 digits
 slot_small : (file : List ℕ) (f e : ℕ) → size (slot_of file f e) ≤ 999999
 unfolding slot_of loop_entry number_in size_in
 slot_small file f e = size_small (record_of file _) _ 5
-
--- the search: z is slot e, and b says whether it is the entry
-module _ (file : List ℕ) (a : ℕ) (back : Bool) (n : ℕ) where
-  pub lists_start : some 0 (slot_is file a back n) ≡ false
-  lists_start = some_none (slot_is file a back n)
-
-  module _ {slots : ℕ} (s : slots ≡ slots_of file a) where
-    pub lists_done : (e : ℕ) → e ≤ slots → slots ≤ e → some e (slot_is file a back n) ≡ false → false ≡ lists file a back n
-    unfolding lists
-    lists_done e l m h = let q : slots_of file a ≡ e = omega (arith, s) in rw q (sym h)
-
-    pub lists_hit : (e : ℕ) {z : ℤ} {b : Bool} → mag z < 2 ^ hbits w32 → z ≡ slot_of file (a + 1) e
-        → b ≡ entry_is back n (to_z w32 (of_z w32 z)) → e < slots → b ≡ true → true ≡ lists file a back n
-    unfolding lists
-    lists_hit e ok q h l t = sym (some_hit (slots_of file a) e (slot_is file a back n) (rw s at l) (asked (entry_is back n) ok q h t))
-
-  pub lists_pass : (e : ℕ) {z : ℤ} {b : Bool} → mag z < 2 ^ hbits w32 → z ≡ slot_of file (a + 1) e → b ≡ entry_is back n (to_z w32 (of_z w32 z))
-      → some e (slot_is file a back n) ≡ false → b ≡ false → some (e + 1) (slot_is file a back n) ≡ false
-  lists_pass e ok q h f t = some_more e (slot_is file a back n) f (asked (entry_is back n) ok q h t)
 
 -- ---- an entry lists itself
 

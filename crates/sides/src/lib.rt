@@ -22,10 +22,7 @@ fn mark_at(back: bool, n: usize) -> usize
     requires { n ≤ 999999 }
     ensures { result ≡ mark_at back n }
 {
-    if back {
-        return 2 * n + 1;
-    }
-    2 * n
+    2 * n + usize::from(back)
 }
 
 // Marks every entry of the area whose A is record `a` with `a`.
@@ -33,23 +30,22 @@ fn mark_area(file: &[u8], a: usize, marks: &mut [usize])
     requires { Marks file.now marks.old }
     ensures { Marks file.now marks.new }
 {
-    let n = entries::area_slots(file, a);
-    let mut e: usize = 0;
-    while e < n {
+    for e in 0..entries::area_slots(file, a) {
         let v = links::slot_of(file, a + 1, e);
         put_mark(
             marks,
             mark_at(!permitted::natural(v), permitted::size(v)),
             a,
         );
-        e += 1;
     }
 }
 
 // Puts `a` at place `i`, if there is one.
+#[tactic(auto, unfolding(crate::specs::Marking::put_mark))]
 fn put_mark(marks: &mut [usize], i: usize, a: usize)
     ensures { marks.new ≡ put_mark marks.old i a }
 {
+    // by index, since a slice's `get_mut` promises no element
     if i < marks.len() {
         marks[i] = a;
     }
@@ -60,11 +56,8 @@ fn mark_layer(file: &[u8], table: &[u32], l: Layer, marks: &mut [usize])
     requires { Marks file.now marks.old }
     ensures { Marks file.now marks.new }
 {
-    let n = l.areas as usize;
-    let mut i: usize = 0;
-    while i < n {
+    for i in 0..l.areas as usize {
         mark_area(file, layers::area_word(table, l, i), marks);
-        i += 1;
     }
 }
 
@@ -75,43 +68,28 @@ fn lists(file: &[u8], a: usize, back: bool, n: usize) -> bool
     ensures { result ≡ lists file.now a back n }
 {
     let slots = entries::area_slots(file, a);
-    let mut e: usize = 0;
-    while e < slots {
-        let v = links::slot_of(file, a + 1, e);
-        if links::entry_is(back, n, v) {
-            return true;
-        }
-        e += 1;
-    }
-    false
+    (0..slots).any(|e| links::entry_is(back, n, links::slot_of(file, a + 1, e)))
 }
 
 // Whether +n or, backwards, -n bears the mark `a`.
+#[tactic(auto, unfolding(crate::specs::Marking::bears))]
 fn bears(marks: &[usize], back: bool, n: usize, a: usize) -> bool
     ensures { result ≡ bears marks.now back n a }
 {
-    if 999999 < n {
-        return false;
-    }
-    let i = mark_at(back, n);
-    if marks.len() <= i {
-        return false;
-    }
-    (0 < a) & (marks[i] == a)
+    n <= 999999 && 0 < a && marks.get(mark_at(back, n)) == Some(&a)
 }
 
 // The same answer, without a search where the entry bears the area's mark.
+#[tactic(auto, using(crate::proofs::Marked::bears_listed))]
 fn has_entry(file: &[u8], a: usize, back: bool, n: usize, marks: &[usize]) -> bool
     requires { Marks file.now marks.now }
     ensures { result ≡ lists file.now a back n }
 {
-    if bears(marks, back, n, a) {
-        return true;
-    }
-    lists(file, a, back, n)
+    bears(marks, back, n, a) || lists(file, a, back, n)
 }
 
 // Whether the area in the columns `c` of the L at record `r` has line `n`'s entry; area 0 is nobody.
+#[tactic(auto, unfolding(crate::specs::Sides::side_listed))]
 fn side_listed(
     file: &[u8],
     table: &[u32],
@@ -126,10 +104,7 @@ fn side_listed(
     ensures { result ≡ side_listed file.now table.now l r (span_from c.0 c.1) back n }
 {
     let v = records::value_at(file, r, c);
-    if permitted::is_zero(v) {
-        return true;
-    }
-    has_entry(file, layers::area_of(table, l, v), back, n, marks)
+    permitted::is_zero(v) || has_entry(file, layers::area_of(table, l, v), back, n, marks)
 }
 
 // The refusal of the L at record `r` whose area in the columns `c` doesn't list it.
@@ -145,6 +120,7 @@ fn unlisted(r: usize, c: Columns) -> Verdict
 }
 
 // Both sides of line `n`, whose L is record `r`.
+#[tactic(auto, unfolding(crate::specs::Sides::list_checks, verdict::specs::Rules::first_broken, verdict::specs::Rules::block))]
 fn judge_line(file: &[u8], table: &[u32], l: Layer, r: usize, n: usize, marks: &[usize]) -> Verdict
     requires { (r ≤ 6399936) × Marks file.now marks.now }
     ensures { result ≡ first_broken (block seventh r (list_checks file.now table.now l r n)) }
@@ -161,18 +137,14 @@ fn judge_line(file: &[u8], table: &[u32], l: Layer, r: usize, n: usize, marks: &
 // ---- the stage
 
 // Record `r`, due as `d`, in the layer `l`.
+#[tactic(auto, using(verdict::proofs::Parts::check_none))]
 fn judge_record(d: Due, file: &[u8], table: &[u32], l: Layer, r: usize, marks: &[usize]) -> Verdict
     requires { (r ≤ 6399936) × LineCountable d × Marks file.now marks.now }
     ensures { result ≡ first_broken (block seventh r (line_list_checks d file.now table.now l r)) }
 {
     match d {
-        Due::Mesh(_) => Ok(()),
-        Due::Layer(_) => Ok(()),
-        Due::Node(_, _) => Ok(()),
         Due::Line(_, last, _) => judge_line(file, table, l, r, last + 1, marks),
-        Due::Coordinates(_) => Ok(()),
-        Due::Area(_, _) => Ok(()),
-        Due::Loop(_, _, _) => Ok(()),
+        _ => Ok(()),
     }
 }
 
@@ -181,10 +153,9 @@ fn mark_behind(d: Due, file: &[u8], table: &[u32], l: Layer, marks: &mut [usize]
     requires { Marks file.now marks.old }
     ensures { Marks file.now marks.new }
 {
-    if !layers::is_layer(d) {
-        return;
+    if layers::is_layer(d) {
+        mark_layer(file, table, l, marks);
     }
-    mark_layer(file, table, l, marks);
 }
 
 // Stage 6: both sides of every line.
@@ -194,14 +165,12 @@ pub fn stage_six(file: &[u8], table: &[u32], b: Bases) -> Verdict
     let n = walk::records_of(file);
     let mut marks = [0usize; 20000];
     let mut x = layers::at_first(table, b);
+    // a quiet run is one step, so no range counts this
     while x.records < n {
-        let s = x.state;
-        let l = x.layer;
-        let d = walk::due(s);
-        judge_record(d, file, table, l, x.records + 1, &marks)?;
+        let d = walk::due(x.state);
+        judge_record(d, file, table, x.layer, x.records + 1, &marks)?;
         x = layers::behind(file, table, b, x);
-        let layer = x.layer;
-        mark_behind(d, file, table, layer, &mut marks);
+        mark_behind(d, file, table, x.layer, &mut marks);
         x = layers::past_quiet(file, x, n);
     }
     Ok(())

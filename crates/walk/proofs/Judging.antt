@@ -1,21 +1,20 @@
 -- Stages 1 and 2 as the code judges them, record by record, and what a file that keeps them is. Assumes nothing.
 use mathlib.Core.Bool.{Bool, true, false, cond, ◌&&◌}
-use mathlib.Core.List.{List, [], ◌++◌}
-use mathlib.Core.Path.{◌≡◌, refl, sym, ◌∙◌, ap}
+use mathlib.Core.List.{List, ◌++◌}
+use mathlib.Core.Path.{◌≡◌, refl, ◌∙◌, ap}
 use Prim.Native.Nat.{ℕ, ◌+◌, ◌*◌, ◌/◌, ◌%◌, ◌<◌, ◌≤◌}
 use native.Mathlib.Omega.{arith}
-use borrow.Author.Tests.{le-ltb, ltb-false, leb-true, eqb-true, eq-eqb, ne_eqb}
+use borrow.Author.Tests.{le-ltb, ltb-false, leb-true, eqb-true}
 use lib.Dec.{leb, ltb, eqb, lit≤}
-use lib.ListN.{length, get_or}
+use lib.ListN.{length}
 use Rattle.std.specs.Prelude.{Result, Ok, Err}
 use Rattle.verdict.specs.declared.Refusal.{Refusal}
-use Rattle.verdict.specs.Rules.{Verdict, Fine, Broken, Rule, block, rows, first_broken}
-use Rattle.verdict.proofs.Parts.{fine_broken, in_turn, both_fine, stands, goes_on, rows_stop, rows_done, check_none, check_kept, check_broken, check_fine}
+use Rattle.verdict.specs.Rules.{Verdict, Fine, Rule, block, rows, first_broken}
+use Rattle.verdict.proofs.Parts.{fine_broken, in_turn, both_fine, stands, goes_on, rows_stop, rows_done, check_fine}
 use Rattle.verdict.proofs.Holding.{row_fine, Holding, all_hold}
 use Rattle.verdict.proofs.Orders.{and_both}
 use Rattle.records.specs.View.{record_of}
 use Rattle.rules.specs.declared.Due.{Due}
-use Rattle.rules.specs.declared.Due.TheVariants.{Mesh, Layer, Node, Line, Coordinates, Area, Loop}
 use Rattle.rules.specs.Checks.{checks_of}
 use Rattle.walk.specs.declared.State.{State}
 use Rattle.walk.specs.declared.Counts.{Counts}
@@ -42,20 +41,6 @@ pub end_is : (file : List ℕ) (k : ℕ) {t : List ℕ} {v : Verdict} → t ≡ 
     → v ≡ first_broken (block 1 (k + 1) (end_checks t)) → v ≡ first_broken (ends_of file k)
 end_is file k e h = rw (← e) h
 
--- the two bytes a and b of a line end, by the code's tests
-module _ (t : List ℕ) (r : ℕ) {a : ℕ} (e : a ≡ get_or t 72 0) where
-  pub end_first : (a ≡ 13 → ⊥) → Broken 2 r 73 ≡ first_broken (block 1 r (end_checks t))
-  unfolding end_checks
-  end_first q = sym (check_broken 1 r 73 2 _ _ (rw (← e) (ne_eqb a 13 q)))
-
-  pub end_second : {b : ℕ} → a ≡ 13 → b ≡ get_or t 73 0 → (b ≡ 10 → ⊥) → Broken 2 r 74 ≡ first_broken (block 1 r (end_checks t))
-  unfolding end_checks
-  end_second {b} p f q = sym (check_kept 1 r 73 2 _ _ (rw (← e) (eq-eqb a 13 p)) ∙ check_broken 1 r 74 2 _ _ (rw (← f) (ne_eqb b 10 q)))
-
-  pub end_fine : {b : ℕ} → a ≡ 13 → b ≡ get_or t 73 0 → b ≡ 10 → Fine ≡ first_broken (block 1 r (end_checks t))
-  unfolding end_checks
-  end_fine {b} p f q = sym (check_kept 1 r 73 2 _ _ (rw (← e) (eq-eqb a 13 p)) ∙ check_kept 1 r 74 2 _ _ (rw (← f) (eq-eqb b 10 q)) ∙ sym (check_none 1 r))
-
 module _ (file : List ℕ) {n : ℕ} (m : n ≡ records_of file) where
   -- it is broken and is returned
   pub one_stops : (k : ℕ) {v : Verdict} {r : Refusal} → v ≡ Err r → v ≡ first_broken (ends_of file k)
@@ -70,16 +55,6 @@ module _ (file : List ℕ) {n : ℕ} (m : n ≡ records_of file) where
   one_done k q h l g =
       let f = rows_done (ends_of file) n k l g h in
       goes_on (rows (records_of file) (ends_of file)) _ refl (rw m at f) (rw m at q)
-
--- the length, by the code's test: it is right; it is wrong
-pub length_fine : (n r : ℕ) → (leb 1 (n / 74) && (leb (n / 74) most_records && eqb (n % 74) 0)) ≡ true → Fine ≡ first_broken (block 1 r (length_checks n))
-unfolding length_checks
-length_fine n r t = sym (check_kept 1 r 1 1 _ [] t ∙ sym (check_none 1 r))
-
-pub length_broken : (n r : ℕ) → (leb 1 (n / 74) && (leb (n / 74) most_records && eqb (n % 74) 0)) ≡ false
-    → Broken 1 r 1 ≡ first_broken (block 1 r (length_checks n))
-unfolding length_checks
-length_broken n r t = sym (check_broken 1 r 1 1 _ [] t)
 
 -- ---- stage 2
 
@@ -115,24 +90,6 @@ module _ (file : List ℕ) {n : ℕ} (m : n ≡ records_of file) where
   -- the counts of all records
   pub counts_done : (k : ℕ) {c : Counts} → c ≡ counts_at file k → k ≤ n → n ≤ k → c ≡ counts_at file (records_of file)
   counts_done k e l g = let z : k ≡ n = omega arith in e ∙ ap (counts_at file) (z ∙ m)
-
--- the end of a file, by what is due: a mesh; any other record
-pub last_fine : (r : ℕ) {d : Due} {last : ℕ} → d ≡ Mesh last → Fine ≡ first_broken (block 2 r (last_checks d))
-unfolding last_checks
-last_fine r {d} h = sym (check_kept 2 r 1 4 (may_end d) [] (rw h) ∙ sym (check_none 2 r))
-
-pub last_broken : (r : ℕ) (d : Due) → ((last : ℕ) → d ≡ Mesh last → ⊥) → Broken 4 r 1 ≡ first_broken (block 2 r (last_checks d))
-unfolding last_checks
-last_broken r d o = sym (check_broken 2 r 1 4 (may_end d) [] (none d o))
-  where
-    none : (d : Due) → ((last : ℕ) → d ≡ Mesh last → ⊥) → may_end d ≡ false
-    none (Mesh last) o = absurd (o last refl)
-    none (Layer last) o = refl
-    none (Node layer last) o = refl
-    none (Line layer last letters) o = refl
-    none (Coordinates left) o = refl
-    none (Area layer last) o = refl
-    none (Loop last count left) o = refl
 
 -- ---- both stages
 

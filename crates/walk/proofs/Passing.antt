@@ -3,7 +3,7 @@ use mathlib.Core.Bool.{Bool, true, false, cond, ◌&&◌, ◌||◌, false≢true
 use mathlib.Core.List.{List, [], append-nil}
 use mathlib.Core.Path.{◌≡◌, refl, sym, ◌∙◌, ap}
 use Prim.Native.Nat.{ℕ, zero, suc, ◌+◌, ◌-◌, ◌*◌, ◌/◌, ◌≤◌, ◌<◌, min}
-use native.Mathlib.Nat.{add-zero, add-suc, min-zero, min-le_left, min-le_right}
+use native.Mathlib.Nat.{add-zero, add-suc, min-le_left, min-le_right}
 use native.Mathlib.Omega.{arith}
 use lib.Dec.{leb, ltb}
 use borrow.Author.Tests.{lt-ltb, le-ltb, ltb-true, ltb-false, leb-true, leb-false}
@@ -90,32 +90,6 @@ quiet_is s j = by (ltb 0 s.line.points)
     by : (b : Bool) → is_quiet (cond b (Coordinates (s.line.points - 7 * j)) (Node s.layer.code (s.layer.node + j))) ≡ true
     by true = refl
     by false = refl
-
--- the state behind h coordinate records, with the points p left; behind h nodes
-pub past_points : (s : State) (h : ℕ) {p : ℕ} → 0 < s.line.points → p ≡ s.line.points - 7 * h
-    → (record { mesh = s.mesh; layer = s.layer; line = record { points = p }; area = s.area }) ≡ passed s h
-past_points s h l e = simp (lt-ltb 0 s.line.points l, e, add-zero)
-
-pub past_nodes : (s : State) (h : ℕ) {n : ℕ} → s.line.points ≤ 0 → n ≡ s.layer.node + h
-    → (record {
-      mesh = s.mesh;
-      layer = record {
-        code = s.layer.code;
-        nodes = s.layer.nodes;
-        node = n;
-        lines = s.layer.lines;
-        line = s.layer.line;
-        areas = s.layer.areas;
-        area = s.layer.area;
-        letters = s.layer.letters;
-      };
-      line = s.line;
-      area = s.area;
-    })
-    ≡ passed s h
-past_nodes s h l e =
-    let z : s.line.points - 7 * h ≡ s.line.points = omega arith in
-    simp (le-ltb 0 s.line.points l, e, z)
 
 -- ---- which are quiet
 
@@ -216,23 +190,6 @@ quiet_ahead_lem s h q = by (leb h (quiet_ahead s)) refl
     by false l =
         absurd (whole_by s (quiet_ahead s) (ltb 0 s.line.points)
         (ltb 0 s.area.entries || ltb s.area.begun s.area.loops) refl refl refl (q.quiet (quiet_ahead s) (leb-false _ _ l)))
-
-module _ (s : State) where
-  pub points_ahead : 0 < s.line.points → (s.line.points - 1) / 7 + 1 ≡ quiet_ahead s
-  unfolding quiet_ahead
-  points_ahead p = rw (lt-ltb _ _ p)
-
-  pub entries_ahead : s.line.points ≤ 0 → 0 < s.area.entries → (most : ℕ) → 0 ≡ min most (quiet_ahead s)
-  unfolding quiet_ahead
-  entries_ahead p e most = rw (le-ltb 0 s.line.points p, lt-ltb 0 s.area.entries e) (sym (min-zero most))
-
-  pub loops_ahead : s.line.points ≤ 0 → s.area.entries ≤ 0 → s.area.begun < s.area.loops → (most : ℕ) → 0 ≡ min most (quiet_ahead s)
-  unfolding quiet_ahead
-  loops_ahead p e b most = rw (le-ltb 0 s.line.points p, le-ltb 0 s.area.entries e, lt-ltb s.area.begun s.area.loops b) (sym (min-zero most))
-
-  pub nodes_ahead : s.line.points ≤ 0 → s.area.entries ≤ 0 → s.area.loops ≤ s.area.begun → s.layer.nodes - s.layer.node ≡ quiet_ahead s
-  unfolding quiet_ahead
-  nodes_ahead p e b = rw (le-ltb 0 s.line.points p, le-ltb 0 s.area.entries e, le-ltb s.area.begun s.area.loops b)
 
 -- as code has it: the number r of those that were passed
 module _ (s : State) (most : ℕ) {r : ℕ} (e : r ≡ min most (quiet_ahead s)) where

@@ -8,7 +8,7 @@
 ghost use Rattle.std.specs.Prelude.{◌≡◌, ◌+◌, ◌-◌, ◌*◌, ◌/◌, ◌≤◌, ◌<◌, min, length};
 ghost use Rattle.std.proofs.lemmas.List.Edits.{sets};
 ghost use Rattle.verdict.specs.Rules.{Broken, first_broken, block};
-ghost use Rattle.walk.specs.States.{size_in, due_of, start, layer_part, meshed, headed, next_of, no_counts, Countable, counted_for, counts_at};
+ghost use Rattle.walk.specs.States.{size_in, due_of, start, layer_part, meshed, headed, next_of, Countable, counted_for, counts_at};
 ghost use Rattle.walk.specs.Row.{row_length, row_of};
 ghost use Rattle.walk.specs.Stages.{records_of, end_checks, length_checks, stage_one, last_checks, stage_two, walked_by, walked_of, need_of, early};
 ghost use Rattle.walk.specs.Table.{table_of, filled, filled_by, tabled_of};
@@ -34,14 +34,14 @@ pub const AREAS_WORD: usize = 3;
 pub const LETTERS_WORD: usize = 4;
 
 // The mesh that the walk is in: its code, and how many of its layers have not begun.
-#[derive(Clone, Copy)]
+#[derive(Clone, Copy, Default)]
 pub struct MeshPart {
     pub code: usize,
     pub layers: usize,
 }
 
 // The layer: its code, its totals, how many of each came, and its letters.
-#[derive(Clone, Copy)]
+#[derive(Clone, Copy, Default)]
 pub struct LayerPart {
     pub code: usize,
     pub nodes: usize,
@@ -54,13 +54,13 @@ pub struct LayerPart {
 }
 
 // The line: how many of its points are left.
-#[derive(Clone, Copy)]
+#[derive(Clone, Copy, Default)]
 pub struct LinePart {
     pub points: usize,
 }
 
 // The area: its loops, how many of them were begun, and the last one's line count and entries left.
-#[derive(Clone, Copy)]
+#[derive(Clone, Copy, Default)]
 pub struct AreaPart {
     pub loops: usize,
     pub begun: usize,
@@ -69,7 +69,7 @@ pub struct AreaPart {
 }
 
 // Where the walk stands.
-#[derive(Clone, Copy)]
+#[derive(Clone, Copy, Default)]
 pub struct State {
     pub mesh: MeshPart,
     pub layer: LayerPart,
@@ -78,7 +78,7 @@ pub struct State {
 }
 
 // What the records were, and the words that the layers among them need.
-#[derive(Clone, Copy)]
+#[derive(Clone, Copy, Default)]
 pub struct Counts {
     pub meshes: usize,
     pub layers: usize,
@@ -118,6 +118,7 @@ pub fn size_at(t: &[u8], c: Columns) -> usize
 }
 
 // What is due.
+#[tactic(auto, unfolding(crate::specs::States::due_of))]
 pub fn due(s: State) -> Due
     ensures { result ≡ due_of s }
 {
@@ -149,26 +150,7 @@ pub fn due(s: State) -> Due
 pub fn at_start() -> State
     ensures { result ≡ start }
 {
-    State {
-        mesh: MeshPart { code: 0, layers: 0 },
-        layer: LayerPart {
-            code: 0,
-            nodes: 0,
-            node: 0,
-            lines: 0,
-            line: 0,
-            areas: 0,
-            area: 0,
-            letters: 0,
-        },
-        line: LinePart { points: 0 },
-        area: AreaPart {
-            loops: 0,
-            begun: 0,
-            count: 0,
-            entries: 0,
-        },
-    }
+    State::default()
 }
 
 // What is left of `n` when `by` are taken.
@@ -198,12 +180,10 @@ fn layer_part(t: &[u8]) -> LayerPart
     LayerPart {
         code: size_at(t, records::LAYER_CODE),
         nodes: size_at(t, records::LAYER_NODES),
-        node: 0,
         lines: size_at(t, records::LAYER_LINES),
-        line: 0,
         areas: size_at(t, records::LAYER_AREAS),
-        area: 0,
         letters: records::head_letters(t),
+        ..LayerPart::default()
     }
 }
 
@@ -222,6 +202,7 @@ fn behind_layer(s: State, t: &[u8]) -> State
 }
 
 // The state behind the record `t`: each replaces a part.
+#[tactic(auto, using(crate::proofs::Walking::next_entries), unfolding(crate::specs::States::next_of, crate::specs::States::due_of))]
 pub fn next(s: State, t: &[u8]) -> State
     ensures { result ≡ next_of s t.now }
 {
@@ -283,9 +264,7 @@ pub fn next(s: State, t: &[u8]) -> State
             },
             area: AreaPart {
                 loops: size_at(t, records::AREA_LOOPS),
-                begun: 0,
-                count: 0,
-                entries: 0,
+                ..AreaPart::default()
             },
             ..s
         };
@@ -343,29 +322,20 @@ fn pass_nodes(s: State, most: usize) -> Pass
     }
 }
 
-// Passes no record.
-fn pass_none(s: State) -> Pass
-    ensures { (result.records ≡ 0) × (result.state ≡ passed s result.records) }
-{
-    Pass {
-        state: s,
-        records: 0,
-    }
-}
-
 // Passes the coordinate records that come next, or else the nodes, in one step: all of them, and no more
 // than `most`.
+#[tactic(auto, unfolding(crate::specs::Quiet::quiet_ahead))]
 pub fn pass_quiet(s: State, most: usize) -> Pass
     ensures { (result.records ≡ min most (quiet_ahead s)) × (result.state ≡ passed s result.records) }
 {
     if 0 < s.line.points {
         return pass_points(s, most);
     }
-    if 0 < s.area.entries {
-        return pass_none(s);
-    }
-    if s.area.begun < s.area.loops {
-        return pass_none(s);
+    if 0 < s.area.entries || s.area.begun < s.area.loops {
+        return Pass {
+            state: s,
+            records: 0,
+        };
     }
     pass_nodes(s, most)
 }
@@ -373,6 +343,7 @@ pub fn pass_quiet(s: State, most: usize) -> Pass
 // ---- stage 1
 
 // How many records are judged: those that there are, and no more than there may be.
+#[tactic(auto, using(std::proofs::lemmas::Bool::Decides::nat_tests), unfolding(crate::specs::Stages::records_of))]
 pub fn records_of(file: &[u8]) -> usize
     ensures { (result ≡ records_of file.now) × (result ≤ 6399936) }
 {
@@ -380,17 +351,18 @@ pub fn records_of(file: &[u8]) -> usize
 }
 
 // The line end of a record.
+#[tactic(auto, unfolding(crate::specs::Stages::end_checks, verdict::specs::Rules::first_broken, verdict::specs::Rules::block))]
 fn judge_end(t: &[u8], row: u32) -> Verdict
     ensures { result ≡ first_broken (block 1 row (end_checks t.now)) }
 {
-    if rules::byte_at(t, 72) != 13 {
+    if rules::byte_at(t, 72) != b'\r' {
         return Err(Refusal {
             number: 2,
             place: row,
             column: 73,
         });
     }
-    if rules::byte_at(t, 73) != 10 {
+    if rules::byte_at(t, 73) != b'\n' {
         return Err(Refusal {
             number: 2,
             place: row,
@@ -401,11 +373,12 @@ fn judge_end(t: &[u8], row: u32) -> Verdict
 }
 
 // The length of a file; `row` is the record behind the last that is judged.
+#[tactic(auto, unfolding(crate::specs::Stages::length_checks, verdict::specs::Rules::first_broken, verdict::specs::Rules::block))]
 fn judge_length(n: usize, row: u32) -> Verdict
     ensures { result ≡ first_broken (block 1 row (length_checks n)) }
 {
     let whole = n / 74;
-    if (1 <= whole) & ((whole <= 6399936) & (n % 74 == 0)) {
+    if 1 <= whole && whole <= 6399936 && n % 74 == 0 {
         return Ok(());
     }
     Err(Refusal {
@@ -428,21 +401,8 @@ fn stage_one(file: &[u8]) -> Verdict
 
 // ---- stage 2
 
-// Nothing counted.
-fn no_counts() -> Counts
-    ensures { result ≡ no_counts }
-{
-    Counts {
-        meshes: 0,
-        layers: 0,
-        nodes: 0,
-        lines: 0,
-        areas: 0,
-        words: 0,
-    }
-}
-
 // The counts with a record more.
+#[tactic(auto, unfolding(crate::specs::States::layer_words))]
 fn counted(c: Counts, d: Due, t: &[u8]) -> Counts
     requires { Countable c }
     ensures { result ≡ counted_for d c t.now }
@@ -490,6 +450,7 @@ fn counted_past(c: Counts, s: State, h: usize) -> Counts
 }
 
 // The end of a file where `d` is due: 4 but for a mesh.
+#[tactic(auto, unfolding(crate::specs::Stages::last_checks, verdict::specs::Rules::first_broken, verdict::specs::Rules::block))]
 fn judge_last(d: Due, row: u32) -> Verdict
     ensures { result ≡ first_broken (block 2 row (last_checks d)) }
 {
@@ -525,7 +486,7 @@ fn stage_two(file: &[u8]) -> Result<Counts, Refusal>
 {
     let n = records_of(file);
     let mut s = at_start();
-    let mut c = no_counts();
+    let mut c = Counts::default();
     let mut k: usize = 0;
     // a quiet run is one step, so no range counts this
     while k < n {
@@ -620,7 +581,7 @@ fn fill(file: &[u8], total: Counts, table: &mut [u32])
         areas: rows + total.lines,
     };
     let mut s = at_start();
-    let mut c = no_counts();
+    let mut c = Counts::default();
     let mut k: usize = 0;
     // a quiet run is one step, so no range counts this
     while k < n {
@@ -659,6 +620,7 @@ pub fn fill_table(file: &[u8], table: &mut [u32]) -> Result<Counts, Refused>
 // ---- the need
 
 // The words that a file needs; 0 for a file refused in stage 1 or 2.
+#[tactic(auto, unfolding(crate::specs::Stages::need_of))]
 pub fn need(file: &[u8]) -> usize
     ensures { result ≡ need_of file.now }
 {

@@ -1,8 +1,8 @@
-use mathlib.Core.Path.{sym}
-use Prim.Native.Nat.{◌-◌}
+use mathlib.Core.Path.{◌≡◌, refl}
 use native.Mathlib.Omega.{arith}
-use lib.Seq.{length-take-le}
+use lib.ListN.{length}
 use borrow.Author.Rules.{rules}
+use Rattle.std.proofs.lemmas.Result.{err_from_is_err_and}
 use Rattle.walk.specs.States.{counts_at}
 use Rattle.layers.proofs.Walks.{stands, records_are, rows_are, stands_behind, stands_past, records_past}
 use Rattle.layers.proofs.Stages.{passed_first, passed_more, passed_quiet, stage_stops, stage_done}
@@ -14,62 +14,55 @@ use Rattle.loops.proofs.stage_five.Goals as goal
 pub loop-x-init : goal.loop-x-init
 unfolding counts_at
 loop-x-init c =
-    let e = c.at_first-x.ensures _ in (
-      stands _ _ _ e (omega arith),
-      λ h. passed_first sixth (areas_at _ _) _ _ _ e,
-      search rules,
-      search rules,
-      search rules,
-      λ h p. absurd (omega (arith, p, rows_are _ _ _ e)),
-      unrepeated_none _ _,
-    )
+    let e = c.at_first-x.ensures _ in record {
+      standing = stands _ _ _ e (omega arith);
+      passed = λ h. passed_first sixth (areas_at _ _) _ _ _ e;
+      room = search rules;
+      all_kept = search rules;
+      all_marks = search rules;
+      lines = λ h p. absurd (omega (arith, p, rows_are _ _ _ e));
+      slots = unrepeated_none _ _;
+    }
 
-pub slice_bounds-judge_record-end : goal.slice_bounds-judge_record-end
-slice_bounds-judge_record-end c =
-    sym (length-take-le _ _ (omega (arith, c.loop-x.invariant.2, c.loop-x.invariant.3)))
-
-pub returns-in-Broken : goal.returns-in-Broken
+pub returns-in_err-judge_record : goal.returns-in_err-judge_record
 unfolding stage_five
-returns-in-Broken c =
-    let e = c.loop-x.invariant.0.here in
+returns-in_err-judge_record c =
+    let i = c.loop-x.invariant in
+    let p = err_from_is_err_and c.from_residual.result c.from_residual.ensures.1 in
     λ w.
-    let h = c.judge_record-v.ensures (kept_for _ _ _ e c.due-d.ensures _ (c.loop-x.invariant.5 w)) in
-    stage_stops sixth (areas_at _ _) _ _ _ e c.records_of-n.ensures.0 c.loop-x-test.true (rw c.due-d.ensures at h) c.in-Broken.is (c.loop-x.invariant.1 w)
-
-pub slice_bounds-kept_behind-end : goal.slice_bounds-kept_behind-end
-slice_bounds-kept_behind-end c =
-    sym c.loop-x.invariant.3
-
-pub kept_behind-have-requires : goal.kept_behind-have-requires
-kept_behind-have-requires c =
-    omega (arith, c.loop-x.invariant.2, c.loop-x.invariant.3)
+    let h = c.in_err-judge_record.ensures (kept_for _ _ _ i.standing.here c.due-d.ensures _ (i.lines w)) in
+    rw (p.1, p.2)
+    (stage_stops sixth (areas_at _ _) _ _ _ i.standing.here c.records_of-n.ensures.0 c.loop-x-test.true (rw c.due-d.ensures at h) refl (i.passed w))
 
 pub loop-x-smaller : goal.loop-x-smaller
 loop-x-smaller c =
-    let y = c.behind-x.ensures c.loop-x.invariant.0.here (rw c.records_of-n.ensures.0 at c.loop-x-test.true) in
+    let y = c.behind-x.ensures c.loop-x.invariant.standing.here (rw c.records_of-n.ensures.0 at c.loop-x-test.true) in
     omega (arith, c.loop-x-test.true, records_are _ _ _ y, records_past _ _ c.past_quiet-x.ensures)
 
 pub loop-x-preserved : goal.loop-x-preserved
 loop-x-preserved c =
-    let e = c.loop-x.invariant.0.here in
-    let i = rw c.records_of-n.ensures.0 at c.loop-x-test.true in
-    let y = c.behind-x.ensures e i in
-    let p = stands_behind _ _ _ c.loop-x.invariant.0 i y in (
-      stands_past _ _ _ p _ c.past_quiet-x.ensures,
-      λ s.
-          let h = c.judge_record-v.ensures (kept_for _ _ _ e c.due-d.ensures _ (c.loop-x.invariant.5 s)) in
-          let f = passed_more sixth (areas_at _ _) _ _ _ e y (rw c.due-d.ensures at h) c.in_default.is (c.loop-x.invariant.1 s) in
-          passed_quiet sixth (areas_at _ _) _ _ _ p.here _ c.past_quiet-x.ensures (quiet_none _ _) f,
-      omega (arith, c.kept_behind-have.ensures.room, c.kept-in-loop-x-2-1.given),
-      c.kept-in-loop-x-2-1.given,
-      c.marks-in-loop-x-1.given,
-      λ s.
+    let i = c.loop-x.invariant in
+    let e = i.standing.here in
+    let m = rw c.records_of-n.ensures.0 at c.loop-x-test.true in
+    let y = c.behind-x.ensures e m in
+    let p = stands_behind _ _ _ i.standing m y in
+    let k : length c.kept_behind-have.new.kept ≡ 9999 = search rules in record {
+      standing = stands_past _ _ _ p _ c.past_quiet-x.ensures;
+      passed = λ s.
+          let h = c.in_ok-judge_record.ensures (kept_for _ _ _ e c.due-d.ensures _ (i.lines s)) in
+          let f = passed_more sixth (areas_at _ _) _ _ _ e y (rw c.due-d.ensures at h) refl (i.passed s) in
+          passed_quiet sixth (areas_at _ _) _ _ _ p.here _ c.past_quiet-x.ensures (quiet_none _ _) f;
+      room = omega (arith, c.kept_behind-have.ensures.room);
+      all_kept = k;
+      all_marks = search rules;
+      lines = λ s.
           rw c.past_quiet-x.ensures
-          (kept_next _ _ _ e y c.due-d.ensures c.kept_behind-have.ensures (omega (arith, c.loop-x.invariant.3)) i s (c.loop-x.invariant.5 s)),
-      rw c.past_quiet-x.ensures (known_next _ _ _ e y c.due-d.ensures c.known_behind-known.ensures),
-    )
+          (kept_next _ _ _ e y c.due-d.ensures c.kept_behind-have.ensures (omega (arith, i.all_kept)) m s (i.lines s));
+      slots = rw c.past_quiet-x.ensures (known_next _ _ _ e y c.due-d.ensures c.known_behind-known.ensures);
+    }
 
 pub returns : goal.returns
 unfolding stage_five
 returns c =
-    λ w. stage_done sixth (areas_at _ _) _ _ _ c.loop-x.invariant.0 c.records_of-n.ensures.0 c.loop-x-test.false (c.loop-x.invariant.1 w)
+    let i = c.loop-x.invariant in
+    λ w. stage_done sixth (areas_at _ _) _ _ _ i.standing c.records_of-n.ensures.0 c.loop-x-test.false (i.passed w)

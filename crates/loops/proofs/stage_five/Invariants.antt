@@ -11,14 +11,15 @@ use Rattle.loops.specs.Scanning.{Unrepeated, SoundTable}
 use Rattle.loops.proofs.stage_five.Given as goal
 
 abbrev pub invariant-loop-x : goal.invariant-loop-x
-invariant-loop-x l =
-    Stands l.file l.table l.b l.x
-    × (SoundTable l.file l.table l.b → Passed sixth (areas_at l.file l.table) l.file l.table l.b l.x)
-    × (l.have ≤ 9999)
-    × (length l.kept ≡ 9999)
-    × (length l.marks ≡ 20000)
-    × (SoundTable l.file l.table l.b → 0 < l.x.rows → Kept l.file l.table l.x.layer (take l.have l.kept))
-    × Unrepeated l.file (area_record l.table l.x.layer l.x.state.layer.area) l.known
+invariant-loop-x l = record {
+  standing : Stands l.file l.table l.b l.x;
+  passed : SoundTable l.file l.table l.b → Passed sixth (areas_at l.file l.table) l.file l.table l.b l.x;
+  room : l.have ≤ 9999;
+  all_kept : length l.kept ≡ 9999;
+  all_marks : length l.marks ≡ 20000;
+  lines : SoundTable l.file l.table l.b → 0 < l.x.rows → Kept l.file l.table l.x.layer (take l.have l.kept);
+  slots : Unrepeated l.file (area_record l.table l.x.layer l.x.state.layer.area) l.known;
+}
 
 abbrev pub decreases-loop-x : goal.decreases-loop-x
 decreases-loop-x l = l.n - l.x.records

@@ -1,27 +1,27 @@
-use mathlib.Core.Bool.{false}
-use Prim.Native.Nat.{◌-◌}
+-- `sides::lists` meets its contract: it asks each slot whether it is the entry. A record with slots is one that the file has, so the record
+-- behind it can be counted. Assumes nothing.
+use mathlib.Core.Bool.{true, false}
+use mathlib.Core.Path.{◌≡◌, refl}
+use Prim.Native.Nat.{◌<◌}
+use native.Mathlib.Nat.{le_refl}
 use native.Mathlib.Omega.{arith}
-use Rattle.sides.proofs.Marked.{area_there, lists_start, lists_hit, lists_pass, lists_done}
 use borrow.Author.Rules.{rules}
+use Rattle.std.proofs.lemmas.Iterator.{cases_from_any, serves_from_Range, YieldsList-from_range}
+use Rattle.permitted.proofs.Signs.{passed_on}
+use Rattle.sides.specs.Sides.{lists}
+use Rattle.links.proofs.Scans.{any_told}
+use Rattle.sides.proofs.Marked.{slot_is, area_there}
 use Rattle.sides.proofs.lists.Goals as goal
 
-pub loop-e-init : goal.loop-e-init
-loop-e-init c = (search rules, lists_start _ _ _ _)
-
-pub overflow_add-a : goal.overflow_add-a
-overflow_add-a c = omega (arith, area_there _ _ _ c.area_slots-slots.ensures.0 c.loop-e-test.true)
-
-pub returns-then-entry_is : goal.returns-then-entry_is
-returns-then-entry_is c =
-    lists_hit _ _ _ _ c.area_slots-slots.ensures.0 _ c.slot_of-v.type_inv c.slot_of-v.ensures
-    c.entry_is.ensures c.loop-e-test.true c.if-entry_is.true
-
-pub loop-e-preserved : goal.loop-e-preserved
-loop-e-preserved c = (
-  search rules,
-  lists_pass _ _ _ _ _ c.slot_of-v.type_inv c.slot_of-v.ensures
-      c.entry_is.ensures c.loop-e.invariant.1 c.if-entry_is.false,
-)
+pub any-requires-clause-callable : goal.any-requires-clause-callable
+any-requires-clause-callable c =
+    serves_from_Range (λ x q h. search rules) (λ x l m. search (rules, area_there _ _ _ c.area_slots-slots.ensures.0 m))
 
 pub returns : goal.returns
-returns c = lists_done _ _ _ _ c.area_slots-slots.ensures.0 _ c.loop-e.invariant.0 c.loop-e-test.false c.loop-e.invariant.1
+unfolding lists
+returns c =
+    let n = c.area_slots-slots.result in
+    let slot = slot_is c.args.file.now c.args.a c.args.back c.args.n in
+    let h = cases_from_any _ _ _ (λ i. i < n → slot i ≡ true) (λ i. i < n → slot i ≡ false)
+    c.any.ensures.ran (YieldsList-from_range 0 n n refl (omega arith)) (λ i q k l. search (rules, passed_on)) (λ i q k. search (rules, passed_on)) in
+    rw (← c.area_slots-slots.ensures.0) (any_told n n slot (le_refl n) _ h)

@@ -1,27 +1,14 @@
-use mathlib.Core.Path.{refl, ◌∙◌}
-use Prim.Native.Nat.{◌-◌}
 use native.Mathlib.Omega.{arith}
 use Rattle.sides.proofs.Marked.{area_there, marked_small, marked_more}
 use Rattle.sides.proofs.mark_area.Goals as goal
 
-pub loop-e-init : goal.loop-e-init
-loop-e-init c = (refl, c.requires)
-
 pub overflow_add-a : goal.overflow_add-a
-overflow_add-a c = omega (arith, area_there _ _ _ c.area_slots-n.ensures.0 c.loop-e-test.true)
+overflow_add-a c = omega (arith, area_there _ _ _ c.area_slots-e-end.ensures.0 c.loop-e-test.true)
 
 pub mark_at-requires : goal.mark_at-requires
 mark_at-requires c = marked_small _ _ _ c.slot_of-v.type_inv c.slot_of-v.ensures c.size.ensures
 
 pub loop-e-preserved : goal.loop-e-preserved
-loop-e-preserved c = (
-  c.put_mark.auto.marks ∙ c.loop-e.invariant.0,
-  marked_more _ _ _ c.slot_of-v.type_inv c.slot_of-v.ensures c.size.ensures c.natural.ensures
-      c.mark_at.ensures c.area_slots-n.ensures.0 c.loop-e-test.true c.loop-e.invariant.1 c.put_mark.ensures,
-)
-
-pub shape_of-marks : goal.shape_of-marks
-shape_of-marks c = c.loop-e.invariant.0
-
-pub returns : goal.returns
-returns c = c.loop-e.invariant.1
+loop-e-preserved c =
+    marked_more _ _ _ c.slot_of-v.type_inv c.slot_of-v.ensures c.size.ensures c.natural.ensures
+    c.mark_at.ensures c.area_slots-e-end.ensures.0 c.loop-e-test.true c.loop-e.invariant c.put_mark.ensures

@@ -9,11 +9,12 @@ use Rattle.sides.specs.Marking.{Marks}
 use Rattle.sides.proofs.stage_six.Given as goal
 
 abbrev pub invariant-loop-x : goal.invariant-loop-x
-invariant-loop-x l =
-    Stands l.file l.table l.b l.x
-    × Passed seventh (sides_at l.file l.table) l.file l.table l.b l.x
-    × Marks l.file l.marks
-    × (length l.marks ≡ 20000)
+invariant-loop-x l = record {
+  standing : Stands l.file l.table l.b l.x;
+  passed : Passed seventh (sides_at l.file l.table) l.file l.table l.b l.x;
+  marked : Marks l.file l.marks;
+  all_marks : length l.marks ≡ 20000;
+}
 
 abbrev pub decreases-loop-x : goal.decreases-loop-x
 decreases-loop-x l = l.n - l.x.records

@@ -3,7 +3,7 @@ use Prim.Native.Nat.{◌+◌, ◌≤◌}
 use native.Mathlib.Nat.{le_refl}
 use native.Mathlib.Omega.{arith}
 use borrow.Author.Rules.{rules}
-use Rattle.walk.specs.States.{due_of, state_at, counts_at}
+use Rattle.walk.specs.States.{no_counts, due_of, state_at, counts_at}
 use Rattle.walk.proofs.Walking.{at_none, next_state, counts_none, next_counts, countable}
 use Rattle.walk.proofs.Passing.{pass_most, pass_are_quiet, passed_state, passed_counts}
 use Rattle.walk.proofs.Filling.{none_filled, room_left, one_filled, quiet_filled, filled_many, all_filled}
@@ -11,12 +11,13 @@ use Rattle.walk.proofs.fill.Goals as goal
 use Rattle.walk.proofs.fill.Goals.{After-next-s}
 
 pub loop-k-init : goal.loop-k-init
-loop-k-init c = (
-  search rules,
-  c.at_start-s.ensures ∙ at_none _,
-  c.no_counts-c.ensures ∙ counts_none _,
-  none_filled _ _ c.records_of-n.ensures.0 c.requires.total_value c.requires.areas_in_bounds,
-)
+loop-k-init c =
+    let none : c.default-c.result ≡ no_counts = search rules in (
+      search rules,
+      c.at_start-s.ensures ∙ at_none _,
+      none ∙ counts_none _,
+      none_filled _ _ c.records_of-n.ensures.0 c.requires.total_value c.requires.areas_in_bounds,
+    )
 
 pub put_record-requires : goal.put_record-requires
 put_record-requires c =

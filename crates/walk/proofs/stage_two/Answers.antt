@@ -1,17 +1,18 @@
-use mathlib.Core.Path.{refl, ap, ◌∙◌}
+use mathlib.Core.Path.{◌≡◌, refl, ap, ◌∙◌}
 use native.Mathlib.Nat.{le_refl}
 use native.Mathlib.Omega.{arith}
 use borrow.Author.Rules.{rules}
 use Rattle.std.proofs.lemmas.Result.{err_from_is_err_and}
 use Rattle.verdict.proofs.Parts.{rows_none, rows_pass}
-use Rattle.walk.specs.States.{due_of}
+use Rattle.walk.specs.States.{no_counts, due_of}
 use Rattle.walk.proofs.Walking.{at_none, next_state, counts_none, next_counts, countable}
 use Rattle.walk.proofs.Passing.{past_counts, pass_most, pass_are_quiet, passed_state, passed_counts, found_most, found_fit, fine_rows}
 use Rattle.walk.proofs.Judging.{rule_is, two_stops, two_done, counts_done, walked_broken, walked_kept}
 use Rattle.walk.proofs.stage_two.Goals as goal
 
 pub loop-k-init : goal.loop-k-init
-loop-k-init c = (search rules, c.at_start-s.ensures ∙ at_none _, c.no_counts-c.ensures ∙ counts_none _, rows_none _)
+loop-k-init c =
+    let none : c.default-c.result ≡ no_counts = search rules in (search rules, c.at_start-s.ensures ∙ at_none _, none ∙ counts_none _, rows_none _)
 
 pub returns-in_err-judge_record : goal.returns-in_err-judge_record
 returns-in_err-judge_record c =
