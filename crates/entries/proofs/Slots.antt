@@ -14,7 +14,7 @@ use Rattle.records.specs.View.{record_of, number_in}
 use Rattle.records.proofs.Numbers.{record_past, number_none}
 use Rattle.permitted.specs.Permitted.{size}
 use Rattle.links.proofs.Numbers.{told}
-use Rattle.entries.specs.Entries.{records_for, count_at, loops_at, records_to, slots_of}
+use Rattle.entries.specs.Entries.{records_for, loops_at, records_to, slots_of}
 
 -- ---- a number of width 4
 
@@ -42,7 +42,3 @@ slots_none file a h = rw (number_none file a 25 4 (record_past file a h))
 pub records_few : (n : ℕ) → n ≤ 9999 → records_for n ≤ 834
 unfolding records_for
 records_few n h = omega arith
-
--- the answer r of `records_for` about the count n of the loop whose first record is f
-pub records_told : (file : List ℕ) (f : ℕ) {n r : ℕ} → (n ≡ count_at file f) × (n ≤ 9999) → r ≡ records_for n → (r ≡ records_for (count_at file f)) × (r ≤ 834)
-records_told file f {n} c e = (rw (← c.0) e, rw e (records_few n c.1))

@@ -43,14 +43,14 @@ answer_is g h e q = asked g h e q refl
 waits : (a b : Bool) {t : Bool} → a ≡ true → b ≡ t → (not a || b) ≡ t
 waits a b p q = rw (p, q)
 
-pub or_left : (a b : Bool) → a ≡ true → (a || b) ≡ true
+or_left : (a b : Bool) → a ≡ true → (a || b) ≡ true
 or_left a b p = rw p
 
-pub or_right : (a b : Bool) → b ≡ true → (a || b) ≡ true
+or_right : (a b : Bool) → b ≡ true → (a || b) ≡ true
 or_right true b q = refl
 or_right false b q = q
 
-pub or_none : (a b : Bool) → a ≡ false → b ≡ false → (a || b) ≡ false
+or_none : (a b : Bool) → a ≡ false → b ≡ false → (a || b) ≡ false
 or_none a b p q = rw (p, q)
 
 module _ (row c n : ℕ) (b : Bool) (cs : List Check) where

@@ -26,15 +26,6 @@ use Rattle.links.specs.Scanning.{clean, FirstRepeat}
 
 -- ---- some of the first n
 
-pub some_none : (f : ℕ → Bool) → some 0 f ≡ false
-unfolding some
-some_none f = refl
-
--- nor is it number n
-pub some_more : (n : ℕ) (f : ℕ → Bool) → some n f ≡ false → f n ≡ false → some (n + 1) f ≡ false
-unfolding some
-some_more n f h e = rw (add-one, h, e)
-
 pub some_hit : (n j : ℕ) (f : ℕ → Bool) → j < n → f j ≡ true → some n f ≡ true
 unfolding some
 some_hit zero j f l e = absurd (not-suc-le-zero l)

@@ -35,9 +35,6 @@ points_arm : (file t : List ℕ) (l : Layer) (line r : ℕ) {d : Due} {left q : 
 points_arm file t l line r e f h = rw (e, ← f) h
 
 module _ (file t : List ℕ) (l : Layer) (s : State) where
-  pub between_none : Between file t l s 0
-  between_none = record { fine = λ j r i. absurd (omega arith) }
-
   -- n is the line's number of points: fewer are left, and more than seven before each of the records
   pub between_some : {q n : ℕ} {z : ℤ} → 7 < s.line.points → s.line.points < n → q ≡ get_or t (l.line + (s.layer.line - 1)) 0
       → InWord z → z ≡ value_at file q column.line_points → n ≡ size (handed_on z) → Between file t l s ((s.line.points - 1) / 7)
