@@ -1,7 +1,7 @@
--- The areas' lines, record by record: how many areas came, and the text so far. Assumes nothing.
+-- The areas' lines, record by record: what a record adds to the text and to the areas, and which measures are shown. Assumes nothing.
 use mathlib.Core.Path.{◌≡◌, refl, ap₂}
 use mathlib.Core.List.{List, [], ◌++◌}
-use Prim.Native.Nat.{ℕ, zero, suc, ◌+◌, ◌/◌, ◌≤◌}
+use Prim.Native.Nat.{ℕ, zero, suc, ◌+◌, ◌/◌, ◌≤◌, ◌<◌}
 use native.Mathlib.Numerals.{add-one}
 use native.Mathlib.Omega.{arith}
 use lib.IntN.{ℤ, pos}
@@ -16,21 +16,12 @@ use Rattle.walk.specs.declared.Counts.{Counts}
 use Rattle.walk.specs.States.{due_of, state_at, counted_for, counts_at}
 use Rattle.walk.specs.Stages.{records_of}
 use Rattle.walk.proofs.Dues.{grown}
-use Rattle.report.specs.Texts.{shown_in, area_text, record_text, area_count, areas_text}
+use Rattle.report.specs.Texts.{shown_in, area_text, record_text, areas_text}
 
 -- the bound of the programs' input
 pub few_records : (file : List ℕ) → length file ≤ 65490 → records_of file ≤ 885
 unfolding records_of
 few_records file h = rw (le-ltb 6399936 (length file / 74) (omega arith)) (omega arith)
-
-counted_areas : (d : Due) (c : Counts) (t : List ℕ) → (counted_for d c t).areas ≡ c.areas + area_count d
-counted_areas (Mesh last) c t = omega arith
-counted_areas (Layer last) c t = omega arith
-counted_areas (Node layer last) c t = omega arith
-counted_areas (Line layer last letters) c t = omega arith
-counted_areas (Coordinates left) c t = omega arith
-counted_areas (Area layer last) c t = omega arith
-counted_areas (Loop last count left) c t = omega arith
 
 -- ---- a record more
 
@@ -67,15 +58,16 @@ module _ (file : List ℕ) (ms : List ℤ) (k : ℕ) where
 -- ---- the measures
 
 -- only an A's line shows its measure
-same_record : (d : Due) (s : State) (t : List ℕ) {m n : ℤ} → (area_count d ≡ 1 → m ≡ n) → record_text d s t m ≡ record_text d s t n
+same_record : (d : Due) (c : Counts) (s : State) (t : List ℕ) {m n : ℤ} → (c.areas < (counted_for d c t).areas → m ≡ n)
+    → record_text d s t m ≡ record_text d s t n
 unfolding record_text
-same_record (Mesh last) s t h = refl
-same_record (Layer last) s t h = refl
-same_record (Node layer last) s t h = refl
-same_record (Line layer last letters) s t h = refl
-same_record (Coordinates left) s t h = refl
-same_record (Area layer last) s t h = rw (h refl)
-same_record (Loop last count left) s t h = refl
+same_record (Mesh last) c s t h = refl
+same_record (Layer last) c s t h = refl
+same_record (Node layer last) c s t h = refl
+same_record (Line layer last letters) c s t h = refl
+same_record (Coordinates left) c s t h = refl
+same_record (Area layer last) c s t h = rw (h (omega arith))
+same_record (Loop last count left) c s t h = refl
 
 -- where there is one for each area, what stands behind them is not shown
 pub areas_told : (file : List ℕ) (ms rest : List ℤ) → length ms ≡ (counts_at file (records_of file)).areas → (k : ℕ) → k ≤ records_of file
@@ -83,8 +75,7 @@ pub areas_told : (file : List ℕ) (ms rest : List ℤ) → length ms ≡ (count
 unfolding areas_text counts_at
 areas_told file ms rest e zero l = refl
 areas_told file ms rest e (suc k) l =
-    let d = due_of (state_at file k) in
-    let c = counted_areas d (counts_at file k) (record_of file (suc k)) in
     let g = (grown file (records_of file) (suc k) l).areas in
     ap₂ ◌++◌ (areas_told file ms rest e k (omega arith))
-    (same_record d (state_at file k) (record_of file (suc k)) (λ one. get_or-append ms rest (pos 0) (counts_at file k).areas (omega (arith, c, g, e, one))))
+    (same_record (due_of (state_at file k)) (counts_at file k) (state_at file k) (record_of file (suc k))
+    (λ one. get_or-append ms rest (pos 0) (counts_at file k).areas (omega (arith, g, e, one))))

@@ -161,16 +161,6 @@ record_text (Coordinates left) s t m = []
 record_text (Area layer last) s t m = area_text (shown_in s t) m
 record_text (Loop last count left) s t m = []
 
--- how many areas the record begins
-abbrev pub area_count : Due → ℕ
-area_count (Mesh last) = 0
-area_count (Layer last) = 0
-area_count (Node layer last) = 0
-area_count (Line layer last letters) = 0
-area_count (Coordinates left) = 0
-area_count (Area layer last) = 1
-area_count (Loop last count left) = 0
-
 -- RULES 12.2: of the first k records, one line an area, in file order; ms has the areas' measures
 unfoldable pub areas_text : List ℕ → List ℤ → ℕ → List ℕ
 areas_text file ms zero = []

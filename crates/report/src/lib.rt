@@ -14,7 +14,7 @@ use judge::Outcome;
 pub use page::Page;
 use rules::Due;
 use std::io::{Read, Write};
-use streams::Told;
+use streams::Failed;
 use walk::State;
 
 mod page;
@@ -173,7 +173,7 @@ pub fn check<R: Read, W: Write, E: Write>(
     source: &mut R,
     output: &mut W,
     errors: &mut E,
-) -> Result<(), Told>
+) -> Result<(), Failed>
     ensures { OnOk result (IfSome (R.remaining source.old) (λ input. Appends (W.contents output.old) (W.contents output.new) (check_text input))) }
 {
     let mut input = [0u8; READ];
@@ -197,7 +197,7 @@ pub fn measure<R: Read, W: Write, E: Write>(
     source: &mut R,
     output: &mut W,
     errors: &mut E,
-) -> Result<(), Told>
+) -> Result<(), Failed>
     ensures { OnOk result (IfSome (R.remaining source.old) (λ input. Appends (W.contents output.old) (W.contents output.new) (measure_text input))) }
 {
     let mut input = [0u8; READ];

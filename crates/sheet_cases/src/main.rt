@@ -5,10 +5,10 @@ use std::env::FillError;
 use std::fs::File;
 use std::io::{Error, ErrorKind, Write};
 use std::rt::{Env, Files};
-use streams::Told;
+use streams::Failed;
 
 // Opens a file for one program. Where that fails, `errors` is told.
-fn opened<R: Files, E: Write>(rt: &R, errors: &mut E, name: &[u8]) -> Result<R::File, Told> {
+fn opened<R: Files, E: Write>(rt: &R, errors: &mut E, name: &[u8]) -> Result<R::File, Failed> {
     let opened = match str::from_utf8(name) {
         Ok(path) => File::open(rt, path),
         Err(_) => Err(Error::from(ErrorKind::InvalidFilename)),

@@ -13,7 +13,7 @@ use std::io::{Error, Read, Write};
 
 // A read or a write failed, and the standard error was told why.
 #[derive(Clone, Copy, Debug)]
-pub struct Told;
+pub struct Failed;
 
 // Reads until `input` is full or what `source` gives ends, and answers how many bytes that were. Where a read
 // fails, `errors` is told `what` and why.
@@ -22,7 +22,7 @@ pub fn read_input<R: Read, E: Write>(
     errors: &mut E,
     input: &mut [u8],
     what: &[u8],
-) -> Result<usize, Told>
+) -> Result<usize, Failed>
     ensures within { Within result input.new }
     ensures bytes { Taken (R.remaining source.old) (R.remaining source.new) result input.new }
 {
@@ -43,7 +43,7 @@ pub fn write_text<W: Write, E: Write>(
     errors: &mut E,
     text: &[u8],
     what: &[u8],
-) -> Result<(), Told>
+) -> Result<(), Failed>
     ensures { OnOk result (Appends (W.contents output.old) (W.contents output.new) text.now) }
 {
     output
@@ -52,14 +52,14 @@ pub fn write_text<W: Write, E: Write>(
 }
 
 // Tells `errors` in a line `what`, a colon and why. If that fails too, there is nobody left to tell.
-pub fn tell<E: Write>(errors: &mut E, what: &[u8], why: &Error) -> Told {
+pub fn tell<E: Write>(errors: &mut E, what: &[u8], why: &Error) -> Failed {
     let mut text = [0u8; 320];
     let n = put_shown(&mut text, why);
     let _ = errors.write_all(what);
     let _ = errors.write_all(b": ");
     let _ = errors.write_all(in_words(&text[..n]).as_bytes());
     let _ = errors.write_all(b"\n");
-    Told
+    Failed
 }
 
 // What is shown of `why` stands in the first bytes of `text`, as many as are answered.
