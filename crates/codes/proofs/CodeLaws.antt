@@ -24,7 +24,7 @@ use Rattle.codes.specs.declared.Code.{Code}
 -- ---- the text of land
 
 -- no other text is land
-land_text_lem : (f : List ℕ) → is_land f ≡ true → f ≡ land_text
+pub land_text_lem : (f : List ℕ) → is_land f ≡ true → f ≡ land_text
 unfolding is_land
 land_text_lem f h =
     let l = both (eqb (length f) 5) _ h in
@@ -48,7 +48,7 @@ land_number : number_of land_text ≡ None
 unfolding number_of signed_of plain_of after_blanks
 land_number = refl
 
-land_is : is_land land_text ≡ true
+pub land_is : is_land land_text ≡ true
 unfolding is_land
 land_is = refl
 
@@ -69,9 +69,7 @@ says_by s c w v m None true e l q =
     let t = land_text_lem (bytes_at s c w) b.1 in
     let n : w ≡ 5 = sym (bytes_length s c w b.0) ∙ ap length t in
     rw (← p, ← z) (record { there = b.0; held = rw (eq-eqb w 5 n); spelled = t })
-says_by s c w v m None false e l q =
-    let z : ◌≡◌ {A = ℕ} 0 1 = cc in
-    absurd (omega arith)
+says_by s c w v m None false e l q = absurd (cc)
 
 -- a value with its mark is read only where the field says it ..
 pub code_says : (s : List ℕ) (c w : ℕ) (v : ℤ) (m : ℕ) → code_at s c w ≡ Some (code v m) → CodeSays s c w v m
@@ -83,9 +81,7 @@ land_holds_lem : (w : ℕ) (v : ℤ) → land_holds w v ≡ true → (w ≡ 5) �
 land_holds_lem w (pos n) h =
     let b = both (eqb w 5) (eqb n 0) h in
     (eqb-true _ _ b.0, ap pos (eqb-true _ _ b.1))
-land_holds_lem w (negsuc n) h =
-    let z : ◌≡◌ {A = ℕ} 0 1 = cc in
-    absurd (omega arith)
+land_holds_lem w (negsuc n) h = absurd (cc)
 
 no_number : (s : List ℕ) (c w : ℕ) → is_inside s c w ≡ true → bytes_at s c w ≡ land_text → number_at s c w ≡ None
 unfolding number_at
@@ -100,8 +96,7 @@ code_read s c w v (suc zero) h =
     rw (n, h.there, h.spelled, land_is, p.1)
 code_read s c w v (suc (suc m)) h =
     let f = h.held in
-    let z : ◌≡◌ {A = ℕ} 0 1 = cc in
-    absurd (omega arith)
+    absurd (cc)
 
 -- a code with a mark is 0
 pub marked_zero : (s : List ℕ) (c w : ℕ) (v : ℤ) (m : ℕ) → code_at s c w ≡ Some (code v (suc m)) → v ≡ pos 0
@@ -109,8 +104,7 @@ unfolding code_holds
 marked_zero s c w v zero e = (land_holds_lem w v (code_says s c w v 1 e).held).1
 marked_zero s c w v (suc m) e =
     let h = (code_says s c w v (suc (suc m)) e).held in
-    let z : ◌≡◌ {A = ℕ} 0 1 = cc in
-    absurd (omega arith)
+    absurd (cc)
 
 -- the answer by refusal number (RULES 6.2): 0 with the value and the mark that the field says, or 5 where it says none
 answer_by : (s : List ℕ) (c w : ℕ) (r : Option Code) → code_at s c w ≡ r
@@ -119,9 +113,7 @@ answer_by s c w (Some k) e = inl (refl, code_says s c w k.value k.mark e)
 answer_by s c w None e = inr (refl, λ v m h. refuses (sym e ∙ code_read s c w v m h))
   where
     refuses : {v : ℤ} {m : ℕ} → None ≡ Some (code v m) → ⊥
-    refuses q =
-        let z : ◌≡◌ {A = ℕ} 0 1 = cc in
-        omega arith
+    refuses q = cc
 
 pub code_answer : (s : List ℕ) (c w : ℕ)
     → ((code_refusal (code_at s c w) ≡ 0) × CodeSays s c w (code_value (code_at s c w)) (code_mark (code_at s c w)))
@@ -152,9 +144,7 @@ pub spell_code_length : (w : ℕ) (v : ℤ) (m : ℕ) → code_holds w v m ≡ t
 unfolding code_holds spell_code
 spell_code_length w v zero h = spell_length w v
 spell_code_length w v (suc zero) h = sym (land_holds_lem w v h).0
-spell_code_length w v (suc (suc m)) h =
-    let z : ◌≡◌ {A = ℕ} 0 1 = cc in
-    absurd (omega arith)
+spell_code_length w v (suc (suc m)) h = absurd (cc)
 
 -- reading what was written gives the value and the mark
 pub code_written_read : (s : List ℕ) (c w : ℕ) (v : ℤ) (m : ℕ) → code_fits s c w v m ≡ true → code_at (put s c (spell_code w v m)) c w ≡ Some (code v m)

@@ -1,45 +1,29 @@
 -- A code field's answers, put together from what the steps of the code found. Assumes nothing.
 use mathlib.Core.Bool.{Bool, true, false, ◌&&◌}
-use mathlib.Core.List.{List, [], ◌∷◌, ◌++◌}
-use mathlib.Core.Path.{◌≡◌, refl, ap, ◌∙◌}
-use Prim.Native.Nat.{ℕ, zero, suc, ◌+◌, ◌-◌, ◌≤◌}
-use native.Mathlib.Nat.{suc-add}
+use mathlib.Core.List.{List, ◌++◌}
+use mathlib.Core.Path.{◌≡◌, refl, ap}
+use Prim.Native.Nat.{ℕ, zero, suc, ◌+◌, ◌-◌}
 use native.Mathlib.Omega.{arith}
-use lib.Dec.{eqb}
 use lib.IntN.{ℤ, pos, negsuc}
-use lib.ListN.{length, get_or, take, drop, set}
+use lib.ListN.{take, drop}
 use mir.Syntax.{w32}
 use mir.Val.{SFits, of_z}
 use borrow.Author.Tests.{eq-eqb, ne_eqb}
-use Rattle.std.specs.Prelude.{Option, Some, None}
+use Rattle.std.specs.Bool.{one_answer}
+use Rattle.std.specs.Prelude.{◌↔◌, Option, Some, None}
 use Rattle.fields.specs.Answer.{Writing, done, unfit, number_fits, Wrote}
 use Rattle.fields.specs.Number.{number_at}
 use Rattle.fields.specs.Place.{is_inside}
 use Rattle.fields.specs.Spelling.{spell}
-use Rattle.fields.proofs.Places.{part_is}
 use Rattle.codes.specs.Code.{land_text, code, is_land, land_at, code_at, land_holds, code_holds, spell_code, code_fits}
+use Rattle.codes.proofs.CodeLaws.{land_text_lem, land_is}
 use Rattle.writers.proofs.Answers.{wrote_nothing, wrote_all}
 
 -- ---- land
 
-pub land_long : (f : List ℕ) → (length f ≡ 5 → ⊥) → false ≡ is_land f
-unfolding is_land
-land_long f h = rw (ne_eqb _ _ h)
-
-pub land_five : (f : List ℕ) → length f ≡ 5
-    → (eqb (get_or f 0 0) 32 && (eqb (get_or f 1 0) 48 && (eqb (get_or f 2 0) 48 && (eqb (get_or f 3 0) 48 && eqb (get_or f 4 0) 48)))) ≡ is_land f
-unfolding is_land
-land_five f h = rw (eq-eqb _ _ h)
-
--- t is the answer to whether the field lies inside
-module _ (s : List ℕ) (c w : ℕ) {t : Bool} (e : t ≡ is_inside s c w) where
-  pub land_outside : t ≡ false → false ≡ land_at s c w
-  unfolding land_at
-  land_outside n = rw (← e, n)
-
-  pub land_inside : t ≡ true → {r : Bool} → r ≡ is_land (take (c - 1 + w - (c - 1)) (drop (c - 1) s)) → r ≡ land_at s c w
-  unfolding land_at
-  land_inside y q = q ∙ rw (part_is s c w, ← e, y)
+-- a test for its text
+pub land_iff : (f : List ℕ) (r : Bool) → r ≡ true ↔ (f ≡ land_text) → r ≡ is_land f
+land_iff f r h = one_answer r (is_land f) h (land_text_lem f, λ e. rw e land_is)
 
 -- ---- reading: r is the answer to the number, and l to land
 
@@ -118,15 +102,3 @@ module _ (s : List ℕ) (c w : ℕ) (v : ℤ) (m : ℕ) where
         unfolding code_fits code_holds spell_code
         land_written z y after q =
             rw e (wrote_all (is_inside s c w && land_holds w v) s c land_text (rw (← i, y, z, eq-eqb w 5 f)) after 5 refl q)
-
--- five bytes, stored one behind the other
-pub five_stored : (i : ℕ) (s : List ℕ) (a b c d e : ℕ) → i + 5 ≤ length s
-    → set (set (set (set (set s i a) (i + 1) b) (i + 2) c) (i + 3) d) (i + 4) e ≡ take i s ++ (a ∷ b ∷ c ∷ d ∷ e ∷ drop (i + 5) s)
-five_stored zero [] a b c d e h = absurd (omega arith)
-five_stored zero (v ∷ []) a b c d e h = absurd (omega arith)
-five_stored zero (v ∷ w ∷ []) a b c d e h = absurd (omega arith)
-five_stored zero (v ∷ w ∷ x ∷ []) a b c d e h = absurd (omega arith)
-five_stored zero (v ∷ w ∷ x ∷ y ∷ []) a b c d e h = absurd (omega arith)
-five_stored zero (v ∷ w ∷ x ∷ y ∷ z ∷ s) a b c d e h = refl
-five_stored (suc i) [] a b c d e h = absurd (omega arith)
-five_stored (suc i) (x ∷ s) a b c d e h = simp suc-add (ap (λ l. x ∷ l) (five_stored i s a b c d e (omega arith)))

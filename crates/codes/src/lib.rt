@@ -24,24 +24,17 @@ pub struct Code {
 fn is_land(f: &[u8]) -> bool
     ensures { result ≡ is_land f.now }
 {
-    if f.len() != 5 {
-        return false;
-    }
-    (f[0] == 32) & ((f[1] == 48) & ((f[2] == 48) & ((f[3] == 48) & (f[4] == 48))))
+    f == b" 0000".as_slice()
 }
 
 // Whether the `width` columns from `column` on are.
 fn land_at(s: &[u8], column: usize, width: usize) -> bool
     ensures { result ≡ land_at s.now column width }
 {
-    if !fields::inside(s, column, width) {
-        return false;
-    }
-    let at = column - 1;
-    is_land(&s[at..at + width])
+    fields::bytes_at(s, column, width).is_some_and(is_land)
 }
 
-// Reads the code field of `width` columns from `column` on: a number, or else land. Refused: what is
+// Reads the code field of `width` columns from `column` on: a number, or else land. None: what is
 // neither.
 pub fn read_code(s: &[u8], column: usize, width: usize) -> Option<Code>
     ensures { result ≡ code_at s.now column width }
@@ -58,7 +51,13 @@ pub fn read_code(s: &[u8], column: usize, width: usize) -> Option<Code>
 // Writes `value` into the code field of `width` columns from `column` on, spelled as `mark` says. Refused,
 // with `buf` as it was: a field that is not in `buf`, a mark that is neither 0 nor 1, and a value that the
 // field does not hold with that mark: " 0000" is 0 in five columns.
-pub fn write_code(buf: &mut [u8], column: usize, width: usize, value: i32, mark: u32) -> Result<(), Unfit>
+pub fn write_code(
+    buf: &mut [u8],
+    column: usize,
+    width: usize,
+    value: i32,
+    mark: u32,
+) -> Result<(), Unfit>
     ensures { Wrote (code_fits buf.old column width value mark) buf.old column (spell_code width value mark) result buf.new }
 {
     if mark == 0 {
@@ -77,10 +76,6 @@ pub fn write_code(buf: &mut [u8], column: usize, width: usize, value: i32, mark:
         return Err(Unfit);
     }
     let at = column - 1;
-    buf[at] = 32;
-    buf[at + 1] = 48;
-    buf[at + 2] = 48;
-    buf[at + 3] = 48;
-    buf[at + 4] = 48;
+    buf[at..at + 5].copy_from_slice(b" 0000");
     Ok(())
 }

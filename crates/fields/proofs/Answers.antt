@@ -1,20 +1,29 @@
--- The answer to a number field, put together from what a reader's steps found. Assumes nothing.
+-- A reader's answer, put together from what its steps found. Assumes nothing.
 use mathlib.Core.Bool.{Bool, true, false}
 use mathlib.Core.List.{List}
-use mathlib.Core.Path.{◌≡◌}
-use Prim.Native.Nat.{ℕ, ◌+◌, ◌-◌}
-use lib.ListN.{take, drop}
-use Rattle.std.specs.Prelude.{None}
+use mathlib.Core.Path.{◌≡◌, ap, ◌∙◌}
+use Prim.Native.Nat.{ℕ}
+use denote.Bor.{Bor}
+use Rattle.std.specs.Prelude.{Option, Some, None, MatchOption}
 use Rattle.fields.specs.Number.{number_of, number_at}
-use Rattle.fields.specs.Place.{is_inside}
-use Rattle.fields.proofs.Places.{part_is}
+use Rattle.fields.specs.Place.{is_inside, bytes_at}
+use Rattle.fields.specs.Text.{text_at}
 
--- t is the answer to whether the field lies inside
-module _ (s : List ℕ) (c w : ℕ) {t : Bool} (e : t ≡ is_inside s c w) where
-  pub number_outside : t ≡ false → None ≡ number_at s c w
+module _ (s : List ℕ) (c w : ℕ) where
+  -- t is the answer to whether the field lies inside
+  pub number_outside : {t : Bool} → t ≡ is_inside s c w → t ≡ false → None ≡ number_at s c w
   unfolding number_at
-  number_outside n = rw (← e, n)
+  number_outside e n = rw (← e, n)
 
-  pub number_inside : t ≡ true → number_of (take (c - 1 + w - (c - 1)) (drop (c - 1) s)) ≡ number_at s c w
+  -- f are its bytes
+  pub number_within : is_inside s c w ≡ true → {f : List ℕ} → f ≡ bytes_at s c w → number_of f ≡ number_at s c w
   unfolding number_at
-  number_inside y = rw (part_is s c w, ← e, y)
+  number_within i e = rw (e, i)
+
+-- a name, a blank or another text that p judges: o are the field's bytes, and r is the answer
+pub text_answer : (p : List ℕ → Bool) (s : List ℕ) (c w : ℕ) (o : Option (Bor (List ℕ))) (r : Bool)
+    → MatchOption o (is_inside s c w ≡ false) (λ f. (is_inside s c w ≡ true) × (f.now ≡ bytes_at s c w))
+    → MatchOption o (r ≡ false) (λ f. r ≡ p f.now) → r ≡ text_at p s c w
+unfolding text_at
+text_answer p s c w None r i e = rw i e
+text_answer p s c w (Some f) r i e = rw i.0 (e ∙ ap p i.1)

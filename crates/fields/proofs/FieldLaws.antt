@@ -6,7 +6,6 @@ use mathlib.Core.Logic.{◌⊎◌, inl, inr}
 use mathlib.Core.Path.{◌≡◌, refl, sym, ◌∙◌}
 use Prim.Native.Nat.{ℕ, zero, suc, ◌^◌, ◌<◌}
 use native.Mathlib.Nat.{one-le-pow}
-use native.Mathlib.Omega.{arith}
 use lib.Dec.{eqb, lit<}
 use lib.IntN.{ℤ, nat_abs}
 use lib.ListN.{length, replicate, length-replicate}
@@ -29,9 +28,7 @@ says_by : (s : List ℕ) (c w : ℕ) (v : ℤ) (t : Bool) → is_inside s c w �
 says_by s c w v true i e =
     let l = bytes_length s c w i in
     record { there = i; held = rw l at (holds_read (bytes_at s c w) v e); spelled = sym (rw l at (spelled_read (bytes_at s c w) v e)) }
-says_by s c w v false i e =
-    let z : ◌≡◌ {A = ℕ} 0 1 = cc in
-    absurd (omega arith)
+says_by s c w v false i e = absurd (cc)
 
 -- a value is read only where the field says it ..
 pub number_says : (s : List ℕ) (c w : ℕ) (v : ℤ) → number_at s c w ≡ Some v → Says s c w v
@@ -50,9 +47,7 @@ answer_by s c w (Some v) e = inl (refl, number_says s c w v e)
 answer_by s c w None e = inr (refl, λ v h. refuses (sym e ∙ number_read s c w v h))
   where
     refuses : {v : ℤ} → None ≡ Some v → ⊥
-    refuses q =
-        let z : ◌≡◌ {A = ℕ} 0 1 = cc in
-        omega arith
+    refuses q = cc
 
 pub number_answer : (s : List ℕ) (c w : ℕ)
     → ((number_refusal (number_at s c w) ≡ 0) × Says s c w (value_of (number_at s c w))) ⊎ ((number_refusal (number_at s c w) ≡ 5) × ((v : ℤ) → Says s c w v → ⊥))
@@ -156,9 +151,7 @@ blanks_only (b ∷ f) h = only_by b f (λ k. blanks_only f k) (eqb b 32) refl h
     only_by b f ih true e h =
         let q : b ≡ 32 = eqb-true _ _ e in
         rw (q, ← ih h)
-    only_by b f ih false e h =
-        let z : ◌≡◌ {A = ℕ} 0 1 = cc in
-        absurd (omega arith)
+    only_by b f ih false e h = absurd (cc)
 
 pub spaces_blank : (w : ℕ) → is_blanks (replicate w 32) ≡ true
 unfolding is_blanks
@@ -196,9 +189,7 @@ writing_number {fits} h = rw h.answer (writing_number_by fits)
 -- what a caller learns from a writer's answer: it is written, or nothing fitted
 done_by : (t : Bool) → cond t done unfit ≡ done → t ≡ true
 done_by true e = refl
-done_by false e =
-    let z : ◌≡◌ {A = ℕ} 0 1 = cc in
-    absurd (omega arith)
+done_by false e = absurd (cc)
 
 pub wrote_done : {fits : Bool} {before t after : List ℕ} {c : ℕ} {r : Writing}
     → Wrote fits before c t r after → r ≡ done → (fits ≡ true) × (after ≡ put before c t)
@@ -207,9 +198,7 @@ wrote_done {fits} h e =
     (y, h.buffer ∙ rw y)
 
 refused_by : (t : Bool) → cond t done unfit ≡ unfit → t ≡ false
-refused_by true e =
-    let z : ◌≡◌ {A = ℕ} 0 1 = cc in
-    absurd (omega arith)
+refused_by true e = absurd (cc)
 refused_by false e = refl
 
 pub wrote_refused : {fits : Bool} {before t after : List ℕ} {c : ℕ} {r : Writing}

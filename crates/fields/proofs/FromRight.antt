@@ -17,6 +17,7 @@ use Rattle.fields.specs.Ending.{DigitsFrom, EndsIn, Plain}
 use Rattle.fields.specs.Number.{is_blank, is_minus, is_digit, after_blanks, digits_of, zero_then, plain_of, minus, signed_of, number_of}
 use Rattle.fields.specs.Text.{is_blanks}
 use Rattle.fields.proofs.Places.{both}
+use Rattle.fields.proofs.Spelled.{digit_first, minus_first}
 
 -- ---- the digits, one more at each step to the left
 
@@ -65,8 +66,7 @@ digits_more f (suc j) n u p e s l h =
 not_digit : {X : Type 0} (b : ℕ) → 48 ≤ b → b ≤ 57 → is_digit b ≡ false → X
 not_digit b l h d =
     let e : is_digit b ≡ true = rw (le-leb _ _ l, le-leb _ _ h) in
-    let z : ◌≡◌ {A = ℕ} 0 1 = cc in
-    absurd (omega arith)
+    absurd (cc)
 
 both_arms : (t : Bool) {x y r : Option ℤ} → x ≡ r → y ≡ r → cond t x y ≡ r
 both_arms true p q = p
@@ -117,19 +117,6 @@ blanks_passed : (q ys : List ℕ) → is_blanks q ≡ true → after_blanks (q +
 unfolding after_blanks is_blanks
 blanks_passed [] ys h = refl
 blanks_passed (z ∷ q) ys h = blanks_by z q ys (λ k. blanks_passed q ys k) (is_blank z) h
-
--- a digit is no space and no sign
-module _ (b : ℕ) (ys : List ℕ) (l : 48 ≤ b) where
-  pub digit_first : signed_of (after_blanks (b ∷ ys)) ≡ plain_of (b ∷ ys)
-  unfolding signed_of after_blanks
-  digit_first =
-      let n : b ≡ 32 → ⊥ = λ e. omega arith in
-      let m : b ≡ 45 → ⊥ = λ e. omega arith in
-      rw (ne_eqb _ _ n, ne_eqb _ _ m)
-
-minus_first : (ys : List ℕ) → signed_of (after_blanks (45 ∷ ys)) ≡ minus (plain_of ys)
-unfolding signed_of after_blanks
-minus_first ys = refl
 
 -- another byte that is no digit, by what stands behind it
 first_by : (b : ℕ) (ys : List ℕ) → is_digit b ≡ false → signed_of (after_blanks ys) ≡ None → plain_of ys ≡ None
@@ -271,15 +258,14 @@ module _ {f : List ℕ} {i n : ℕ} (g : Plain f i n) where
 
     -- "-" behind something else than spaces
     pub refused_minus : is_blanks (take (i - 1) f) ≡ false → number_of f ≡ None
-    refused_minus b = refused_before (λ t. let z : ◌≡◌ {A = ℕ} 0 1 = cc in absurd (omega arith))
+    refused_minus b = refused_before (λ t. absurd (cc))
 
     no_space : is_blanks (take i f) ≡ false → is_blanks (take (i - 1) f) ≡ true → get_or f (i - 1) 0 ≡ 32 → ⊥
     no_space b t s =
         let y : suc (i - 1) ≡ i = omega arith in
         let q : take i f ≡ take (i - 1) f ++ (get_or f (i - 1) 0 ∷ []) = rw y at (take-suc f (i - 1) 0 (omega (arith, g.some))) in
         let k : is_blanks (take i f) ≡ true = ap is_blanks q ∙ blanks_snoc (take (i - 1) f) (get_or f (i - 1) 0) t s in
-        let z : ◌≡◌ {A = ℕ} 0 1 = cc in
-        omega arith
+        cc
 
     -- neither spaces nor "-"
     pub refused_other : (get_or f (i - 1) 0 ≡ 45 → ⊥) → is_blanks (take i f) ≡ false → number_of f ≡ None
@@ -296,15 +282,6 @@ module _ (b i n : ℕ) where
 
   pub leads_not : eqb b 48 && not (eqb (i + 1) n) ≡ false → b ≡ 48 → i + 1 ≡ n
   leads_not t e = eqb-true _ _ (not-false _ (rw (eq-eqb _ _ e) at t))
-
--- what the next digit counts
-pub unit_small : (f : List ℕ) (i u : ℕ) → length f ≤ 6 → 0 < i → u ≡ 10 ^ (length f - i) → u ≤ 100000
-unit_small f i u h p e =
-    let q : 10 ^ (length f - i) ≤ 10 ^ 5 = pow-le-pow_right (lit< tt) {i = length f - i} {j = 5} (omega arith) in
-    omega arith
-
-pub digit_small : (d u : ℕ) → d ≤ 9 → u ≤ 100000 → d * u ≤ 900000
-digit_small d u h l = omega (arith, mul-le-mul_right u h)
 
 -- "-0"
 pub minus_none : (n : ℕ) → n ≡ 0 → minus (Some (pos n)) ≡ None

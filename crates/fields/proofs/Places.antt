@@ -1,5 +1,5 @@
 -- A field's place: what `is_inside` says of numbers, and `put` and `bytes_at` against each other. Assumes nothing.
-use mathlib.Core.Bool.{Bool, true, false, not, ◌&&◌}
+use mathlib.Core.Bool.{Bool, true, false, ◌&&◌}
 use mathlib.Core.List.{List, ◌++◌}
 use mathlib.Core.Path.{◌≡◌, refl, sym, ap, ◌∙◌}
 use Prim.Native.Nat.{ℕ, ◌+◌, ◌-◌, ◌≤◌, ◌<◌}
@@ -7,15 +7,13 @@ use native.Mathlib.Omega.{arith}
 use lib.Dec.{leb}
 use lib.ListN.{length, take, drop, length-append, length-drop, take-append-drop}
 use lib.Seq.{length-take-le, take_at, drop_at, drop-drop}
-use borrow.Author.Tests.{le-leb, lt-leb, leb-true, not-false}
+use borrow.Author.Tests.{le-leb, lt-leb, leb-true, leb-false}
 use Rattle.fields.specs.Place.{is_inside, bytes_at, put}
 
 -- both of two tests that hold together
 pub both : (a b : Bool) → a && b ≡ true → (a ≡ true) × (b ≡ true)
 both true b e = (refl, e)
-both false b e =
-    let z : ◌≡◌ {A = ℕ} 0 1 = cc in
-    absurd (omega arith)
+both false b e = absurd (cc)
 
 module _ (s : List ℕ) (c w : ℕ) where
   pub inside_none : c ≡ 0 → is_inside s c w ≡ false
@@ -30,15 +28,23 @@ module _ (s : List ℕ) (c w : ℕ) where
   unfolding is_inside
   inside_fits p l = rw (le-leb 1 c p, le-leb _ _ l)
 
+  -- as the code asks it, so that no sum can wrap
+  pub inside_rest : 1 ≤ c → c - 1 ≤ length s → leb w (length s - (c - 1)) ≡ is_inside s c w
+  inside_rest p l = by (leb w (length s - (c - 1))) refl
+    where
+      by : (t : Bool) → leb w (length s - (c - 1)) ≡ t → t ≡ is_inside s c w
+      by true e =
+          let h = leb-true _ _ e in
+          sym (inside_fits p (omega arith))
+      by false e =
+          let h = leb-false _ _ e in
+          sym (inside_short p (omega arith))
+
   pub inside_bounds : is_inside s c w ≡ true → (1 ≤ c) × (c - 1 + w ≤ length s)
   unfolding is_inside
   inside_bounds e =
       let t = both (leb 1 c) (leb (c - 1 + w) (length s)) e in
       (leb-true _ _ t.0, leb-true _ _ t.1)
-
-  -- as the code asks it: `!inside(..)` was false
-  pub passed : (r : Bool) → r ≡ is_inside s c w → not r ≡ false → (1 ≤ c) × (c - 1 + w ≤ length s)
-  passed r e n = inside_bounds (sym e ∙ not-false r n)
 
   -- the part that the code cuts out
   pub part_is : take (c - 1 + w - (c - 1)) (drop (c - 1) s) ≡ bytes_at s c w

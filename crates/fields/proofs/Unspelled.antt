@@ -19,12 +19,6 @@ use Rattle.fields.proofs.Columns.{columns_length, columns_suc, blanks_front}
 use Rattle.fields.proofs.Places.{both}
 use Rattle.fields.proofs.Range.{InRange, range_wider, range_holds}
 
--- a refusal is no value
-not-refused {ℓ} : {X : Type ℓ} {v : ℤ} → None ≡ Some v → X
-not-refused e =
-    let z : ◌≡◌ {A = ℕ} 0 1 = cc in
-    absurd (omega arith)
-
 value_is : {u v : ℤ} → Some u ≡ Some v → u ≡ v
 value_is e = cc
 
@@ -47,7 +41,7 @@ Said a ds v = (n : ℕ) × (v ≡ pos n) × (n < (a + 1) * 10 ^ length ds)
 
 said_by : (b : ℕ) (ds : List ℕ) (a : ℕ) (v : ℤ) → ((a' : ℕ) → digits_of a' ds ≡ Some v → Said a' ds v)
     → (t : Bool) → is_digit b ≡ t → cond t (digits_of (a * 10 + (b - 48)) ds) None ≡ Some v → Said a (b ∷ ds) v
-said_by b ds a v ih false t e = not-refused e
+said_by b ds a v ih false t e = absurd (cc)
 said_by b ds a v ih true t e =
     let d = digit_range b t in
     let s = ih (a * 10 + (b - 48)) e in
@@ -71,7 +65,7 @@ more_by : (m : Bool) (b : ℕ) (ds : List ℕ) (a n k : ℕ) → 0 < a
     → ((a' k' : ℕ) → 0 < a' → digits_of a' ds ≡ Some (pos n) → columns (k' + length ds) (Digits n m) ≡ columns k' (Digits a' m) ++ ds)
     → (t : Bool) → is_digit b ≡ t → cond t (digits_of (a * 10 + (b - 48)) ds) None ≡ Some (pos n)
     → columns (k + suc (length ds)) (Digits n m) ≡ columns k (Digits a m) ++ (b ∷ ds)
-more_by m b ds a n k p ih false t e = not-refused e
+more_by m b ds a n k p ih false t e = absurd (cc)
 more_by m b ds a n k p ih true t e =
     let d = digit_range b t in
     let q = appended m a b d.0 d.1 p in
@@ -89,7 +83,7 @@ more m (b ∷ ds) a n k p e = more_by m b ds a n k p (λ a' k' p' e'. more m ds 
 first_by : (m : Bool) (b : ℕ) (ds : List ℕ) (n k : ℕ) → (b ≡ 48 → ⊥) → (t : Bool)
     → is_digit b ≡ t → cond t (digits_of (0 * 10 + (b - 48)) ds) None ≡ Some (pos n)
     → columns (k + suc (length ds)) (Digits n m) ≡ columns k (cond m Minus Blanks) ++ (b ∷ ds)
-first_by m b ds n k z false t e = not-refused e
+first_by m b ds n k z false t e = absurd (cc)
 first_by m b ds n k z true t e =
     let d = digit_range b t in
     let l = d.0 in
@@ -119,7 +113,7 @@ zero_spelled false h k = rw (add-one, ← append-nil (columns (suc k) (Digits 0 
 plain_by : (b : ℕ) (bs : List ℕ) (v : ℤ) (t : Bool) → eqb b 48 ≡ t
     → cond t (zero_then bs) (digits_of 0 (b ∷ bs)) ≡ Some v → (n : ℕ) × (v ≡ pos n) × Plain (b ∷ bs) n
 plain_by b [] v true t e = (0, sym (value_is e), record { small = lit< tt; spelled = rw (eqb-true b 48 t) zero_spelled })
-plain_by b (c ∷ bs) v true t e = not-refused e
+plain_by b (c ∷ bs) v true t e = absurd (cc)
 plain_by b bs v false t e =
     let s = digits_said (b ∷ bs) 0 v e in
     let q : digits_of 0 (b ∷ bs) ≡ Some (pos s.0) = e ∙ ap Some s.1 in
@@ -127,7 +121,7 @@ plain_by b bs v false t e =
 
 plain : (bs : List ℕ) (v : ℤ) → plain_of bs ≡ Some v → (n : ℕ) × (v ≡ pos n) × Plain bs n
 unfolding plain_of
-plain [] v e = not-refused e
+plain [] v e = absurd (cc)
 plain (b ∷ bs) v e = plain_by b bs v (eqb b 48) refl e
 
 -- so it is a natural number of no more digits than there are bytes
@@ -155,9 +149,9 @@ minus_spelled bs n g k =
     rw s (g.spelled true (λ z. omega arith) (suc k) ∙ columns_suc k Minus bs)
 
 behind_by : (bs : List ℕ) (v : ℤ) (x : Option ℤ) → plain_of bs ≡ x → minus x ≡ Some v → Signed (45 ∷ bs) v
-behind_by bs v None d e = not-refused e
-behind_by bs v (Some (negsuc n)) d e = not-refused e
-behind_by bs v (Some (pos zero)) d e = not-refused e
+behind_by bs v None d e = absurd (cc)
+behind_by bs v (Some (negsuc n)) d e = absurd (cc)
+behind_by bs v (Some (pos zero)) d e = absurd (cc)
 behind_by bs v (Some (pos (suc n))) d e =
     let p = plain bs (pos (suc n)) d in
     let i : p.0 ≡ suc n = cc p.1 in
@@ -172,7 +166,7 @@ tail_by b bs v false t e = unsigned (b ∷ bs) v e
 
 tail : (r : List ℕ) (v : ℤ) → signed_of r ≡ Some v → Signed r v
 unfolding signed_of
-tail [] v e = not-refused e
+tail [] v e = absurd (cc)
 tail (b ∷ bs) v e = tail_by b bs v (eqb b 45) refl e
 
 -- ---- behind the spaces
@@ -204,7 +198,7 @@ read_by f v true t e =
       held = range_holds (length f) v t (range_wider (length (after_blanks f)) (length f) v (omega arith) g.inside);
       spelled = ap (λ w. columns w (left_of v)) l ∙ g.spelled s.0 ∙ sym s.1;
     }
-read_by f v false t e = not-refused e
+read_by f v false t e = absurd (cc)
 
 read : (f : List ℕ) (v : ℤ) → number_of f ≡ Some v → Read f v
 unfolding number_of

@@ -14,8 +14,8 @@
 // speed alone, `writers` writes all three.
 #![tactic(auto)]
 
-ghost use Rattle.std.specs.Prelude.{◌≡◌};
-ghost use Rattle.fields.specs.Place.{is_inside};
+ghost use Rattle.std.specs.Prelude.{◌≡◌, true, false, MatchOption};
+ghost use Rattle.fields.specs.Place.{is_inside, bytes_at};
 
 // Refusal 20: what does not fit, with the buffer as it was. A writer's answer is a `Result` with it.
 #[derive(Clone, Copy, Debug, PartialEq, Eq)]
@@ -34,14 +34,16 @@ pub enum Left {
 pub fn inside(s: &[u8], column: usize, width: usize) -> bool
     ensures { result ≡ is_inside s.now column width }
 {
-    if column == 0 {
-        return false;
+    1 <= column && column - 1 <= s.len() && width <= s.len() - (column - 1)
+}
+
+// The bytes of those columns, or none where they do not lie within `s`.
+pub fn bytes_at(s: &[u8], column: usize, width: usize) -> Option<&[u8]>
+    ensures { MatchOption result (is_inside s.now column width ≡ false) (λ f. (is_inside s.now column width ≡ true) × (f.now ≡ bytes_at s.now column width)) }
+{
+    if !inside(s, column, width) {
+        return None;
     }
-    if s.len() < column - 1 {
-        return false;
-    }
-    if s.len() - (column - 1) < width {
-        return false;
-    }
-    true
+    let at = column - 1;
+    Some(&s[at..at + width])
 }

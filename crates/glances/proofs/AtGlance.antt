@@ -11,6 +11,7 @@ use lib.IntN.{ℤ, pos, negsuc}
 use lib.ListN.{length, get_or, take, drop, replicate, length-append, length-replicate, length-drop, drop_of_length-le}
 use lib.Seq.{drop-cons}
 use borrow.Author.Tests.{ltb-true, ltb-false, lt-ltb, le-ltb, le-leb, leb-true, leb-false, eqb-true, eqb-false, eq-eqb, ne_eqb, not-false}
+use Rattle.core.specs.Bool.{then_some}
 use Rattle.std.specs.Prelude.{Option, Some, None}
 use Rattle.fields.specs.Answer.{value_of}
 use Rattle.fields.specs.Ending.{DigitsFrom, EndsIn, Plain}
@@ -21,11 +22,6 @@ use Rattle.fields.proofs.FromRight.{digits_none, digits_more, too_wide, taken, t
 use Rattle.fields.proofs.FromRight.{refused_endless, refused_zero, refused_minus, refused_other}
 use Rattle.fields.proofs.Places.{both}
 
-not_sure : {X : Type 0} {v : ℕ} → None ≡ Some v → X
-not_sure e =
-    let z : ◌≡◌ {A = ℕ} 0 1 = cc in
-    absurd (omega arith)
-
 -- what a sure glance says of the answer n
 sure_by : {v : ℕ} (n : Option ℤ) → glimpse_of n ≡ Some v → (n ≡ Some (pos v)) × (v < 100000)
 sure_by {v} (Some (pos m)) e = by (ltb m 100000) refl e
@@ -35,9 +31,9 @@ sure_by {v} (Some (pos m)) e = by (ltb m 100000) refl e
         let q : m ≡ v = cc in
         let s : m < 100000 = ltb-true _ _ l in
         (rw q, rw q at s)
-    by false l e = not_sure e
-sure_by (Some (negsuc m)) e = not_sure e
-sure_by None e = not_sure e
+    by false l e = absurd (cc)
+sure_by (Some (negsuc m)) e = absurd (cc)
+sure_by None e = absurd (cc)
 
 pub sure_says : {n : Option ℤ} {v : ℕ} (g : Option ℕ) → g ≡ Some v → g ≡ glimpse_of n → (n ≡ Some (pos v)) × (v < 100000)
 sure_says {n} g e h = sure_by n (sym h ∙ e)
@@ -47,7 +43,7 @@ pub unsure_says : {n : Option ℤ} {v : ℕ} (g : Option ℕ) → g ≡ None →
 unsure_says {n} {v} g e h q = by (ltb v 100000) refl (sym (ap glimpse_of q) ∙ sym h ∙ e)
   where
     by : (t : Bool) → ltb v 100000 ≡ t → cond t (Some v) None ≡ None → 100000 ≤ v
-    by true l e = not_sure (sym e)
+    by true l e = absurd (cc)
     by false l e = ltb-false _ _ l
 
 -- a byte that passed the code's test
@@ -60,8 +56,8 @@ is_digit_lem b h =
     let t = both (leb 48 b) (leb b 57) h in
     record { low = leb-true _ _ t.0; high = leb-true _ _ t.1 }
 
-pub passed_digit : (b : ℕ) (r : Bool) → r ≡ is_digit b → not r ≡ false → Digit b
-passed_digit b r e n = is_digit_lem b (sym e ∙ not-false r n)
+pub passed_digit : (b : ℕ) (r : Bool) → r ≡ is_digit b → r ≡ true → Digit b
+passed_digit b r e n = is_digit_lem b (sym e ∙ n)
 
 abbrev pub bytes : ℕ → ℕ → ℕ → ℕ → ℕ → List ℕ
 bytes a b c d e = a ∷ b ∷ c ∷ d ∷ e ∷ []
@@ -94,9 +90,7 @@ glimpse_minus None = refl
 
 some_before : (f : List ℕ) (i : ℕ) → is_blanks (take i f) ≡ false → 0 < i
 unfolding is_blanks
-some_before f zero e =
-    let z : ◌≡◌ {A = ℕ} 0 1 = cc in
-    absurd (omega arith)
+some_before f zero e = absurd (cc)
 some_before f (suc i) e = omega arith
 
 module _ {f : List ℕ} {i n : ℕ} (g : Plain f i n) where
@@ -107,7 +101,7 @@ module _ {f : List ℕ} {i n : ℕ} (g : Plain f i n) where
   glimpse_behind p s true false t b = ap glimpse_of (refused_minus g p b)
   glimpse_behind p s false _ t b = ap glimpse_of (refused_other g p (eqb-false _ _ t) s)
 
-  glimpse_plain : length f ≤ 5 → (b : Bool) → is_blanks (take i f) ≡ b → cond b (Some n) None ≡ glimpse_of (number_of f)
+  glimpse_plain : length f ≤ 5 → (b : Bool) → is_blanks (take i f) ≡ b → then_some b n ≡ glimpse_of (number_of f)
   glimpse_plain w true b =
       let u : 10 ^ (length f - i) ≤ 10 ^ 5 = pow-le-pow_right (lit< tt) {i = length f - i} {j = 5} (omega arith) in
       sym (ap glimpse_of (taken_plain g b) ∙ glimpse_small n (omega (arith, g.ends.digits.small)))
@@ -119,13 +113,13 @@ is_sure f i = (eqb (i + 1) (length f) || not (eqb (get_or f i 0) 48)) && is_blan
 
 module _ {f : List ℕ} {i n : ℕ} (e : EndsIn f i n) (l : i < length f) (w : length f ≤ 5) where
   glimpse_by : (a z : Bool) → eqb (i + 1) (length f) ≡ a → eqb (get_or f i 0) 48 ≡ z
-      → cond ((a || not z) && is_blanks (take i f)) (Some n) None ≡ glimpse_of (number_of f)
+      → then_some ((a || not z) && is_blanks (take i f)) n ≡ glimpse_of (number_of f)
   glimpse_by true z a q = glimpse_plain (record { ends = e; some = l; narrow = omega arith; alone = λ _. eqb-true _ _ a }) w (is_blanks (take i f)) refl
   glimpse_by false false a q =
       glimpse_plain (record { ends = e; some = l; narrow = omega arith; alone = λ y. absurd (eqb-false _ _ q y) }) w (is_blanks (take i f)) refl
   glimpse_by false true a q = sym (ap glimpse_of (refused_zero e l (eqb-true _ _ q) (eqb-false _ _ a)))
 
-  pub glimpse : (t : Bool) → t ≡ is_sure f i → cond t (Some n) None ≡ glimpse_of (number_of f)
+  pub glimpse : (t : Bool) → t ≡ is_sure f i → then_some t n ≡ glimpse_of (number_of f)
   glimpse t q = rw q (glimpse_by (eqb (i + 1) (length f)) (eqb (get_or f i 0) 48) refl refl)
 
 -- no digit at the end
@@ -155,24 +149,21 @@ two_tests false q s = sym (and-false s)
 
 -- each place where the digits of five bytes may begin, with the code's test
 module _ {a b c d e n : ℕ} where
-  pub from_4 : EndsIn (bytes a b c d e) 4 n → (t : Bool) → ((eqb a 32 && eqb b 32) && eqb c 32) && eqb d 32 ≡ t
-      → cond t (Some n) None ≡ glimpse_of (number_of (bytes a b c d e))
+  pub from_4 : EndsIn (bytes a b c d e) 4 n → then_some (((eqb a 32 && eqb b 32) && eqb c 32) && eqb d 32) n ≡ glimpse_of (number_of (bytes a b c d e))
   unfolding is_blanks
-  from_4 g t q = glimpse g (lit< tt) (lit≤ tt) t (sym q ∙ four_tests (eqb a 32) (eqb b 32) (eqb c 32) (eqb d 32))
+  from_4 g = glimpse g (lit< tt) (lit≤ tt) _ (four_tests (eqb a 32) (eqb b 32) (eqb c 32) (eqb d 32))
 
-  pub from_3 : EndsIn (bytes a b c d e) 3 n → (t : Bool) → ((eqb a 32 && eqb b 32) && eqb c 32) && not (eqb d 48) ≡ t
-      → cond t (Some n) None ≡ glimpse_of (number_of (bytes a b c d e))
+  pub from_3 : EndsIn (bytes a b c d e) 3 n → then_some (((eqb a 32 && eqb b 32) && eqb c 32) && not (eqb d 48)) n ≡ glimpse_of (number_of (bytes a b c d e))
   unfolding is_blanks
-  from_3 g t q = glimpse g (lit< tt) (lit≤ tt) t (sym q ∙ three_tests (eqb a 32) (eqb b 32) (eqb c 32) (not (eqb d 48)))
+  from_3 g = glimpse g (lit< tt) (lit≤ tt) _ (three_tests (eqb a 32) (eqb b 32) (eqb c 32) (not (eqb d 48)))
 
-  pub from_2 : EndsIn (bytes a b c d e) 2 n → (t : Bool) → (eqb a 32 && eqb b 32) && not (eqb c 48) ≡ t
-      → cond t (Some n) None ≡ glimpse_of (number_of (bytes a b c d e))
+  pub from_2 : EndsIn (bytes a b c d e) 2 n → then_some ((eqb a 32 && eqb b 32) && not (eqb c 48)) n ≡ glimpse_of (number_of (bytes a b c d e))
   unfolding is_blanks
-  from_2 g t q = glimpse g (lit< tt) (lit≤ tt) t (sym q ∙ two_tests (eqb a 32) (eqb b 32) (not (eqb c 48)))
+  from_2 g = glimpse g (lit< tt) (lit≤ tt) _ (two_tests (eqb a 32) (eqb b 32) (not (eqb c 48)))
 
   -- a digit b behind a byte a that is none
   from_1_by : EndsIn (bytes a b c d e) 1 n → (s z : Bool) → eqb a 32 ≡ s → eqb b 48 ≡ z
-      → cond (not z && s) (Some n) None ≡ glimpse_of (number_of (bytes a b c d e))
+      → then_some (not z && s) n ≡ glimpse_of (number_of (bytes a b c d e))
   unfolding is_blanks
   from_1_by g s z p q = glimpse g (lit< tt) (lit≤ tt) (not z && s) (rw (p, q) (ap (λ x. not z && x) (same s)))
     where
@@ -180,11 +171,11 @@ module _ {a b c d e n : ℕ} where
       same true = refl
       same false = refl
 
-  pub from_1 : DigitsFrom (bytes a b c d e) 1 n → a ≡ 32 → (z : Bool) → eqb b 48 ≡ z → cond (not z) (Some n) None ≡ glimpse_of (number_of (bytes a b c d e))
-  from_1 s p z q = rw and-true at (from_1_by (record { digits = s; all = λ y. rw p }) true z (eq-eqb _ _ p) q)
+  pub from_1 : DigitsFrom (bytes a b c d e) 1 n → a ≡ 32 → then_some (not (eqb b 48)) n ≡ glimpse_of (number_of (bytes a b c d e))
+  from_1 s p = rw and-true at (from_1_by (record { digits = s; all = λ y. rw p }) true (eqb b 48) (eq-eqb _ _ p) refl)
 
   pub from_0 : DigitsFrom (bytes a b c d e) 1 n → Digit a → (z : Bool) → eqb a 48 ≡ z
-      → cond (not z) (Some (n + (a - 48) * 10000)) None ≡ glimpse_of (number_of (bytes a b c d e))
+      → then_some (not z) (n + (a - 48) * 10000) ≡ glimpse_of (number_of (bytes a b c d e))
   unfolding is_blanks
   from_0 s h z q =
       let g : EndsIn (bytes a b c d e) 0 (n + (a - 48) * 10000) = record {
@@ -313,9 +304,7 @@ zero_alone_by f true l h =
     let x = both (eqb (get_or f (length f - 1) 0) 48) (eqb (get_or f (length f - 2) 0) 32) h in
     let e : length f - 1 - 1 ≡ length f - 2 = omega arith in
     zero_by f (leb-true _ _ l) (eqb-true _ _ x.0) (rw e (eqb-true _ _ x.1)) (leb (length f) 6) (is_blanks (take (length f - 1) f)) refl refl
-zero_alone_by f false l h =
-    let z : ◌≡◌ {A = ℕ} 0 1 = cc in
-    absurd (omega arith)
+zero_alone_by f false l h = absurd (cc)
 
 pub zero_alone : (f : List ℕ) → is_lone_zero f ≡ true → value_of (number_of f) ≡ pos 0
 unfolding is_lone_zero

@@ -3,12 +3,12 @@
 use mathlib.Core.Bool.{Bool, true, false, cond}
 use mathlib.Core.List.{List, [], ◌∷◌, ◌++◌}
 use mathlib.Core.Path.{◌≡◌, refl, ◌∙◌}
-use Prim.Native.Nat.{ℕ, zero, suc, ◌+◌, ◌-◌, ◌*◌, ◌/◌, ◌%◌, ◌^◌, ◌≤◌, ◌<◌}
+use Prim.Native.Nat.{ℕ, zero, suc, ◌+◌, ◌*◌, ◌/◌, ◌%◌, ◌^◌, ◌≤◌, ◌<◌}
 use native.Mathlib.Nat.{pow-suc}
 use native.Mathlib.Omega.{arith}
 use lib.Dec.{leb, lit≤}
 use lib.IntN.{pos}
-use lib.ListN.{length, get_or, take, drop}
+use lib.ListN.{length, get_or}
 use borrow.Author.Tests.{leb-true, leb-false}
 use Rattle.std.specs.Prelude.{Some}
 use Rattle.glances.specs.Glimpse.{remainders, remainders_at}
@@ -18,7 +18,7 @@ use Rattle.fields.specs.Spelling.{rest_of, columns, spell}
 use Rattle.fields.specs.declared.Left.TheVariants.{Blanks, Digits}
 use Rattle.glances.proofs.AtGlance.{entries, entries_are}
 use Rattle.fields.proofs.FieldLaws.{number_says}
-use Rattle.fields.proofs.Places.{part_is, bytes_length}
+use Rattle.fields.proofs.Places.{bytes_length}
 use Rattle.fields.proofs.Range.{holds_size}
 
 last_remainder : (n : ℕ) (f : List ℕ) (b : ℕ) → remainders n (f ++ (b ∷ [])) ≡ remainders n f * 10 + b % 16
@@ -59,10 +59,10 @@ unfolding remainders entries
 five_sum f w = rw (← entries_are f 0 5 (omega arith)) (omega arith)
 
 module _ (s : List ℕ) (c w : ℕ) where
-  -- as the code adds up: the part that it cuts out where the field lies within s, and nothing where it does not
-  pub part_sum : is_inside s c w ≡ true → remainders 0 (take (c - 1 + w - (c - 1)) (drop (c - 1) s)) ≡ remainders_at s c w
+  -- the field's bytes f, where it lies within s, and nothing where it does not
+  pub part_sum : is_inside s c w ≡ true → {f : List ℕ} → f ≡ bytes_at s c w → remainders 0 f ≡ remainders_at s c w
   unfolding remainders_at
-  part_sum i = rw (i, part_is s c w)
+  part_sum i e = rw (e, i)
 
   pub no_sum : is_inside s c w ≡ false → 0 ≡ remainders_at s c w
   unfolding remainders_at

@@ -21,33 +21,21 @@ fn glance_at(a: u8, b: u8, c: u8, d: u8, e: u8) -> Option<u32>
     }
     let one = u32::from(e - b'0');
     if !d.is_ascii_digit() {
-        if (a == 32) & (b == 32) & (c == 32) & (d == 32) {
-            return Some(one);
-        }
-        return None;
+        return ((a == b' ') & (b == b' ') & (c == b' ') & (d == b' ')).then_some(one);
     }
     let two = one + u32::from(d - b'0') * 10;
     if !c.is_ascii_digit() {
-        if (a == 32) & (b == 32) & (c == 32) & (d != 48) {
-            return Some(two);
-        }
-        return None;
+        return ((a == b' ') & (b == b' ') & (c == b' ') & (d != b'0')).then_some(two);
     }
     let three = two + u32::from(c - b'0') * 100;
     if !b.is_ascii_digit() {
-        if (a == 32) & (b == 32) & (c != 48) {
-            return Some(three);
-        }
-        return None;
+        return ((a == b' ') & (b == b' ') & (c != b'0')).then_some(three);
     }
     let four = three + u32::from(b - b'0') * 1000;
-    if a == 32 {
-        if b != 48 {
-            return Some(four);
-        }
-        return None;
+    if a == b' ' {
+        return (b != b'0').then_some(four);
     }
-    if a.is_ascii_digit() & (a != 48) {
+    if a.is_ascii_digit() & (a != b'0') {
         return Some(four + u32::from(a - b'0') * 10000);
     }
     None
@@ -58,18 +46,13 @@ fn glance_at(a: u8, b: u8, c: u8, d: u8, e: u8) -> Option<u32>
 pub fn glance_in(f: &[u8]) -> Option<u32>
     ensures { result ≡ glimpse_of (number_of f.now) }
 {
-    match f.len() {
-        1 => glance_at(32, 32, 32, 32, f[0]),
-        2 => glance_at(32, 32, 32, f[0], f[1]),
-        3 => glance_at(32, 32, f[0], f[1], f[2]),
-        4 => glance_at(32, f[0], f[1], f[2], f[3]),
-        5 => glance_at(f[0], f[1], f[2], f[3], f[4]),
-        6 => {
-            if f[0] != 32 {
-                return None;
-            }
-            glance_at(f[1], f[2], f[3], f[4], f[5])
-        }
+    match *f {
+        [e] => glance_at(b' ', b' ', b' ', b' ', e),
+        [d, e] => glance_at(b' ', b' ', b' ', d, e),
+        [c, d, e] => glance_at(b' ', b' ', c, d, e),
+        [b, c, d, e] => glance_at(b' ', b, c, d, e),
+        [a, b, c, d, e] => glance_at(a, b, c, d, e),
+        [b' ', a, b, c, d, e] => glance_at(a, b, c, d, e),
         _ => None,
     }
 }
@@ -78,11 +61,7 @@ pub fn glance_in(f: &[u8]) -> Option<u32>
 pub fn glance_number(s: &[u8], column: usize) -> Option<u32>
     ensures { result ≡ glimpse_of (number_at s.now column 5) }
 {
-    if !fields::inside(s, column, 5) {
-        return None;
-    }
-    let at = column - 1;
-    glance_in(&s[at..at + 5])
+    glance_in(fields::bytes_at(s, column, 5)?)
 }
 
 // The remainders by 16 of five bytes, added up at the powers of ten: a space gives 0, and a digit itself.
@@ -102,20 +81,18 @@ fn remainders_of(f: &[u8]) -> u32
 pub fn sum_of_five(s: &[u8], column: usize) -> u32
     ensures { result ≡ remainders_at s.now column 5 }
 {
-    if !fields::inside(s, column, 5) {
+    let Some(f) = fields::bytes_at(s, column, 5) else {
         return 0;
-    }
-    let at = column - 1;
-    remainders_of(&s[at..at + 5])
+    };
+    remainders_of(f)
 }
 
 // Whether a field ends in a space and a "0": then its number is 0, or it has none (`zero_alone`).
 pub fn lone_zero(f: &[u8]) -> bool
     ensures { result ≡ is_lone_zero f.now }
 {
-    let n = f.len();
-    if n < 2 {
+    let [.., a, b] = *f else {
         return false;
-    }
-    (f[n - 1] == 48) & (f[n - 2] == 32)
+    };
+    (b == b'0') & (a == b' ')
 }

@@ -5,7 +5,7 @@ use Prim.Native.Nat.{ℕ, zero, suc, ◌≤◌, ◌<◌}
 use native.Mathlib.Omega.{arith}
 use lib.Dec.{lit<}
 use lib.IntN.{ℤ, pos, negsuc, neg_ℤ, ◌-ℤ◌, +ℤ_idl}
-use lib.ListN.{length, drop, length-drop}
+use lib.ListN.{length}
 use mir.Facts.{to_z-of_z, to_z_pos}
 use mir.Syntax.{w32}
 use mir.Val.{SFits, to_z, of_z}
@@ -33,11 +33,10 @@ minus_said (suc n) z = refl
 abbrev pub Small : ℤ → Type 0
 Small v = (n : ℕ) × (v ≡ pos n) × (n < 1000000)
 
-pub digits_small : (f : List ℕ) (i : ℕ) (v : ℤ) → length f ≤ 6 → plain_of (drop i f) ≡ Some v → Small v
-digits_small f i v l e =
-    let p = plain_size (drop i f) v e in
-    let k : length (drop i f) ≤ 6 = rw length-drop (omega arith) in
-    (p.0, p.1, sum_below _ _ 6 p.2 k)
+pub digits_small : (f : List ℕ) (v : ℤ) → length f ≤ 6 → plain_of f ≡ Some v → Small v
+digits_small f v l e =
+    let p = plain_size f v e in
+    (p.0, p.1, sum_below _ _ 6 p.2 l)
 
 module _ {v : ℤ} (s : Small v) where
   held : to_z w32 (of_z w32 v) ≡ pos s.0

@@ -2,12 +2,11 @@
 // `read_number` is the rule as the program has it. Every number that the library tells of a file is what it
 // says of the field's columns, and every refusal 5 of a number field is given by it.
 //
-// The contracts cite `Number` of `fields`, a definition a step: `after_blanks`, `plain_of`, and `number_at` for
-// the whole.
+// The contracts cite `Number` of `fields`: `is_width` and `plain_of` for a step each, and `number_at` for the whole.
 #![tactic(auto)]
 
-ghost use Rattle.std.specs.Prelude.{◌≡◌, ◌≤◌, length, drop};
-ghost use Rattle.fields.specs.Number.{is_width, after_blanks, plain_of, number_of, number_at};
+ghost use Rattle.std.specs.Prelude.{◌≡◌, ◌≤◌, length};
+ghost use Rattle.fields.specs.Number.{is_width, plain_of, number_of, number_at};
 ghost use Rattle.fields.specs.Answer.{value_of};
 ghost use Rattle.fields.specs.Ending.{EndsIn, Plain};
 
@@ -17,20 +16,13 @@ pub fn read_number(s: &[u8], column: usize, width: usize) -> Option<i32>
     ensures { result ≡ number_at s.now column width }
 {
     // The columns are there, and as many as a number field may have.
-    if !fields::inside(s, column, width) {
-        return None;
-    }
+    let f = fields::bytes_at(s, column, width)?;
     if !is_width(width) {
         return None;
     }
-    let at = column - 1;
-    let f = &s[at..at + width];
 
     // Blanks: spaces in front. A field of spaces alone is wrong.
-    let mut i = behind_blanks(f);
-    if i == width {
-        return None;
-    }
+    let mut i = f.iter().position(|b| *b != b' ')?;
 
     // Sign: a minus sign stands directly before the digits.
     let minus = f[i] == b'-';
@@ -39,10 +31,7 @@ pub fn read_number(s: &[u8], column: usize, width: usize) -> Option<i32>
     }
 
     // Digits: at the right end. Zero is "0", never "-0".
-    let answer = digits(f, i);
-    let Some(n) = answer else {
-        return None;
-    };
+    let n = digits(&f[i..])?;
     if !minus {
         return Some(n);
     }
@@ -56,44 +45,26 @@ pub fn read_number(s: &[u8], column: usize, width: usize) -> Option<i32>
 fn is_width(width: usize) -> bool
     ensures { result ≡ is_width width }
 {
-    (1 <= width) & (width <= 6)
+    matches!(width, 1..=6)
 }
 
-// Blanks: the index of the first column that is no space, and the field's width where all are.
-fn behind_blanks(f: &[u8]) -> usize
-    ensures { (result ≤ length f.now) × (after_blanks f.now ≡ drop result f.now) }
-{
-    let mut i = 0;
-    while i < f.len() {
-        if f[i] != b' ' {
-            return i;
-        }
-        i += 1;
-    }
-    i
-}
-
-// Digits: from index `from` on nothing but digits up to the field's end, one at least. No leading zeros: a first
-// "0" stands alone.
-fn digits(f: &[u8], from: usize) -> Option<i32>
+// Digits: nothing but digits from end to end, one at least. No leading zeros: a first "0" stands alone.
+fn digits(f: &[u8]) -> Option<i32>
     requires { length f.now ≤ 6 }
-    ensures { result ≡ plain_of (drop from f.now) }
+    ensures { result ≡ plain_of f.now }
 {
-    if f.len() <= from {
+    let [first, ..] = f else {
+        return None;
+    };
+    if (*first == b'0') & (f.len() != 1) {
         return None;
     }
-    if (f[from] == b'0') & (from + 1 != f.len()) {
-        return None;
-    }
-    let mut n: u32 = 0;
-    let mut i = from;
-    while i < f.len() {
-        let b = f[i];
+    let mut n = 0;
+    for b in f {
         if !b.is_ascii_digit() {
             return None;
         }
-        n = n * 10 + u32::from(b - b'0');
-        i += 1;
+        n = n * 10 + u32::from(*b - b'0');
     }
     Some(n as i32)
 }
@@ -114,20 +85,14 @@ fn digits_at_end(f: &[u8]) -> Ending
     requires { length f.now ≤ 6 }
     ensures { EndsIn f.now result.from result.size }
 {
-    let mut size: u32 = 0;
-    let mut unit: u32 = 1;
-    let mut i = f.len();
-    while 0 < i {
-        let b = f[i - 1];
-        if b < 48 {
-            return Ending { from: i, size };
+    let mut size = 0;
+    let mut unit = 1;
+    for i in (0..f.len()).rev() {
+        if !f[i].is_ascii_digit() {
+            return Ending { from: i + 1, size };
         }
-        if 57 < b {
-            return Ending { from: i, size };
-        }
-        size = size + u32::from(b - 48) * unit;
-        unit = unit * 10;
-        i -= 1;
+        size += u32::from(f[i] - b'0') * unit;
+        unit *= 10;
     }
     Ending { from: 0, size }
 }
@@ -141,7 +106,7 @@ fn signed(f: &[u8], from: usize, size: u32) -> Option<i32>
     if from == 0 {
         return Some(size as i32);
     }
-    if f[from - 1] == 45 {
+    if f[from - 1] == b'-' {
         if !texts::blanks(&f[..from - 1]) {
             return None;
         }
@@ -164,13 +129,11 @@ fn number_of(f: &[u8]) -> Option<i32>
     if 6 < n {
         return None;
     }
-    let e = digits_at_end(f);
-    let from = e.from;
-    let size = e.size;
+    let Ending { from, size } = digits_at_end(f);
     if from == n {
         return None;
     }
-    if (f[from] == 48) & (from + 1 != n) {
+    if (f[from] == b'0') & (from + 1 != n) {
         return None;
     }
     signed(f, from, size)
@@ -183,13 +146,8 @@ pub fn value_of(f: &[u8]) -> i32
     if glances::lone_zero(f) {
         return 0;
     }
-    let g = glances::glance_in(f);
-    let Some(n) = g else {
-        let answer = number_of(f);
-        let Some(v) = answer else {
-            return 0;
-        };
-        return v;
-    };
-    n as i32
+    if let Some(n) = glances::glance_in(f) {
+        return n as i32;
+    }
+    number_of(f).unwrap_or(0)
 }

@@ -1,3 +1,2 @@
 -- What the proofs of `texts` go by.
 mod TextSteps
-mod Answers

@@ -1,42 +1,53 @@
 -- One step of `is_blanks` and of `is_name`, at an index of a list. Assumes nothing.
 use mathlib.Core.Bool.{Bool, true, false, cond}
-use mathlib.Core.List.{List}
-use mathlib.Core.Path.{◌≡◌}
-use Prim.Native.Nat.{ℕ, suc, ◌+◌, ◌-◌, ◌≤◌, ◌<◌}
-use native.Mathlib.Numerals.{add-one, add-two}
+use mathlib.Core.List.{List, [], ◌∷◌}
+use mathlib.Core.Path.{◌≡◌, refl}
+use Prim.Native.Nat.{ℕ, zero, suc, ◌-◌, ◌≤◌, ◌<◌}
 use native.Mathlib.Omega.{arith}
-use lib.ListN.{length, get_or, drop, drop_of_length-le}
-use lib.Seq.{drop-cons}
-use borrow.Author.Tests.{eq-eqb, ne_eqb}
+use lib.Dec.{eqb}
+use lib.ListN.{length, get_or, take, drop}
+use lib.Seq.{take-length}
+use borrow.Author.Tests.{eqb-true, eqb-false}
+use Rattle.std.specs.Bool.{one_answer}
+use Rattle.std.specs.Prelude.{◌↔◌}
 use Rattle.fields.specs.Text.{is_blanks, is_pair, is_name}
 
-module _ (f : List ℕ) (i : ℕ) where
-  pub blank_end : length f ≤ i → is_blanks (drop i f) ≡ true
-  unfolding is_blanks
-  blank_end h = rw (drop_of_length-le f h)
+abbrev AllBlank : List ℕ → Type 0
+AllBlank f = (k : ℕ) → k < length f → get_or f k 0 ≡ 32
 
-  pub blank_more : i < length f → get_or f i 0 ≡ 32 → is_blanks (drop i f) ≡ is_blanks (drop (i + 1) f)
-  unfolding is_blanks
-  blank_more h e = rw (add-one, drop-cons f i 0 h, eq-eqb _ _ e)
+blank_first : (b : ℕ) (f : List ℕ) → b ≡ 32 → AllBlank f → AllBlank (b ∷ f)
+blank_first b f q h zero l = q
+blank_first b f q h (suc k) l = h k (omega arith)
 
-  pub blank_stop : i < length f → (get_or f i 0 ≡ 32 → ⊥) → is_blanks (drop i f) ≡ false
-  unfolding is_blanks
-  blank_stop h n = rw (drop-cons f i 0 h, ne_eqb _ _ n)
+each_by : (b : ℕ) (f : List ℕ) → is_blanks f ≡ true ↔ AllBlank f → (t : Bool) → eqb b 32 ≡ t → cond t (is_blanks f) false ≡ true ↔ AllBlank (b ∷ f)
+each_by b f ih true e = (λ h. blank_first b f (eqb-true _ _ e) (ih.0 h), λ h. ih.1 (λ k l. h (suc k) (omega arith)))
+each_by b f ih false e =
+    (λ h. absurd (cc), λ h. absurd (eqb-false _ _ e (h 0 (omega arith))))
 
-  pub name_end : length f ≤ i → is_name (drop i f) ≡ true
-  unfolding is_name
-  name_end h = rw (drop_of_length-le f h)
+-- spaces alone: each byte is one
+each_blank : (f : List ℕ) → is_blanks f ≡ true ↔ AllBlank f
+unfolding is_blanks
+each_blank [] = (λ e k h. absurd (omega arith), λ h. refl)
+each_blank (b ∷ f) = each_by b f (each_blank f) (eqb b 32) refl
 
-  pub name_odd : i < length f → length f - i < 2 → is_name (drop i f) ≡ false
-  unfolding is_name
-  name_odd h l =
-      let e : length f ≤ suc i = omega arith in
-      rw (drop-cons f i 0 h, drop_of_length-le f e)
+-- so a test that says the same is it
+pub blanks_iff : (f : List ℕ) (r : Bool) → r ≡ true ↔ AllBlank f → r ≡ is_blanks f
+blanks_iff f r h = one_answer r (is_blanks f) h (each_blank f)
 
-  -- by the answer r to whether the next two bytes are a pair
-  pub name_pair : (r : Bool) → i < length f → 2 ≤ length f - i → r ≡ is_pair (get_or f i 0) (get_or f (i + 1) 0)
-      → is_name (drop i f) ≡ cond r (is_name (drop (i + 2) f)) false
-  unfolding is_name
-  name_pair r h l e =
-      let k : suc i < length f = omega arith in
-      rw (e, add-one, add-two, drop-cons f i 0 h, drop-cons f (suc i) 0 k)
+-- a name by its first two bytes, where r is whether they are a pair; what follows them is cut out so
+pub name_pair : (f : List ℕ) (r : Bool) → 2 ≤ length f → r ≡ is_pair (get_or f 0 0) (get_or f 1 0)
+    → is_name f ≡ cond r (is_name (take (length f - 2) (drop 2 f))) false
+unfolding is_name
+name_pair [] r l e = absurd (omega arith)
+name_pair (a ∷ []) r l e = absurd (omega arith)
+name_pair (a ∷ b ∷ f) r l e =
+    let n : suc (suc (length f)) - 2 ≡ length f = omega arith in
+    rw (e, n, take-length)
+
+-- and one of less than two bytes, where r is whether there is none
+pub name_short : (f : List ℕ) (r : Bool) → length f < 2 → (r ≡ true ↔ (length f ≡ 0)) → r ≡ is_name f
+unfolding is_name
+name_short [] r l h = h.1 refl
+name_short (a ∷ []) true l h = absurd (omega (arith, h.0 refl))
+name_short (a ∷ []) false l h = refl
+name_short (a ∷ b ∷ f) r l h = absurd (omega arith)

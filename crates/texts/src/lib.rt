@@ -11,14 +11,7 @@ ghost use Rattle.fields.specs.Text.{is_pair, is_name, is_blanks, text_at};
 pub fn blanks(f: &[u8]) -> bool
     ensures { result ≡ is_blanks f.now }
 {
-    let mut i = 0;
-    while i < f.len() {
-        if f[i] != 32 {
-            return false;
-        }
-        i += 1;
-    }
-    true
+    f.iter().all(|b| *b == b' ')
 }
 
 // Whether `a`, `b` is a two-byte character of Shift JIS (RULES 3.3): the first byte is 81 to 9F or
@@ -26,48 +19,35 @@ pub fn blanks(f: &[u8]) -> bool
 fn pair(a: u8, b: u8) -> bool
     ensures { result ≡ is_pair a b }
 {
-    ((0x81 <= a) & (a <= 0x9f) | (0xe0 <= a) & (a <= 0xfc))
-        & ((0x40 <= b) & (b <= 0x7e) | (0x80 <= b) & (b <= 0xfc))
+    matches!(a, 0x81..=0x9f | 0xe0..=0xfc) & matches!(b, 0x40..=0x7e | 0x80..=0xfc)
 }
 
 // Whether a field is two-byte characters alone.
 pub fn pairs(f: &[u8]) -> bool
     ensures { result ≡ is_name f.now }
 {
-    let n = f.len();
-    let mut i = 0;
-    while i < n {
-        if n - i < 2 {
+    let mut rest = f;
+    while let [a, b, behind @ ..] = rest {
+        if !pair(*a, *b) {
             return false;
         }
-        if !pair(f[i], f[i + 1]) {
-            return false;
-        }
-        i += 2;
+        rest = behind;
     }
-    true
+    rest.is_empty()
 }
 
-// Judges the name field of `width` columns from `column` on. Refused: a field that is not in `s`,
-// and one that is not two-byte characters.
+// Whether the name field of `width` columns from `column` on is well formed. It is not where it is not in `s`,
+// and where it is not two-byte characters.
 pub fn read_name(s: &[u8], column: usize, width: usize) -> bool
     ensures { result ≡ text_at is_name s.now column width }
 {
-    if !fields::inside(s, column, width) {
-        return false;
-    }
-    let at = column - 1;
-    pairs(&s[at..at + width])
+    fields::bytes_at(s, column, width).is_some_and(pairs)
 }
 
-// Judges the blank field of `width` columns from `column` on. Refused: a field that is not in `s`,
-// and one with another byte than a space.
+// Whether the blank field of `width` columns from `column` on is well formed. It is not where it is not in `s`,
+// and where it has another byte than a space.
 pub fn read_blank(s: &[u8], column: usize, width: usize) -> bool
     ensures { result ≡ text_at is_blanks s.now column width }
 {
-    if !fields::inside(s, column, width) {
-        return false;
-    }
-    let at = column - 1;
-    blanks(&s[at..at + width])
+    fields::bytes_at(s, column, width).is_some_and(blanks)
 }

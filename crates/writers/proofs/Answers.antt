@@ -3,9 +3,12 @@ use mathlib.Core.Bool.{Bool, true, false}
 use mathlib.Core.List.{List, ◌++◌}
 use mathlib.Core.Path.{◌≡◌}
 use Prim.Native.Nat.{ℕ, ◌+◌, ◌-◌}
+use native.Mathlib.Omega.{arith}
 use lib.IntN.{ℤ}
 use lib.ListN.{length, take, drop}
+use lib.Seq.{drop-drop}
 use borrow.Author.Tests.{eq-eqb, ne_eqb}
+use borrow.Rule.Slice.PartMut.{put_mid}
 use Rattle.fields.specs.Answer.{done, unfit, number_fits, name_fits, Wrote}
 use Rattle.fields.specs.Number.{holds}
 use Rattle.fields.specs.Place.{is_inside, put}
@@ -43,3 +46,9 @@ module _ (fits : Bool) (before : List ℕ) (c : ℕ) (t : List ℕ) where
       → Wrote fits before c t done after
   unfolding put
   wrote_all y after w l q = record { answer = rw y; buffer = rw (y, l) q }
+
+-- a part that was written over with t, as the code cuts it out
+pub part_written : (s : List ℕ) (c w : ℕ) {r t : List ℕ} → r ≡ t → put_mid (c - 1) (c - 1 + w - (c - 1)) s r ≡ take (c - 1) s ++ (t ++ drop (c - 1 + w) s)
+part_written s c w e =
+    let n : c - 1 + w - (c - 1) ≡ w = omega arith in
+    rw (e, n, drop-drop w (c - 1) s)

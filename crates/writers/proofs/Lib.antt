@@ -1,4 +1,3 @@
 -- What the proofs of `writers` go by; `Answers` serves the writer of codes too.
 pub mod Answers
 mod Filling
-mod Signs

@@ -4,7 +4,7 @@
 // The contracts cite `Spelling`, `Number` and `Answer` of `fields`.
 #![tactic(auto)]
 
-ghost use Rattle.std.specs.Prelude.{◌≡◌, ◌++◌, ◌+◌, ◌<◌, ◌≤◌, length, take, drop, replicate, nat_abs};
+ghost use Rattle.std.specs.Prelude.{◌≡◌, ◌++◌, ◌+◌, ◌≤◌, length, take, drop, replicate};
 ghost use Rattle.fields.specs.Place.{is_inside};
 ghost use Rattle.fields.specs.Number.{holds};
 ghost use Rattle.fields.specs.Spelling.{last_of, rest_of, columns, left_of, spell};
@@ -17,9 +17,9 @@ fn last_of(l: Left) -> u8
     ensures { result ≡ last_of l }
 {
     match l {
-        Left::Blanks => 32,
-        Left::Minus => 45,
-        Left::Digits(n, _) => 48 + (n % 10) as u8,
+        Left::Blanks => b' ',
+        Left::Minus => b'-',
+        Left::Digits(n, _) => b'0' + (n % 10) as u8,
     }
 }
 
@@ -28,17 +28,9 @@ fn rest_of(l: Left) -> Left
     ensures { result ≡ rest_of l }
 {
     match l {
-        Left::Blanks => Left::Blanks,
-        Left::Minus => Left::Blanks,
-        Left::Digits(n, minus) => {
-            if 10 <= n {
-                return Left::Digits(n / 10, minus);
-            }
-            if minus {
-                return Left::Minus;
-            }
-            Left::Blanks
-        }
+        Left::Digits(n, minus) if 10 <= n => Left::Digits(n / 10, minus),
+        Left::Digits(_, true) => Left::Minus,
+        _ => Left::Blanks,
     }
 }
 
@@ -48,12 +40,9 @@ fn fill(buf: &mut [u8], at: usize, width: usize, left: Left)
     ensures { buf.new ≡ take at buf.old ++ (columns width left ++ drop (at + width) buf.old) }
 {
     let mut l = left;
-    let mut k = width;
-    while 0 < k {
-        k -= 1;
+    for k in (0..width).rev() {
         buf[at + k] = last_of(l);
-        let before = rest_of(l);
-        l = before;
+        l = rest_of(l);
     }
 }
 
@@ -75,13 +64,9 @@ fn in_range(width: usize, value: i32) -> bool
 
 // A value, as what is to be written: its digits, with a minus sign where it is negative.
 fn left_of(value: i32) -> Left
-    requires { nat_abs value < 1000000 }
     ensures { result ≡ left_of value }
 {
-    if value < 0 {
-        return Left::Digits((-value) as u32, true);
-    }
-    Left::Digits(value as u32, false)
+    Left::Digits(value.unsigned_abs(), value < 0)
 }
 
 // Writes `value` into the number field of `width` columns from `column` on. Refused, with `buf` as
@@ -99,18 +84,6 @@ pub fn write_number(buf: &mut [u8], column: usize, width: usize, value: i32) -> 
     Ok(())
 }
 
-// Copies `bytes` into `buf` from index `at` on.
-fn copy(buf: &mut [u8], at: usize, bytes: &[u8])
-    requires { at + length bytes.now ≤ length buf.old }
-    ensures { buf.new ≡ take at buf.old ++ (bytes.now ++ drop (at + length bytes.now) buf.old) }
-{
-    let mut i = 0;
-    while i < bytes.len() {
-        buf[at + i] = bytes[i];
-        i += 1;
-    }
-}
-
 // Writes `name` into the name field of `width` columns from `column` on. Refused, with `buf` as it
 // was: a field that is not in `buf`, and a name that is not two-byte characters or not as long.
 pub fn write_name(buf: &mut [u8], column: usize, width: usize, name: &[u8]) -> Result<(), Unfit>
@@ -125,7 +98,8 @@ pub fn write_name(buf: &mut [u8], column: usize, width: usize, name: &[u8]) -> R
     if !texts::pairs(name) {
         return Err(Unfit);
     }
-    copy(buf, column - 1, name);
+    let at = column - 1;
+    buf[at..at + width].copy_from_slice(name);
     Ok(())
 }
 

@@ -1,9 +1,12 @@
--- `codes::is_land` meets its contract: a field of another length is not land, and of five columns each is looked at. Assumes nothing.
-use Rattle.codes.proofs.Steps.{land_long, land_five}
+-- `codes::is_land` meets its contract: no other text is land. Assumes nothing.
+use mathlib.Core.Path.{◌≡◌}
+use borrow.Author.Rules.{rules}
+use Rattle.std.specs.Prelude.{◌↔◌, IsTrue}
+use Rattle.codes.specs.Code.{land_text}
+use Rattle.codes.proofs.Steps.{land_iff}
 use Rattle.codes.proofs.is_land.Goals as goal
 
-pub returns-then-f-ne5 : goal.returns-then-f-ne5
-returns-then-f-ne5 c = land_long _ c.if-f-ne5.true
-
 pub returns : goal.returns
-returns c = land_five _ c.if-f-ne5.false
+returns c =
+    let h : IsTrue c.eq.result ↔ (c.args.f.now ≡ land_text) = search rules in
+    land_iff _ _ h

@@ -1,30 +1,15 @@
--- `codes::land_at` meets its contract: the part that is cut out is the field's bytes. Assumes nothing.
-use Prim.Native.Nat.{◌+◌, ◌-◌, ◌≤◌}
-use native.Mathlib.Omega.{arith}
-use lib.ListN.{length}
-use borrow.Author.Tests.{not-true, not-false}
-use Rattle.fields.proofs.Places.{passed}
-use Rattle.codes.proofs.Steps.{land_outside, land_inside}
+-- `codes::land_at` meets its contract: the field's bytes are looked at where they lie within `s`. Assumes nothing.
+use mathlib.Core.Bool.{false}
+use mathlib.Core.Path.{◌≡◌}
+use borrow.Author.Rules.{rules}
+use Rattle.std.specs.Prelude.{MatchOption}
+use Rattle.fields.specs.Text.{text_at}
+use Rattle.fields.proofs.Answers.{text_answer}
+use Rattle.codes.specs.Code.{is_land, land_at}
 use Rattle.codes.proofs.land_at.Goals as goal
-use Rattle.codes.proofs.land_at.Goals.{Else-not-inside}
-
--- past the first test the field lies inside
-bounds : (c : Else-not-inside)
-    → (1 ≤ c.args.column)
-    × (c.args.column - 1 + c.args.width ≤ length c.args.s.now)
-bounds c = passed _ _ _ _ c.inside.ensures c.if-not-inside.false-raw
-
-pub returns-then-not-inside : goal.returns-then-not-inside
-returns-then-not-inside c = land_outside _ _ _ c.inside.ensures (not-true _ c.if-not-inside.true-raw)
-
-pub overflow_sub-at : goal.overflow_sub-at
-overflow_sub-at c = let p = bounds (goal.at.overflow_sub-at c).Else-not-inside in omega arith
-
-pub overflow_add-at : goal.overflow_add-at
-overflow_add-at c = let p = bounds (goal.at.overflow_add-at c).Else-not-inside in omega arith
-
-pub slice_bounds-is_land-end : goal.slice_bounds-is_land-end
-slice_bounds-is_land-end c = let p = bounds (goal.at.slice_bounds-is_land-end c).Else-not-inside in omega arith
 
 pub returns : goal.returns
-returns c = land_inside _ _ _ c.inside.ensures (not-false _ c.if-not-inside.false-raw) c.is_land.ensures
+unfolding land_at text_at
+returns c =
+    let h : MatchOption c.bytes_at.result (c.is_some_and.result ≡ false) (λ f. c.is_some_and.result ≡ is_land f.now) = search rules in
+    text_answer is_land _ _ _ _ _ c.bytes_at.ensures h

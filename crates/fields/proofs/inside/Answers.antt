@@ -1,16 +1,22 @@
--- `fields::inside` meets its contract: each test is one half of `is_inside`, asked so that no sum can wrap.
-use Rattle.std.proofs.Common.{sym, arith}
-use Rattle.fields.proofs.Places.{inside_none, inside_short, inside_fits}
+-- `fields::inside` meets its contract: the three tests are the two of `is_inside`, asked so that no sum can wrap.
+use Rattle.std.proofs.Common.{sym, arith, ◌∙◌}
+use borrow.Author.Tests.{leb-true, leb-false}
+use Rattle.fields.proofs.Places.{inside_none, inside_short, inside_rest}
 use Rattle.fields.proofs.inside.Goals as goal
+use Rattle.fields.proofs.inside.Goals.{then-column-ge1, else-column-ge1}
 
-pub returns-then-column-eq0 : goal.returns-then-column-eq0
-returns-then-column-eq0 c = sym (inside_none c.args.s.now c.args.column c.args.width c.if-column-eq0.true)
+pub returns-then-column-s : goal.returns-then-column-s
+returns-then-column-s c =
+    elim c.if-column-ge1.branch [
+      | then-column-ge1 w ↦ inside_rest _ _ _ w.if-column-ge1.true (leb-true _ _ (sym w.value-is ∙ c.if-column-s.true))
+      | else-column-ge1 w ↦ absurd (omega (arith, leb-true _ _ (sym w.value-is ∙ c.if-column-s.true)))
+    ]
 
-pub returns-then-s-column : goal.returns-then-s-column
-returns-then-s-column c = sym (inside_short c.args.s.now c.args.column c.args.width (omega arith) (omega arith))
-
-pub returns-then-s-column-2 : goal.returns-then-s-column-2
-returns-then-s-column-2 c = sym (inside_short c.args.s.now c.args.column c.args.width (omega arith) (omega arith))
-
-pub returns : goal.returns
-returns c = sym (inside_fits c.args.s.now c.args.column c.args.width (omega arith) (omega arith))
+pub returns-else-column-s : goal.returns-else-column-s
+returns-else-column-s c =
+    elim c.if-column-ge1.branch [
+      | then-column-ge1 w ↦
+          c.if-column-s.false
+          ∙ sym (inside_short _ _ _ w.if-column-ge1.true (omega (arith, leb-false _ _ (sym w.value-is ∙ c.if-column-s.false))))
+      | else-column-ge1 w ↦ c.if-column-s.false ∙ sym (inside_none _ _ _ (omega arith))
+    ]

@@ -8,6 +8,3 @@ use Rattle.numerals.proofs.digits_at_end.Given as goal
 
 abbrev pub invariant-loop-i : goal.invariant-loop-i
 invariant-loop-i l = DigitsFrom l.f l.i l.size × (l.unit ≡ 10 ^ (length l.f - l.i))
-
-abbrev pub decreases-loop-i : goal.decreases-loop-i
-decreases-loop-i l = l.i

@@ -4,12 +4,10 @@ use mathlib.Core.Path.{◌≡◌, sym, ap, ◌∙◌}
 use Prim.Native.Nat.{◌<◌}
 use native.Mathlib.Omega.{arith}
 use lib.IntN.{pos}
-use lib.Seq.{length-take-le}
-use borrow.Author.Tests.{not-true, not-false}
 use Rattle.std.specs.Prelude.{Some}
 use Rattle.fields.specs.Number.{number_of, minus}
 use Rattle.fields.proofs.FromRight.{plain_small, taken_whole, taken_plain, taken_minus, minus_none, refused_minus, refused_other}
-use Rattle.numerals.proofs.Signs.{size_fits, size_is, size_minus_fits, size_minus}
+use Rattle.numerals.proofs.Signs.{size_is, size_minus}
 use Rattle.numerals.proofs.signed.Goals as goal
 use Rattle.numerals.proofs.signed.Goals.{Else-not-blanks, Start}
 
@@ -21,47 +19,26 @@ minus_said : (c : Else-not-blanks)
     → number_of c.args.f.now
     ≡ minus (Some (pos c.args.size))
 minus_said c =
-    taken_minus c.requires (omega arith) c.if-f-from-eq45.true (sym c.blanks.ensures ∙ not-false _ c.if-not-blanks.false-raw)
-
-pub overflow_cast-result : goal.overflow_cast-result
-overflow_cast-result c = size_fits _ (small (goal.at.overflow_cast-result c).Start)
+    taken_minus c.requires (omega arith) c.if-f-from-eq45.true (sym c.blanks.ensures ∙ c.if-not-blanks.false)
 
 pub returns-then-from-eq0 : goal.returns-then-from-eq0
 returns-then-from-eq0 c = ap Some (size_is _ (small (goal.at.returns-then-from-eq0 c).Start)) ∙ sym (taken_whole c.requires c.if-from-eq0.true)
 
-pub bounds-f-from : goal.bounds-f-from
-bounds-f-from c = omega (arith, c.requires.some)
-
-pub slice_bounds-blanks-length : goal.slice_bounds-blanks-length
-slice_bounds-blanks-length c = sym (length-take-le _ _ (omega (arith, c.requires.some)))
-
 pub returns-then-not-blanks : goal.returns-then-not-blanks
 returns-then-not-blanks c =
-    sym (refused_minus c.requires (omega arith) (sym c.blanks.ensures ∙ not-true _ c.if-not-blanks.true-raw))
+    sym (refused_minus c.requires (omega arith) (sym c.blanks.ensures ∙ c.if-not-blanks.true))
 
 pub returns-then-size-eq0 : goal.returns-then-size-eq0
 returns-then-size-eq0 c = sym (minus_said (goal.at.returns-then-size-eq0 c).Else-not-blanks ∙ minus_none _ c.if-size-eq0.true)
-
-pub overflow_cast-result-then-f-from-eq45 : goal.overflow_cast-result-then-f-from-eq45
-overflow_cast-result-then-f-from-eq45 c = size_fits _ (small (goal.at.overflow_cast-result-then-f-from-eq45 c).Start)
-
-pub overflow_sub-result : goal.overflow_sub-result
-overflow_sub-result c = size_minus_fits _ (small (goal.at.overflow_sub-result c).Start)
 
 pub returns-then-f-from-eq45 : goal.returns-then-f-from-eq45
 returns-then-f-from-eq45 c =
     size_minus _ (small (goal.at.returns-then-f-from-eq45 c).Start) c.if-size-eq0.false ∙ sym (minus_said (goal.at.returns-then-f-from-eq45 c).Else-not-blanks)
 
-pub slice_bounds-blanks-end : goal.slice_bounds-blanks-end
-slice_bounds-blanks-end c = sym (length-take-le _ _ (omega (arith, c.requires.some)))
-
 pub returns-then-not-blanks-2 : goal.returns-then-not-blanks-2
 returns-then-not-blanks-2 c =
-    sym (refused_other c.requires (omega arith) c.if-f-from-eq45.false (sym c.blanks-2.ensures ∙ not-true _ c.if-not-blanks-2.true-raw))
-
-pub overflow_cast-result-2 : goal.overflow_cast-result-2
-overflow_cast-result-2 c = size_fits _ (small (goal.at.overflow_cast-result-2 c).Start)
+    sym (refused_other c.requires (omega arith) c.if-f-from-eq45.false (sym c.blanks-2.ensures ∙ c.if-not-blanks-2.true))
 
 pub returns : goal.returns
 returns c =
-    ap Some (size_is _ (small (goal.at.returns c).Start)) ∙ sym (taken_plain c.requires (sym c.blanks-2.ensures ∙ not-false _ c.if-not-blanks-2.false-raw))
+    ap Some (size_is _ (small (goal.at.returns c).Start)) ∙ sym (taken_plain c.requires (sym c.blanks-2.ensures ∙ c.if-not-blanks-2.false))

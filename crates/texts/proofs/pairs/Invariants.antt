@@ -1,12 +1,11 @@
 -- `texts::pairs` meets its contract. The loop's invariant: what is left is a name exactly if the whole is. Assumes nothing.
 use mathlib.Core.Path.{◌≡◌}
-use Prim.Native.Nat.{◌≤◌, ◌-◌}
-use lib.ListN.{length, drop}
+use lib.ListN.{length}
 use Rattle.fields.specs.Text.{is_name}
 use Rattle.texts.proofs.pairs.Given as goal
 
-abbrev pub invariant-loop-i : goal.invariant-loop-i
-invariant-loop-i l = (l.i ≤ length l.f) × (is_name l.f ≡ is_name (drop l.i l.f))
+abbrev pub invariant-loop-rest : goal.invariant-loop-rest
+invariant-loop-rest l = is_name l.f ≡ is_name l.rest
 
-abbrev pub decreases-loop-i : goal.decreases-loop-i
-decreases-loop-i l = length l.f - l.i
+abbrev pub decreases-loop-rest : goal.decreases-loop-rest
+decreases-loop-rest l = length l.rest

@@ -2,16 +2,11 @@
 -- Assumes nothing.
 use mathlib.Core.List.{◌++◌}
 use mathlib.Core.Path.{◌≡◌}
-use Prim.Native.Nat.{◌≤◌, ◌+◌}
-use lib.ListN.{length, take, drop}
+use Prim.Native.Nat.{◌+◌}
+use lib.ListN.{take, drop}
 use Rattle.fields.specs.Spelling.{columns}
 use Rattle.writers.proofs.fill.Given as goal
 
 abbrev pub invariant-loop-k : goal.invariant-loop-k
 invariant-loop-k l =
-    (length l.buf ≡ length l.initial.buf)
-    × (l.k ≤ l.width)
-    × (take l.at l.initial.buf ++ (columns l.width l.initial.l ++ drop (l.at + l.width) l.initial.buf) ≡ take l.at l.buf ++ (columns l.k l.l ++ drop (l.at + l.k) l.buf))
-
-abbrev pub decreases-loop-k : goal.decreases-loop-k
-decreases-loop-k l = l.k
+    take l.at l.initial.buf ++ (columns l.width l.initial.l ++ drop (l.at + l.width) l.initial.buf) ≡ take l.at l.buf ++ (columns l.k l.l ++ drop (l.at + l.k) l.buf)

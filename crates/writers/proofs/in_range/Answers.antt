@@ -1,5 +1,6 @@
 -- `writers::in_range` meets its contract: at each width the definition's two bounds are the code's numerals. Assumes nothing.
 use mathlib.Core.Path.{sym}
+use native.Mathlib.Omega.{arith}
 use mir.Facts.{to_z-of_z}
 use Rattle.fields.specs.Number.{holds}
 use Rattle.fields.proofs.Range.{holds_no_width}
@@ -30,4 +31,5 @@ unfolding holds
 returns-in-6 c = rw (c.in-6.is, to_z-of_z c.ranges.value)
 
 pub returns-in_default : goal.returns-in_default
-returns-in_default c = let r = c.in_default.in_default-own.rest in sym (holds_no_width _ r.0.0.0.0.0.1 r.0.0.0.0.1 r.0.0.0.1 r.0.0.1 r.0.1 r.1 _)
+returns-in_default c =
+    sym (holds_no_width c.args.width (λ e. omega arith) (λ e. omega arith) (λ e. omega arith) (λ e. omega arith) (λ e. omega arith) (λ e. omega arith) _)

@@ -3,19 +3,15 @@ use mathlib.Core.Path.{sym, ◌∙◌}
 use Prim.Native.Nat.{◌+◌, ◌-◌, ◌≤◌}
 use native.Mathlib.Omega.{arith}
 use lib.ListN.{length, length-replicate}
-use borrow.Author.Tests.{not-true, not-false}
-use Rattle.writers.proofs.Answers.{wrote_nothing, wrote_all}
+use Rattle.writers.proofs.Answers.{wrote_all}
 use Rattle.writers.proofs.Filling.{blanks_are}
-use Rattle.fields.proofs.Places.{passed}
+use Rattle.fields.proofs.Places.{inside_bounds}
 use Rattle.writers.proofs.write_blank.Goals as goal
 use Rattle.writers.proofs.write_blank.Goals.{Else-not-inside}
 
 -- past the first test the field lies inside
 bounds : (c : Else-not-inside) → (1 ≤ c.args.column) × (c.args.column - 1 + c.args.width ≤ length c.args.buf.now)
-bounds c = passed _ _ _ _ c.inside.ensures c.if-not-inside.false-raw
-
-pub returns-then-not-inside : goal.returns-then-not-inside
-returns-then-not-inside c = wrote_nothing _ _ _ _ (sym c.inside.ensures ∙ not-true _ c.if-not-inside.true-raw)
+bounds c = inside_bounds _ _ _ (sym c.inside.ensures ∙ c.if-not-inside.false)
 
 pub overflow_sub-column : goal.overflow_sub-column
 overflow_sub-column c = let p = bounds (goal.at.overflow_sub-column c).Else-not-inside in omega arith
@@ -25,5 +21,5 @@ fill-requires c = let p = bounds (goal.at.fill-requires c).Else-not-inside in om
 
 pub returns : goal.returns
 returns c =
-    wrote_all _ _ _ _ (sym c.inside.ensures ∙ not-false _ c.if-not-inside.false-raw) _ _
+    wrote_all _ _ _ _ (sym c.inside.ensures ∙ c.if-not-inside.false) _ _
     (length-replicate c.args.width 32) (c.fill.ensures ∙ rw blanks_are)

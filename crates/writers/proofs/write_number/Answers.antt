@@ -6,21 +6,19 @@ use Prim.Native.Nat.{◌+◌, ◌-◌, ◌≤◌}
 use native.Mathlib.Omega.{arith}
 use lib.ListN.{length}
 use mir.Facts.{to_z-of_z}
-use borrow.Author.Tests.{not-true, not-false}
 use Rattle.fields.specs.Answer.{number_fits}
 use Rattle.fields.specs.Number.{holds}
 use Rattle.fields.specs.Spelling.{left_of}
 use Rattle.writers.proofs.Answers.{number_unfit, number_fit, wrote_nothing, wrote_all}
 use Rattle.fields.proofs.Columns.{spell_length}
 use Rattle.writers.proofs.Filling.{spell_is}
-use Rattle.fields.proofs.Places.{passed}
-use Rattle.fields.proofs.Range.{holds_small}
+use Rattle.fields.proofs.Places.{inside_bounds}
 use Rattle.writers.proofs.write_number.Goals as goal
 use Rattle.writers.proofs.write_number.Goals.{After-in_range, After-left_of, Else-not-in_range, Else-not-inside}
 
 -- past the first test the field lies inside
 bounds : (c : Else-not-inside) → (1 ≤ c.args.column) × (c.args.column - 1 + c.args.width ≤ length c.args.buf.now)
-bounds c = passed _ _ _ _ c.inside.ensures c.if-not-inside.false-raw
+bounds c = inside_bounds _ _ _ (sym c.inside.ensures ∙ c.if-not-inside.false)
 
 -- the answer to the second test, on the value that the machine reads back
 ranged : (c : After-in_range) → c.in_range.result ≡ holds c.args.width c.args.value
@@ -32,28 +30,24 @@ fits : (c : Else-not-in_range)
     c.args.width c.args.value
     ≡ true
 fits c =
-    number_fit _ _ _ c.inside.ensures _ (not-false _ c.if-not-inside.false-raw) (c.in_range.ensures ∙ ap (holds c.args.width) (to_z-of_z c.ranges.value))
-    ∙ not-false _ c.if-not-in_range.false-raw
+    number_fit _ _ _ c.inside.ensures _ c.if-not-inside.false (c.in_range.ensures ∙ ap (holds c.args.width) (to_z-of_z c.ranges.value))
+    ∙ c.if-not-in_range.false
 
 -- what is to be written is the value
 left_is : (c : After-left_of) → c.left_of.result ≡ left_of c.args.value
 left_is c = c.left_of.ensures ∙ ap left_of (to_z-of_z c.ranges.value)
 
 pub returns-then-not-inside : goal.returns-then-not-inside
-returns-then-not-inside c = wrote_nothing _ _ _ _ (number_unfit _ _ _ c.inside.ensures _ (not-true _ c.if-not-inside.true-raw))
+returns-then-not-inside c = wrote_nothing _ _ _ _ (number_unfit _ _ _ c.inside.ensures _ c.if-not-inside.true)
 
 pub returns-then-not-in_range : goal.returns-then-not-in_range
 returns-then-not-in_range c =
     wrote_nothing _ _ _ _
-    (number_fit _ _ _ c.inside.ensures _ (not-false _ c.if-not-inside.false-raw) (ranged (goal.at.returns-then-not-in_range c).After-in_range)
-    ∙ not-true _ c.if-not-in_range.true-raw)
+    (number_fit _ _ _ c.inside.ensures _ c.if-not-inside.false (ranged (goal.at.returns-then-not-in_range c).After-in_range)
+    ∙ c.if-not-in_range.true)
 
 pub overflow_sub-column : goal.overflow_sub-column
 overflow_sub-column c = let p = bounds (goal.at.overflow_sub-column c).Else-not-inside in omega arith
-
-pub left_of-requires : goal.left_of-requires
-left_of-requires c =
-    rw (to_z-of_z c.ranges.value) (holds_small c.args.width c.args.value (sym (ranged (goal.at.left_of-requires c).After-in_range) ∙ not-false _ c.if-not-in_range.false-raw))
 
 pub fill-requires : goal.fill-requires
 fill-requires c = let p = bounds (goal.at.fill-requires c).Else-not-inside in omega arith
