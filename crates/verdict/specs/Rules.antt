@@ -9,7 +9,6 @@
 --   told_of v           the verdict v by the numbers of RULES 6.2
 use Rattle.std.specs.Prelude.{Bool, true, false, cond, List, [], ◌∷◌, ◌++◌, ℕ, zero, suc, Result, Ok, Err, ⊤}
 use Rattle.verdict.specs.declared.Refusal.{Refusal}
-use Rattle.verdict.specs.declared.Told.{Told}
 
 -- RULES 6.1: acceptance, or a refusal with its number, record and column
 abbrev pub Verdict : Type 0
@@ -69,6 +68,6 @@ spread zero g = []
 spread (suc n) g = spread n g ++ g n
 
 -- RULES 6.1: acceptance is number 0 at 0, 0
-abbrev pub told_of : Verdict → Told
+abbrev pub told_of : Verdict → Refusal
 told_of (Ok tt) = record { number = 0; place = 0; column = 0 }
-told_of (Err r) = record { number = r.number; place = r.place; column = r.column }
+told_of (Err r) = r

@@ -151,13 +151,6 @@ pub fn at_start() -> State
     State::default()
 }
 
-// What is left of `n` when `by` are taken.
-pub fn less(n: usize, by: usize) -> usize
-    ensures { result ≡ n - by }
-{
-    n.saturating_sub(by)
-}
-
 // The state behind an M.
 fn behind_mesh(t: &[u8]) -> State
     ensures { result ≡ meshed t.now }
