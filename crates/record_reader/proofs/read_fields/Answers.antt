@@ -1,6 +1,5 @@
 -- `record_reader::read_fields` meets its contract: each arm reads the next field of the layout, and a refused one is the first. Assumes nothing.
 use mathlib.Core.Path.{refl, sym, ◌∙◌}
-use Prim.Native.Nat.{◌+◌, ◌-◌}
 use native.Mathlib.Omega.{arith}
 use mir.Facts.{to_z-of_z}
 use mir.Syntax.{w32}
