@@ -75,7 +75,8 @@ pub fn slot_of(file: &[u8], f: usize, e: usize) -> i32
     records::slot_at(file, f + e / 12, records::LOOP_ENTRIES, e % 12)
 }
 
-// Whether slot `e` of a row is an entry that an earlier slot of the row has too.
+// Whether slot `e` of a row is an entry that an earlier slot of the row has too. The contract speaks of
+// every row `f` whose slots `slot` reads.
 fn repeats<F: Fn(usize) -> i32>(e: usize, slot: &F) -> bool
     requires { F.IsAlwaysCallable slot.now }
     ensures { (f : ℕ → ℤ) → ((i : ℕ) (v : ℤ) → i ≤ e → F.post slot.now i v → v ≡ f i) → result ≡ not (clean f e) }
