@@ -9,7 +9,7 @@ use native.Mathlib.Omega.{arith}
 use lib.Dec.{lit<}
 use lib.IntN.{ℤ}
 use lib.ListN.{length}
-use Rattle.std.specs.Prelude.{Err}
+use Rattle.std.specs.Prelude.{Err, Ok}
 use Rattle.verdict.specs.Rules.{Verdict, Fine, Rule, Check, told_of}
 use Rattle.verdict.specs.Order.{In, Answer, Sorted}
 use Rattle.verdict.proofs.Orders.{answers, only, block_sorted, block_in, UpTo, Of, turn_sorted, turn_up}
@@ -143,7 +143,7 @@ zero_fine : (file : List ℕ) (room : ℕ) (last : Counts → Check) → unlike 
 zero_fine = unborne_fine 0 (λ l h n. omega arith)
 
 told_by : (v : Verdict) (c : Counts) (records need : ℕ) → (outcome_by v c records need).number ≡ (told_of v).number
-told_by Fine c records need = refl
+told_by (Ok _) c records need = refl
 told_by (Err r) c records need = refl
 
 -- what is told is the verdict's number
@@ -152,7 +152,7 @@ unfolding outcome_behind
 outcome_number file room last = told_by (call_verdict file room last) _ _ _
 
 told_sums : (v : Verdict) (file : List ℕ) (i : ℕ) → (sums_by v file i).number ≡ (told_of v).number
-told_sums Fine file i = refl
+told_sums (Ok _) file i = refl
 told_sums (Err r) file i = refl
 
 pub sums_number : (file : List ℕ) (room i : ℕ) → (sums_of file room i).number ≡ (told_of (sums_verdict file room i)).number

@@ -163,7 +163,7 @@ module _ (file : List ℕ) (room : ℕ) (last : Counts → Check) where
   call_is = in_turn (rules_of file room) _ ∙ by (first_broken (rules_of file room))
     where
       by : (v : Verdict) → v or_else first_broken (block eighth 0 (last (counts_at file (records_of file)) ∷ [])) ≡ asked_by v (last (counts_at file (records_of file)))
-      by Fine = refl
+      by (Ok _) = refl
       by (Err r) = refl
 
   -- the counts that are told can be told
@@ -172,7 +172,7 @@ module _ (file : List ℕ) (room : ℕ) (last : Counts → Check) where
   told_countable e = rw e (by (call_verdict file room last))
     where
       by : (v : Verdict) → IfOk (tabled_by v (counts_at file (records_of file)) (need_of file)) Countable
-      by Fine = countable file (records_of file) (records_small file)
+      by (Ok _) = countable file (records_of file) (records_small file)
       by (Err r) = tt
 
   pub outcome_is : {t : Result Counts Refused} → t ≡ told_behind file room last → outcome_told t (records_of file) ≡ outcome_behind file room last
@@ -182,7 +182,7 @@ module _ (file : List ℕ) (room : ℕ) (last : Counts → Check) where
       by : (v : Verdict)
           → outcome_told (tabled_by v (counts_at file (records_of file)) (need_of file)) (records_of file)
           ≡ outcome_by v (counts_at file (records_of file)) (records_of file) (need_of file)
-      by Fine = refl
+      by (Ok _) = refl
       by (Err r) = refl
 
   -- ---- all stages answered t
@@ -232,7 +232,7 @@ module _ (file : List ℕ) (room : ℕ) (last : Counts → Check) where
 -- a refusal above 9 leaves the table where it stands
 asked_table : (file words : List ℕ) (v : Verdict) (x : Check) → leb x.number 9 ≡ false → table_by v file words ≡ table_by (asked_by v x) file words
 unfolding first_broken block
-asked_table file words Fine x h = by x.holds
+asked_table file words (Ok _) x h = by x.holds
   where
     by : (b : Bool) → filled (table_of file) words ≡ table_by (cond b Fine (Broken x.number 0 x.column)) file words
     by true = refl
@@ -250,5 +250,5 @@ unfolding told_behind sums_of
 sums_are file room i e = rw e (by (sums_verdict file room i))
   where
     by : (v : Verdict) → sums_told (layer_told (tabled_by v (counts_at file (records_of file)) (need_of file)) file i) ≡ sums_by v file i
-    by Fine = refl
+    by (Ok _) = refl
     by (Err r) = refl

@@ -101,11 +101,11 @@ module _ (file : List ℕ) {t : List ℕ} {c : Counts} {b : Bases} (f : t ≡ ta
 -- ---- an answer by the verdict v, the counts c and the need n
 
 pub refused_by : (v : Verdict) (c : Counts) (n : ℕ) {x : Refused} → Err x ≡ tabled_by v c n → v ≡ Err x.refusal
-refused_by Fine c n e = let z : ◌≡◌ {A = ℕ} 0 1 = cc in absurd (omega arith)
+refused_by (Ok _) c n e = let z : ◌≡◌ {A = ℕ} 0 1 = cc in absurd (omega arith)
 refused_by (Err r) c n e = cc
 
 pub accepted_by : (v : Verdict) (c : Counts) (n : ℕ) {d : Counts} → Ok d ≡ tabled_by v c n → (v ≡ Fine) × (d ≡ c)
-accepted_by Fine c n e = (refl, cc)
+accepted_by (Ok _) c n e = (refl, cc)
 accepted_by (Err r) c n e = let z : ◌≡◌ {A = ℕ} 0 1 = cc in absurd (omega arith)
 
 -- ---- all stages, behind refusal 9, where a table is lent that holds `words`
@@ -184,5 +184,5 @@ module _ (file words : List ℕ) where
     late_table {v} k h = rw (← late_is k) ((rw early_kept at h) ∙ stood v k)
       where
         stood : (v : Verdict) → v ≡ first_broken (late file) → filled (table_of file) words ≡ table_by v file words
-        stood Fine h = refl
+        stood (Ok _) h = refl
         stood (Err r) h = rw (lt-leb r.number 9 (late_above file h))

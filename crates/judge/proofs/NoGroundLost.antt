@@ -8,7 +8,7 @@ use Prim.Native.Nat.{ℕ, ◌-◌, ◌≤◌}
 use native.Mathlib.Omega.{arith}
 use lib.IntN.{pos}
 use borrow.Author.Tests.{leb-true, le-leb}
-use Rattle.std.specs.Prelude.{Err}
+use Rattle.std.specs.Prelude.{Err, Ok}
 use Rattle.verdict.specs.Rules.{Verdict, Fine, Check, first_broken}
 use Rattle.verdict.proofs.Orders.{and_both}
 use Rattle.verdict.proofs.Parts.{goes_on, check_none, check_kept}
@@ -55,7 +55,7 @@ unfolding sums_of
 sums_equal file room i = by (sums_verdict file room i) refl
   where
     by : (v : Verdict) → sums_verdict file room i ≡ v → (sums_by v file i).areas ≡ (sums_by v file i).outside
-    by Fine h =
+    by (Ok _) h =
         let c = and_both _ _ (last_fine file room (layer_rule i) h) in
         layer_agrees file room i (leb-true 1 i c.0) (leb-true i _ c.1) (rules_fine file room (layer_rule i) h)
     by (Err r) h = refl

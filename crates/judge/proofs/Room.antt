@@ -8,7 +8,7 @@ use Prim.Native.Nat.{ℕ, ◌*◌, ◌/◌, ◌≤◌, ◌<◌}
 use native.Mathlib.Omega.{arith}
 use lib.Dec.{lit<}
 use borrow.Author.Tests.{le-leb}
-use Rattle.std.specs.Prelude.{Err}
+use Rattle.std.specs.Prelude.{Err, Ok}
 use Rattle.verdict.specs.Rules.{Verdict, Fine, Rule, Check, block, first_broken, told_of}
 use Rattle.verdict.proofs.Numbers.{unlike, between_unlike, given_unlike, numbered, Numbered, block_numbered, append_numbered, not_told}
 use Rattle.verdict.proofs.Parts.{◌or_else◌, in_turn, both_fine, check_none, check_kept}
@@ -38,11 +38,11 @@ need_enough file room places w p = record { words = w; areas = λ kept. omega (a
 
 -- a part that is fine wherever those before it are can be left out
 skipped : (a b c : Verdict) → (a ≡ Fine → b ≡ Fine) → (a or_else b) or_else c ≡ a or_else c
-skipped Fine b c h = rw (h refl)
+skipped (Ok _) b c h = rw (h refl)
 skipped (Err r) b c h = refl
 
 last_skipped : (a b : Verdict) → (a ≡ Fine → b ≡ Fine) → a or_else b ≡ a
-last_skipped Fine b h = h refl
+last_skipped (Ok _) b h = h refl
 last_skipped (Err r) b h = refl
 
 -- the rules of a file but for the room

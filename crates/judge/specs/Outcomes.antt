@@ -33,7 +33,7 @@ judged_of file room = tabled_by (first_broken (rules_of file room)) (counts_at f
 
 -- RULES 8.3: refused with 1 to 9, all words are as they were; refused later, or accepted, the table stands in front, the rest is as it was
 abbrev pub table_by : Verdict → List ℕ → List ℕ → List ℕ
-table_by Fine file words = filled (table_of file) words
+table_by (Ok _) file words = filled (table_of file) words
 table_by (Err r) file words = cond (leb r.number 9) words (filled (table_of file) words)
 
 -- RULES 8.3: the table behind all stages
@@ -42,7 +42,7 @@ table_judged file words = table_by (first_broken (rules_of file (length words)))
 
 -- RULES 6.1: a refusal of the stages stands, and behind them a call asks `last`
 abbrev pub asked_by : Verdict → Check → Verdict
-asked_by Fine last = first_broken (block eighth 0 (last ∷ []))
+asked_by (Ok _) last = first_broken (block eighth 0 (last ∷ []))
 asked_by (Err r) last = Err r
 
 -- ---- every call
@@ -67,7 +67,7 @@ outcome_with v c records n = record {
 
 -- RULES 9.1: the counts are 0 if refused
 abbrev pub outcome_by : Verdict → Counts → ℕ → ℕ → Outcome
-outcome_by Fine c records n = outcome_with Fine c records n
+outcome_by (Ok _) c records n = outcome_with Fine c records n
 outcome_by (Err r) c records n = outcome_with (Err r) no_counts 0 n
 
 -- RULES 6.1, 9.1: behind all stages and what a call asks, the counts of acceptance, or the refusal, with the need where it is 9
@@ -100,7 +100,7 @@ table_behind file last words = table_by (call_verdict file (length words) last) 
 
 -- RULES 8.4, 8.5: on acceptance only; otherwise, and behind them, the buffer is as it was
 abbrev pub lent_by : Verdict → List ℤ → List ℤ → List ℤ
-lent_by Fine zs ds = filled zs ds
+lent_by (Ok _) zs ds = filled zs ds
 lent_by (Err r) zs ds = ds
 
 -- ---- the judge
@@ -127,7 +127,7 @@ sums_with v areas outside = record { number = (told_of v).number; place = (told_
 
 -- RULES 9.2: the two sums of layer number i, 1 for the file's first; both 0 if refused
 abbrev pub sums_by : Verdict → List ℕ → ℕ → Sums
-sums_by Fine file i =
+sums_by (Ok _) file i =
     sums_with Fine (areas_sum file (table_of file) (layer_of file (i - 1))) (outside_sum file (table_of file) (layer_of file (i - 1)))
 sums_by (Err r) file i = sums_with (Err r) (pos 0) (pos 0)
 

@@ -9,7 +9,7 @@ use Rattle.fields.specs.Number.{after_blanks, digits_of, plain_of, signed_of, nu
 use Rattle.fields.specs.Spelling.{columns, spell}
 use Rattle.fields.specs.Text.{is_name, is_blanks, text_at}
 use Rattle.records.specs.Layout.{layout_of}
-use Rattle.std.specs.Prelude.{Option}
+use Rattle.std.specs.Prelude.{Option, ℤ}
 use Rattle.codes.specs.declared.Code as codes
 use Rattle.codes.specs.Code.{land_text, is_land, land_at, code_at, spell_code}
 use Rattle.records.specs.Reading.{head_letters, in_layer_five, code_in, fault_of}

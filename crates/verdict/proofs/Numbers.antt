@@ -7,7 +7,7 @@ use Prim.Native.Nat.{ℕ, zero, suc, ◌≤◌}
 use native.Mathlib.Omega.{arith}
 use lib.Dec.{leb, eqb}
 use borrow.Author.Tests.{le-leb, leb-true, eq-eqb, ne_eqb}
-use Rattle.std.specs.Prelude.{Err}
+use Rattle.std.specs.Prelude.{Err, Ok}
 use Rattle.verdict.specs.declared.Refusal.{Refusal}
 use Rattle.verdict.specs.Rules.{Verdict, Fine, Broken, Rule, broken_at, first_broken, Check, block, rows, told_of}
 use Rattle.verdict.specs.Order.{In}
@@ -95,7 +95,7 @@ module _ (p : ℕ → Bool) where
 
 -- a number that no rule bears is told of no refusal; 0 is told where all are kept
 pub not_told : (m : ℕ) (rs : List Rule) → Numbered (unlike m) rs → (v : Verdict) → v ≡ first_broken rs → (told_of v).number ≡ m → v ≡ Fine
-not_told m rs h Fine e z = refl
+not_told m rs h (Ok _) e z = refl
 not_told m rs h (Err r) e z =
     let b : unlike m r.number ≡ true = broken_number (unlike m) rs h (sym e) in
     absurd (false≢true (rw (eq-eqb r.number m z) at b))

@@ -8,7 +8,7 @@ use Prim.Native.Nat.{ℕ, zero, suc, ◌+◌, ◌<◌, ◌≤◌}
 use native.Mathlib.Omega.{arith}
 use borrow.Author.Tests.{ltb-true, eqb-true, lt-ltb, le-ltb, eq-eqb}
 use lib.Dec.{ltb, eqb}
-use Rattle.std.specs.Prelude.{Err}
+use Rattle.std.specs.Prelude.{Err, Ok}
 use Rattle.verdict.specs.Rules.{Verdict, Fine, Broken, Rule, broken_at, first_broken, Check, rule_of, block, rows}
 use Rattle.verdict.specs.Order.{place_of, before, In, Least, Answer, Ahead, Sorted, spot_of, ahead_of, rising}
 
@@ -23,7 +23,7 @@ clash b p q = let z : true ≡ false = sym p ∙ q in let y : ◌≡◌ {A = ℕ
 
 -- one rule more in front that holds
 still : (a : Rule) (rs : List Rule) → a.holds ≡ true → (v : Verdict) → Answer rs v → Answer (a ∷ rs) v
-still a rs h Fine all = λ b i. ⊎_elim (λ e. rw e h) (λ j. all b j) i
+still a rs h (Ok _) all = λ b i. ⊎_elim (λ e. rw e h) (λ j. all b j) i
 still a rs h (Err r) l = record {
   rule = l.rule;
   listed = inr l.listed;
@@ -77,9 +77,9 @@ same : (rs : List Rule) {v w : Verdict} (l : Least rs v) (m : Least rs w) → m.
 same rs l m e = l.told ∙ ap broken_at (sym e) ∙ sym m.told
 
 pub only : (rs : List Rule) (v w : Verdict) → Answer rs v → Answer rs w → v ≡ w
-only rs Fine Fine p q = refl
-only rs Fine (Err r) p q = absurd (clash _ (p q.rule q.listed) q.broken)
-only rs (Err r) Fine p q = absurd (clash _ (q p.rule p.listed) p.broken)
+only rs (Ok _) (Ok _) p q = refl
+only rs (Ok _) (Err r) p q = absurd (clash _ (p q.rule q.listed) q.broken)
+only rs (Err r) (Ok _) p q = absurd (clash _ (q p.rule p.listed) p.broken)
 only rs (Err r) (Err r') p q =
     ⊎_elim
     (λ e. same rs p q e)

@@ -20,13 +20,13 @@ fine_broken p q = let e = sym p ∙ q in let z : ◌≡◌ {A = ℕ} 0 1 = cc in
 
 -- as code has it: the answer t to whether v is fine
 pub fine_is : (v : Verdict) {t : Bool} → t ≡ is_fine v → t ≡ true → v ≡ Fine
-fine_is Fine e h = refl
+fine_is (Ok _) e h = refl
 fine_is (Err r) e h = absurd (false≢true (sym e ∙ h))
 
 -- a, and b where a is fine
 infixr 30 ◌or_else◌
 abbrev pub ◌or_else◌ : Verdict → Verdict → Verdict
-Fine or_else b = b
+Ok _ or_else b = b
 Err r or_else b = Err r
 
 pub in_turn : (xs ys : List Rule) → first_broken (xs ++ ys) ≡ first_broken xs or_else first_broken ys
@@ -48,7 +48,7 @@ pub goes_on : (xs ys : List Rule) {v w : Verdict} → v ≡ Fine → v ≡ first
 goes_on xs ys h e q = rw (in_turn xs ys, ← e, h) q
 
 both_by : (v w : Verdict) → v or_else w ≡ Fine → (v ≡ Fine) × (w ≡ Fine)
-both_by Fine w h = (refl, h)
+both_by (Ok _) w h = (refl, h)
 both_by (Err r) w h = fine_broken h refl
 
 -- both are fine

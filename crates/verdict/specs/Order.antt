@@ -4,7 +4,7 @@
 --   Answer rs v      v is the answer to the rules rs: the least broken one, or Fine where all are kept
 --   Sorted rs        each rule stands before all that follow it
 --   rising cs        the same of a record's checks; it computes
-use Rattle.std.specs.Prelude.{Bool, true, false, ◌&&◌, ◌||◌, List, [], ◌∷◌, ◌⊎◌, ◌≡◌, ℕ, ltb, eqb, Err}
+use Rattle.std.specs.Prelude.{Bool, true, false, ◌&&◌, ◌||◌, List, [], ◌∷◌, ◌⊎◌, ◌≡◌, ℕ, ltb, eqb, Err, Ok}
 use Rattle.verdict.specs.Rules.{Verdict, Fine, Broken, Rule, Check, broken_at}
 
 -- RULES 6.1: by turn, then record, then column, then number
@@ -31,7 +31,7 @@ pub record Least (rs : List Rule) (v : Verdict) : Type 0 where
 
 -- RULES 6.1, 13.2: acceptance if all rules are kept; otherwise the first broken rule in the order of judgement is named
 abbrev pub Answer : List Rule → Verdict → Type 0
-Answer rs Fine = (b : Rule) → In b rs → b.holds ≡ true
+Answer rs (Ok _) = (b : Rule) → In b rs → b.holds ≡ true
 Answer rs (Err r) = Least rs (Err r)
 
 abbrev pub Ahead : Rule → List Rule → Type 0

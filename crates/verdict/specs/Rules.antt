@@ -14,7 +14,7 @@ use Rattle.verdict.specs.declared.Refusal.{Refusal}
 abbrev pub Verdict : Type 0
 Verdict = Result ⊤ Refusal
 
-pattern abbrev pub Fine : Verdict
+abbrev pub Fine : Verdict
 Fine = Ok tt
 
 abbrev pub Broken : ℕ → ℕ → ℕ → Verdict
@@ -39,7 +39,7 @@ first_broken (r ∷ rs) = cond r.holds (first_broken rs) (broken_at r)
 
 -- whether no rule is broken
 abbrev pub is_fine : Verdict → Bool
-is_fine (Ok tt) = true
+is_fine (Ok _) = true
 is_fine (Err r) = false
 
 -- a rule of one record: its column and number, and whether the record keeps it
@@ -69,5 +69,5 @@ spread (suc n) g = spread n g ++ g n
 
 -- RULES 6.1: acceptance is number 0 at 0, 0
 abbrev pub told_of : Verdict → Refusal
-told_of (Ok tt) = record { number = 0; place = 0; column = 0 }
+told_of (Ok _) = record { number = 0; place = 0; column = 0 }
 told_of (Err r) = r

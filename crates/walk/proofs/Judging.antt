@@ -121,13 +121,13 @@ unfolding walked_of
 walked_verdict file = by (first_broken (stage_one file ++ stage_two file)) (counts_at file (records_of file))
   where
     by : (v : Verdict) (c : Counts) → verdict_in (walked_by v c) ≡ v
-    by Fine c = refl
+    by (Ok _) c = refl
     by (Err r) c = refl
 
 -- ---- a file that keeps them
 
 verdict_by : (v : Verdict) (c : Counts) → verdict_in (walked_by v c) ≡ Fine → (v ≡ Fine) × (counts_in (walked_by v c) ≡ c)
-verdict_by Fine c h = (refl, refl)
+verdict_by (Ok _) c h = (refl, refl)
 verdict_by (Err r) c h = fine_broken h refl
 
 -- both stages are kept, and the counts are those of all records

@@ -16,7 +16,7 @@ use Rattle.fields.specs.Number.{number_at}
 use Rattle.records.specs.Layout.{layout_of}
 use Rattle.records.specs.View.{record_of}
 use Rattle.records.specs.Columns.{span_of, area_loops}
-use Rattle.std.specs.Prelude.{Err}
+use Rattle.std.specs.Prelude.{Err, Ok}
 use Rattle.verdict.specs.Rules.{Verdict, Fine, first_broken}
 use Rattle.verdict.proofs.Holding.{Holding}
 use Rattle.verdict.proofs.Orders.{and_both}
@@ -80,7 +80,7 @@ need_most file = by (first_broken (stage_one file ++ stage_two file)) refl
   where
     by : (v : Verdict) → first_broken (stage_one file ++ stage_two file) ≡ v
         → (counts_in (walked_by v (counts_at file (records_of file)))).words ≤ row_length * records_of file
-    by Fine e =
+    by (Ok _) e =
         let two = (both_fine (stage_one file) (stage_two file) e).1 in
         omega (arith, rows_most file (records_of file), words_counted file (records_of file) (ended file two))
     by (Err r) e = omega arith

@@ -66,7 +66,7 @@ stage_two file =
 
 -- the counts, or the refusal
 abbrev pub walked_by : Verdict → Counts → Result Counts Refusal
-walked_by (Ok tt) c = Ok c
+walked_by (Ok _) c = Ok c
 walked_by (Err r) c = Err r
 
 abbrev pub verdict_in : Result Counts Refusal → Verdict

@@ -64,12 +64,12 @@ filled ws d = ws ++ drop (length ws) d
 
 -- RULES 8.3: what a call leaves in the table whose rules up to refusal 9 gave a verdict: untouched, or the table in front
 abbrev pub filled_by : Verdict → List ℕ → List ℕ → List ℕ
-filled_by Fine file words = filled (table_of file) words
+filled_by (Ok _) file words = filled (table_of file) words
 filled_by (Err r) file words = words
 
 -- what is answered then: the counts; or the refusal, and for a table that is too short the need
 abbrev pub tabled_by : Verdict → Counts → ℕ → Result Counts Refused
-tabled_by (Ok tt) c need = Ok c
+tabled_by (Ok _) c need = Ok c
 tabled_by (Err r) c need = Err (record { refusal = r; need = cond (eqb r.number 9) need 0 })
 
 unfoldable pub tabled_of : List ℕ → ℕ → Result Counts Refused
