@@ -215,7 +215,7 @@ module _ (t : List ℕ) (b : Bases) where
     pairs_many zero = refl
     pairs_many (suc n) = rw (length-append, pairs_many n) (omega arith)
 
-    -- the first i of n pairs are filled into what held `entry`; x and y are the next
+    -- the first i of n pairs are filled into what held `entry`
     module _ (n i : ℕ) (entry : List ℤ) {ss : List ℤ} (w : 2 * n ≤ length entry) (q : ss ≡ filled (pairs_to file t b i) entry) where
       -- the two sums s of the next layer l, stored
       pub pair_put : i < n → {l : Layer} {s : ℤ × ℤ} → l ≡ layer_in t b i → ◌≡◌ {A = ℤ × ℤ} s (areas_sum file t l, outside_sum file t l)

@@ -154,7 +154,7 @@ module _ (file : List ℕ) (room : ℕ) {c : Counts} (e : Ok c ≡ judged_of fil
           → Ok s ≡ layer_told (Ok c) file n
       layer_sums_are h = rw (h, layer_is, f)
 
--- ---- a call's answer behind all stages, of which a table of `room` words is lent and which asks `last` of the counts
+-- ---- what a call finds that is lent a table of `room` words and asks `last` of the counts behind all stages
 
 module _ (file : List ℕ) (room : ℕ) (last : Counts → Check) where
   -- a refusal of the stages stands; behind none what is asked speaks
@@ -185,9 +185,7 @@ module _ (file : List ℕ) (room : ℕ) (last : Counts → Check) where
       by (Ok _) = refl
       by (Err r) = refl
 
-  -- ---- all stages answered t
-
-  -- a refusal
+  -- all stages refuse
   module _ {x : Refused} (e : Err x ≡ judged_of file room) where
     rules_broken : first_broken (rules_of file room) ≡ Err x.refusal
     unfolding judged_of
@@ -203,7 +201,7 @@ module _ (file : List ℕ) (room : ℕ) (last : Counts → Check) where
     pub stages_lent : (zs ds : List ℤ) → ds ≡ lent_by (call_verdict file room last) zs ds
     stages_lent zs ds = rw call_stops
 
-  -- the counts
+  -- they give the counts
   module _ {c : Counts} (e : Ok c ≡ judged_of file room) where
     asked_is : {v : Verdict} → v ≡ first_broken (block eighth 0 (last c ∷ [])) → call_verdict file room last ≡ v
     asked_is a = rw (call_is, judged_fine file room e, ← judged_counts file room e, a)

@@ -27,7 +27,7 @@ use Rattle.judge.specs.Rulebook.{rules_of, eighth, measure_rule, layer_rule, pai
 
 -- ---- all stages
 
--- RULES 6.1: the verdict of the file's rules, and the counts of a file that keeps stages 1 and 2
+-- RULES 6.1: what all stages say: the counts of a file that keeps them, or the refusal, with the need where it is 9
 unfoldable pub judged_of : List ℕ → ℕ → Result Counts Refused
 judged_of file room = tabled_by (first_broken (rules_of file room)) (counts_at file (records_of file)) (need_of file)
 
