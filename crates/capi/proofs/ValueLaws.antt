@@ -8,13 +8,13 @@ use native.Mathlib.Omega.{arith}
 use Rattle.records.specs.declared.Kind.{Kind}
 use Rattle.records.specs.declared.Kind.TheVariants.{Mesh, Layer, Node, Line, Coordinates, Area, Loop}
 use Rattle.records.specs.declared.Misread.{Misread}
-use Rattle.std.specs.Prelude.{Some, Result, Ok, Err}
+use Rattle.std.specs.Prelude.{Option, Some, None, Result, Ok, Err}
 use Rattle.records.specs.declared.Record.{Record}
 use Rattle.records.specs.Reading.{reading_of}
 use Rattle.records.specs.Writing.{record_bytes, fits_all}
-use Rattle.records.proofs.RecordLaws.{Sized, written_then_read, read_then_written, reading_nonzero}
+use Rattle.records.proofs.RecordLaws.{Sized, written_then_read, read_then_written, reading_nonzero, value_sized}
 use Rattle.capi.specs.declared.Value.{Value}
-use Rattle.capi.specs.Values.{meant_by, kind_number, meant_record, given_value, found_in, found_of}
+use Rattle.capi.specs.Values.{meant_by, kind_number, meant_record, given_value, found_in, found_by, found_of}
 
 -- a kind's number stands for the kind
 pub number_meant : (k : Kind) → meant_by (kind_number k) ≡ Some k
@@ -74,3 +74,16 @@ value_read_then_written n k e s h = rw (found_in_lem n k e s) (by (reading_of k 
         → (fits_all (meant_record k (found_in k x).value) ≡ true) × (record_bytes (meant_record k (found_in k x).value) ≡ s)
     by (Ok r) q h = let w = read_then_written k s r q in rw (again r k w.2) (w.0, w.1)
     by (Err m) q h = absurd (reading_nonzero k s q h)
+
+-- what is told as read has all its entries, also where it is refused
+pub found_sized : (n : ℕ) (s : List ℕ) (k : Kind) → Sized (meant_record k (found_of n s).value)
+unfolding found_of
+found_sized n s k = by (meant_by n)
+  where
+    in_kind : (j : Kind) (x : Result Record Misread) → ((r : Record) → x ≡ Ok r → Sized r) → Sized (meant_record k (found_in j x).value)
+    in_kind j (Ok r) h = let z = h r refl in record { numbers = z.numbers; name = z.name; marks = z.marks }
+    in_kind j (Err m) h = record { numbers = refl; name = refl; marks = refl }
+
+    by : (m : Option Kind) → Sized (meant_record k (found_by m s).value)
+    by (Some j) = in_kind j (reading_of j s) (λ r e. value_sized j s e)
+    by None = record { numbers = refl; name = refl; marks = refl }

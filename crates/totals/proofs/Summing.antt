@@ -30,7 +30,7 @@ use Rattle.totals.specs.Totals.{mesh_totals, layer_totals, area_totals, total_ch
 use Rattle.totals.specs.Adding.{Addable}
 use Rattle.totals.specs.declared.Rank.{Rank}
 use Rattle.totals.specs.contracts.RankPartialOrd.TheImpl as order
-use Rattle.core.specs.Ordering.{partial_le}
+use Rattle.std.specs.Ordering.{partial_le}
 
 -- ---- sums stay small
 
