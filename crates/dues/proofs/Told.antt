@@ -24,16 +24,16 @@ module _ (file : List ℕ) where
   pub all_behind : (n : ℕ) {k : ℕ} {s : State} → s ≡ state_at file k → k ≤ n → n ≤ k → s ≡ state_at file n
   all_behind n {k} e l g = let z : k ≡ n = omega arith in e ∙ ap (state_at file) z
 
-  -- as code has it: record 0
-  pub told_first : (r : ℕ) → (1 ≤ r → ⊥) → None ≡ due_at file r
+  -- of record 0 nothing
+  pub told_first : (r : ℕ) → r ≡ 0 → None ≡ due_at file r
   unfolding due_at
-  told_first zero l = refl
-  told_first (suc k) l = absurd (l (omega arith))
+  told_first r e = rw e
 
-  -- n records are looked at, and k are before r, which is none of them nor the next
-  pub told_past : (r k : ℕ) {n : ℕ} → r ≡ k + 1 → n ≡ records_of file → n < k → None ≡ due_at file r
+  -- n records are looked at, and r is none of them nor the next
+  pub told_past : (r : ℕ) {n : ℕ} → n ≡ records_of file → n + 1 < r → None ≡ due_at file r
   unfolding due_at
-  told_past r k e m l = rw (e, add-one k, lt-leb k (records_of file) (omega arith))
+  told_past zero m l = absurd (omega arith)
+  told_past (suc k) m l = rw (lt-leb k (records_of file) (omega arith))
 
   -- r is one of them, or the next; d is due behind the records before it, and j is its kind
   pub told_kind : (r k : ℕ) {n : ℕ} {s : State} {d : Due} {j : Kind} → r ≡ k + 1 → n ≡ records_of file → k ≤ n

@@ -79,22 +79,22 @@ pub loop-field-preserved : goal.loop-field-preserved
 loop-field-preserved c =
     let p = c.letters_in-letters.ensures ∙ ap (λ k. letters_in k c.args.s.now) c.kind_of-kind.ensures in
     elim c.match-field.branch [
-      in-Letters+else-not-letters_right w ↦
-        rw (w.numbers-is, w.n-is) (letters_next c.loop-field.invariant _ _ _ (stood _ _ _ _ c.kind_of-kind.ensures c.layout_of-field-items.ensures c.loop-field-test.true w.in-Letters.is)
-        (rw (w.byte_at.ensures, w.byte_at-in-Letters.ensures) at w.letters_right.ensures) w.if-not-letters_right.false)
-    | in-Number+in-Some+in_default-judge_value w ↦
-        let z : to_z w32 (of_z w32 w.in-Some.v) ≡ w.in-Some.v = search rules in
-        rw (w.numbers-is, w.n-is, z) (number_next c.loop-field.invariant _ _ (stood _ _ _ _ c.kind_of-kind.ensures c.layout_of-field-items.ensures c.loop-field-test.true w.in-Number.is) w.read_number.ensures _ w.in-Some.is
-        (sym w.in_default-judge_value.is ∙ (rw z at w.judge_value.ensures) ∙ ap first_asked (asked_by _ _ p _ _)))
-    | in-Name+else-not-read_name w ↦
-        rw (w.numbers-is, w.n-is) (name_next c.loop-field.invariant _ _ (stood _ _ _ _ c.kind_of-kind.ensures c.layout_of-field-items.ensures c.loop-field-test.true w.in-Name.is) w.read_name.ensures w.if-not-read_name.false)
-    | in-Blank+else-not-read_blank w ↦
-        rw (w.numbers-is, w.n-is) (blank_next c.loop-field.invariant _ _ (stood _ _ _ _ c.kind_of-kind.ensures c.layout_of-field-items.ensures c.loop-field-test.true w.in-Blank.is) w.read_blank.ensures w.if-not-read_blank.false)
-    | in-Code+in-Some-read_code+in_default-judge_value-2 w ↦
-        let k = w.in-Some-read_code.code in
-        let z : to_z w32 (of_z w32 k.value) ≡ k.value = search rules in
-        rw (w.numbers-is, w.n-is, z) (code_next c.loop-field.invariant _ _ (stood _ _ _ _ c.kind_of-kind.ensures c.layout_of-field-items.ensures c.loop-field-test.true w.in-Code.is) w.read_code.ensures _ w.in-Some-read_code.is
-        (sym w.in_default-judge_value-2.is ∙ (rw z at w.judge_value-in-Code.ensures) ∙ ap first_asked (asked_by _ _ p _ _)))
+      | in-Letters+else-not-letters_right w ↦
+          rw (w.numbers-is, w.n-is) (letters_next c.loop-field.invariant _ _ _ (stood _ _ _ _ c.kind_of-kind.ensures c.layout_of-field-items.ensures c.loop-field-test.true w.in-Letters.is)
+          (rw (w.byte_at.ensures, w.byte_at-in-Letters.ensures) at w.letters_right.ensures) w.if-not-letters_right.false)
+      | in-Number+in-Some+in_default-judge_value w ↦
+          let z : to_z w32 (of_z w32 w.in-Some.v) ≡ w.in-Some.v = search rules in
+          rw (w.numbers-is, w.n-is, z) (number_next c.loop-field.invariant _ _ (stood _ _ _ _ c.kind_of-kind.ensures c.layout_of-field-items.ensures c.loop-field-test.true w.in-Number.is) w.read_number.ensures _ w.in-Some.is
+          (sym w.in_default-judge_value.is ∙ (rw z at w.judge_value.ensures) ∙ ap first_asked (asked_by _ _ p _ _)))
+      | in-Name+else-not-read_name w ↦
+          rw (w.numbers-is, w.n-is) (name_next c.loop-field.invariant _ _ (stood _ _ _ _ c.kind_of-kind.ensures c.layout_of-field-items.ensures c.loop-field-test.true w.in-Name.is) w.read_name.ensures w.if-not-read_name.false)
+      | in-Blank+else-not-read_blank w ↦
+          rw (w.numbers-is, w.n-is) (blank_next c.loop-field.invariant _ _ (stood _ _ _ _ c.kind_of-kind.ensures c.layout_of-field-items.ensures c.loop-field-test.true w.in-Blank.is) w.read_blank.ensures w.if-not-read_blank.false)
+      | in-Code+in-Some-read_code+in_default-judge_value-2 w ↦
+          let k = w.in-Some-read_code.code in
+          let z : to_z w32 (of_z w32 k.value) ≡ k.value = search rules in
+          rw (w.numbers-is, w.n-is, z) (code_next c.loop-field.invariant _ _ (stood _ _ _ _ c.kind_of-kind.ensures c.layout_of-field-items.ensures c.loop-field-test.true w.in-Code.is) w.read_code.ensures _ w.in-Some-read_code.is
+          (sym w.in_default-judge_value-2.is ∙ (rw z at w.judge_value-in-Code.ensures) ∙ ap first_asked (asked_by _ _ p _ _)))
     ]
 
 pub returns : goal.returns
