@@ -4,7 +4,7 @@ use mathlib.Core.Bool.{Bool, true, false, not, not-not, ◌||◌, false≢true}
 use mathlib.Core.List.{List}
 use mathlib.Core.Logic.{⊎_elim}
 use mathlib.Core.Path.{◌≡◌, refl, sym, ◌∙◌}
-use Prim.Native.Nat.{ℕ, zero, suc, ◌+◌, ◌/◌, ◌%◌, ◌≤◌, ◌<◌}
+use Prim.Native.Nat.{ℕ, zero, suc, ◌+◌, ◌-◌, ◌/◌, ◌%◌, ◌≤◌, ◌<◌}
 use native.Mathlib.Nat.{zero-add, le_of_suc-le-suc, not-suc-le-zero, eq-or-lt_of_le}
 use native.Mathlib.Numerals.{add-one}
 use native.Mathlib.Omega.{arith}
@@ -60,16 +60,48 @@ any_told n m f l false h =
 
 -- ---- clean slots
 
-module _ (f : ℕ → ℤ) (e : ℕ) {r : Bool} where
-  -- an entry is not clean where an earlier slot is like it
-  pub entry_repeats : is_zero (f e) ≡ false → r ≡ some e (λ j. equal (f e) (f j)) → r ≡ not (clean f e)
-  unfolding clean
-  entry_repeats z h = rw (z, not-not (some e (λ j. equal (f e) (f j)))) h
+or_true : (b : Bool) → (b || true) ≡ true
+or_true true = refl
+or_true false = refl
 
+module _ (f : ℕ → ℤ) (e : ℕ) where
   -- what is no entry is clean
-  pub none_repeats : is_zero (f e) ≡ true → r ≡ true → not r ≡ not (clean f e)
+  pub none_clean : is_zero (f e) ≡ true → clean f e ≡ true
   unfolding clean
-  none_repeats z h = rw (z, h)
+  none_clean z = rw z
+
+  -- so is an entry that no earlier slot is like
+  pub unlike_clean : ((k : ℕ) → k < e → equal (f e) (f k) ≡ false) → clean f e ≡ true
+  unfolding clean
+  unlike_clean h = rw (some_never e (λ k. equal (f e) (f k)) h) (or_true (is_zero (f e)))
+
+  -- one is not where an earlier slot is like it
+  pub like_not_clean : (k : ℕ) → is_zero (f e) ≡ false → k < e → equal (f e) (f k) ≡ true → clean f e ≡ false
+  unfolding clean
+  like_not_clean k z l q = rw (z, some_hit e k (λ j. equal (f e) (f j)) l q)
+
+-- one slot more of those from a to b that have the bit t
+pub one_further : (g : ℕ → Bool) (t : Bool) (a b : ℕ) → ((k : ℕ) → a ≤ k → k < b → g k ≡ t) → g b ≡ t → (k : ℕ) → a ≤ k → k < b + 1 → g k ≡ t
+one_further g t a b h e k m l = ⊎_elim (λ q. rw q e) (λ o. h k m o) (eq-or-lt_of_le (omega (arith, l)))
+
+-- the scan from slot `from` to the one before `to` passed those before x: x is the end, or not clean
+module _ (f : ℕ → ℤ) (from to : ℕ) (l : from ≤ to) where
+  pub all_passed : ((k : ℕ) → from ≤ k → k < to → clean f k ≡ true) → FirstRepeat f from (to - from) (to - from)
+  all_passed h = record {
+    within = omega arith;
+    before = λ i m. h (from + i) (omega arith) (omega arith);
+    found = λ m. absurd (omega arith);
+  }
+
+  pub stopped_at : (x : ℕ) → from ≤ x → x < to → ((k : ℕ) → from ≤ k → k < x → clean f k ≡ true) → clean f x ≡ false
+      → FirstRepeat f from (to - from) (x - from)
+  stopped_at x m o h e =
+      let z : from + (x - from) ≡ x = omega arith in
+      record {
+        within = omega arith;
+        before = λ i q. h (from + i) (omega arith) (omega arith);
+        found = λ q. rw z e;
+      }
 
 -- ---- the slot at which the scan stopped
 

@@ -75,28 +75,26 @@ pub fn slot_of(file: &[u8], f: usize, e: usize) -> i32
     records::slot_at(file, f + e / 12, records::LOOP_ENTRIES, e % 12)
 }
 
-// Whether slot `e` of a row is an entry that an earlier slot of the row has too. The contract speaks of
-// every row `f` whose slots `slot` reads.
-fn repeats<F: Fn(usize) -> i32>(e: usize, slot: &F) -> bool
-    requires { F.IsAlwaysCallable slot.now }
-    ensures { (f : ℕ → ℤ) → ((i : ℕ) (v : ℤ) → i ≤ e → F.post slot.now i v → v ≡ f i) → result ≡ not (clean f e) }
-{
-    let v = slot(e);
-    !permitted::is_zero(v) && (0..e).any(|i| v == slot(i))
-}
-
 // Of the slots from number `from` to the one before `to`, the first that repeats an earlier slot of the
-// row; or `to`.
+// row; or `to`. The contract speaks of every row `f` whose slots `slot` reads.
 pub fn first_repeat<F: Fn(usize) -> i32>(from: usize, to: usize, slot: F) -> usize
     requires { F.IsAlwaysCallable slot }
     ensures { (f : ℕ → ℤ) → ((i : ℕ) (v : ℤ) → i < to → F.post slot i v → v ≡ f i) → from ≤ to → (from ≤ result) × FirstRepeat f from (to - from) (result - from) }
 {
-    for e in from..to {
-        if repeats(e, &slot) {
-            return e;
+    let mut at = to;
+    'scan: for e in from..to {
+        let v = slot(e);
+        if permitted::is_zero(v) {
+            continue;
+        }
+        for j in 0..e {
+            if v == slot(j) {
+                at = e;
+                break 'scan;
+            }
         }
     }
-    to
+    at
 }
 
 // ---- N
