@@ -83,12 +83,12 @@ pub fn first_repeat<F: Fn(usize) -> i32>(from: usize, to: usize, slot: F) -> usi
 {
     let mut at = to;
     'scan: for e in from..to {
-        let v = slot(e);
-        if permitted::is_zero(v) {
+        let entry = slot(e);
+        if permitted::is_zero(entry) {
             continue;
         }
         for j in 0..e {
-            if v == slot(j) {
+            if entry == slot(j) {
                 at = e;
                 break 'scan;
             }
