@@ -126,20 +126,13 @@ fn meets(file: &[u8], table: &[u32], l: Layer, r: usize, v: i32) -> bool
     permitted::size(e) == serial_in(file, r, records::NODE_SERIAL)
 }
 
-// Slot `i` of the N at record `r`; `again` says that it repeats an earlier one.
+// Slot `i` of the N at record `row`; `again` says that it repeats an earlier one.
 #[tactic(auto, using(crate::proofs::NodeLaws::slot_laws))]
-fn judge_slot(
-    file: &[u8],
-    table: &[u32],
-    l: Layer,
-    r: usize,
-    i: usize,
-    again: bool,
-    row: u32,
-) -> Verdict
-    requires { (i < 9) × (again ≡ not (clean (node_entry file.now r) i)) }
-    ensures { result ≡ first_broken (block fifth row (node_slot file.now table.now l r i)) }
+fn judge_slot(file: &[u8], table: &[u32], l: Layer, row: u32, i: usize, again: bool) -> Verdict
+    requires { (i < 9) × (again ≡ not (clean (node_entry file.now row) i)) }
+    ensures { result ≡ first_broken (block fifth row (node_slot file.now table.now l row i)) }
 {
+    let r = row as usize;
     let v = node_entry(file, r, i);
     if permitted::is_zero(v) {
         return Ok(());
@@ -156,14 +149,14 @@ fn judge_slot(
     Ok(())
 }
 
-// The entries of the N at record `r`.
+// The entries of the N at record `row`.
 #[tactic(auto, using(crate::proofs::NodeLaws::node_laws), unfolding(crate::specs::Links::node_checks))]
-fn judge_node(file: &[u8], table: &[u32], l: Layer, r: usize, row: u32) -> Verdict
-    ensures { result ≡ first_broken (block fifth row (node_checks file.now table.now l r)) }
+fn judge_node(file: &[u8], table: &[u32], l: Layer, row: u32) -> Verdict
+    ensures { result ≡ first_broken (block fifth row (node_checks file.now table.now l row)) }
 {
-    let at = first_repeat(0, 9, |i| node_entry(file, r, i));
+    let at = first_repeat(0, 9, |i| node_entry(file, row as usize, i));
     for i in 0..9 {
-        judge_slot(file, table, l, r, i, i == at, row)?;
+        judge_slot(file, table, l, row, i, i == at)?;
     }
     Ok(())
 }
@@ -185,20 +178,13 @@ fn link_fits(link: i32, frame: i32) -> bool
     permitted::is_zero(link) == permitted::is_zero(frame)
 }
 
-// One end of the line at record `r`: its node number in the columns `c`, its link in the columns `k`.
+// One end of the line at record `row`: its node number in the columns `c`, its link in the columns `k`.
 #[tactic(auto, using(crate::proofs::LineLaws::end_laws))]
-fn judge_end(
-    file: &[u8],
-    l: Layer,
-    r: usize,
-    c: Columns,
-    k: Columns,
-    back: bool,
-    row: u32,
-) -> Verdict
+fn judge_end(file: &[u8], l: Layer, row: u32, c: Columns, k: Columns, back: bool) -> Verdict
     requires { (c.0 ≤ 74) × (k.0 ≤ 74) }
-    ensures { result ≡ first_broken (block fifth row (line_end_checks file.now l r (span_from c.0 c.1) (span_from k.0 k.1) back)) }
+    ensures { result ≡ first_broken (block fifth row (line_end_checks file.now l row (span_from c.0 c.1) (span_from k.0 k.1) back)) }
 {
+    let r = row as usize;
     let v = records::value_at(file, r, c);
     if !layers::names(l.nodes, v) {
         return broken(11, row, c.0);
@@ -216,20 +202,13 @@ fn judge_end(
     Ok(())
 }
 
-// One side of the line at record `r`: its code in the columns `c`, its area number in the columns `a`.
+// One side of the line at record `row`: its code in the columns `c`, its area number in the columns `a`.
 #[tactic(auto, using(crate::proofs::LineLaws::side_laws))]
-fn judge_side(
-    file: &[u8],
-    table: &[u32],
-    l: Layer,
-    r: usize,
-    c: Columns,
-    a: Columns,
-    row: u32,
-) -> Verdict
+fn judge_side(file: &[u8], table: &[u32], l: Layer, row: u32, c: Columns, a: Columns) -> Verdict
     requires { (c.0 ≤ 74) × (a.0 ≤ 74) }
-    ensures { result ≡ first_broken (block fifth row (side_checks file.now table.now l r (span_from c.0 c.1) (span_from a.0 a.1))) }
+    ensures { result ≡ first_broken (block fifth row (side_checks file.now table.now l row (span_from c.0 c.1) (span_from a.0 a.1))) }
 {
+    let r = row as usize;
     let v = records::value_at(file, r, a);
     if !layers::names(l.areas, v) {
         if permitted::is_zero(v) {
@@ -246,38 +225,28 @@ fn judge_side(
     Ok(())
 }
 
-// The ends and the sides of the line at record `r`.
+// The ends and the sides of the line at record `row`.
 #[tactic(auto, using(verdict::proofs::Parts::part_stops, verdict::proofs::Parts::part_passes), unfolding(crate::specs::Links::line_checks))]
-fn judge_line(file: &[u8], table: &[u32], l: Layer, r: usize, row: u32) -> Verdict
-    ensures { result ≡ first_broken (block fifth row (line_checks file.now table.now l r)) }
+fn judge_line(file: &[u8], table: &[u32], l: Layer, row: u32) -> Verdict
+    ensures { result ≡ first_broken (block fifth row (line_checks file.now table.now l row)) }
 {
     judge_end(
         file,
         l,
-        r,
+        row,
         records::START_NODE,
         records::START_LINK,
         false,
-        row,
     )?;
-    judge_end(file, l, r, records::END_NODE, records::END_LINK, true, row)?;
+    judge_end(file, l, row, records::END_NODE, records::END_LINK, true)?;
+    judge_side(file, table, l, row, records::LEFT_CODE, records::LEFT_AREA)?;
     judge_side(
         file,
         table,
         l,
-        r,
-        records::LEFT_CODE,
-        records::LEFT_AREA,
         row,
-    )?;
-    judge_side(
-        file,
-        table,
-        l,
-        r,
         records::RIGHT_CODE,
         records::RIGHT_AREA,
-        row,
     )
 }
 
@@ -300,8 +269,8 @@ fn at_node(file: &[u8], l: Layer, v: i32, r: usize, i: usize) -> bool
 
 // The first point, where all points of the line are left; the L is record `q`.
 #[tactic(auto, using(crate::proofs::LineLaws::first_laws))]
-fn judge_first(file: &[u8], l: Layer, q: usize, r: usize, left: usize, row: u32) -> Verdict
-    ensures { result ≡ first_broken (block fifth row (first_point_checks file.now l q r left)) }
+fn judge_first(file: &[u8], l: Layer, q: usize, row: u32, left: usize) -> Verdict
+    ensures { result ≡ first_broken (block fifth row (first_point_checks file.now l q row left)) }
 {
     if left <= 1 {
         return Ok(());
@@ -310,7 +279,7 @@ fn judge_first(file: &[u8], l: Layer, q: usize, r: usize, left: usize, row: u32)
         return Ok(());
     }
     let v = records::value_at(file, q, records::START_NODE);
-    if !at_node(file, l, v, r, 0) {
+    if !at_node(file, l, v, row as usize, 0) {
         return slot_broken(12, row, records::POINTS_X, 0);
     }
     Ok(())
@@ -318,8 +287,8 @@ fn judge_first(file: &[u8], l: Layer, q: usize, r: usize, left: usize, row: u32)
 
 // The last point, where no more than seven are left.
 #[tactic(auto, using(crate::proofs::LineLaws::last_laws))]
-fn judge_last(file: &[u8], l: Layer, q: usize, r: usize, left: usize, row: u32) -> Verdict
-    ensures { result ≡ first_broken (block fifth row (last_point_checks file.now l q r left)) }
+fn judge_last(file: &[u8], l: Layer, q: usize, row: u32, left: usize) -> Verdict
+    ensures { result ≡ first_broken (block fifth row (last_point_checks file.now l q row left)) }
 {
     if left == 0 {
         return Ok(());
@@ -328,7 +297,7 @@ fn judge_last(file: &[u8], l: Layer, q: usize, r: usize, left: usize, row: u32) 
         return Ok(());
     }
     let v = records::value_at(file, q, records::END_NODE);
-    if !at_node(file, l, v, r, left - 1) {
+    if !at_node(file, l, v, row as usize, left - 1) {
         return slot_broken(12, row, records::POINTS_X, left - 1);
     }
     Ok(())
@@ -336,22 +305,22 @@ fn judge_last(file: &[u8], l: Layer, q: usize, r: usize, left: usize, row: u32) 
 
 // The first and the last point of a line.
 #[tactic(auto, using(verdict::proofs::Parts::part_stops, verdict::proofs::Parts::part_passes), unfolding(crate::specs::Links::point_checks))]
-fn judge_points(file: &[u8], l: Layer, q: usize, r: usize, left: usize, row: u32) -> Verdict
-    ensures { result ≡ first_broken (block fifth row (point_checks file.now l q r left)) }
+fn judge_points(file: &[u8], l: Layer, q: usize, row: u32, left: usize) -> Verdict
+    ensures { result ≡ first_broken (block fifth row (point_checks file.now l q row left)) }
 {
-    judge_first(file, l, q, r, left, row)?;
-    judge_last(file, l, q, r, left, row)
+    judge_first(file, l, q, row, left)?;
+    judge_last(file, l, q, row, left)
 }
 
 // ---- loop records
 
-// The entries of the loop record `r`.
+// The entries of the loop record `row`.
 #[tactic(auto, using(crate::proofs::LineLaws::entry_laws))]
-fn judge_entries(file: &[u8], l: Layer, r: usize, row: u32) -> Verdict
-    ensures { result ≡ first_broken (block fifth row (entry_checks file.now l r)) }
+fn judge_entries(file: &[u8], l: Layer, row: u32) -> Verdict
+    ensures { result ≡ first_broken (block fifth row (entry_checks file.now l row)) }
 {
     for i in 0..12 {
-        let v = slot_of(file, r, i);
+        let v = slot_of(file, row as usize, i);
         if !permitted::is_zero(v) && !layers::names_line(l.lines, v) {
             return slot_broken(11, row, records::LOOP_ENTRIES, i);
         }
@@ -368,21 +337,19 @@ fn current_line(table: &[u32], l: Layer, line: usize) -> usize
     layers::line_word(table, l, line.saturating_sub(1))
 }
 
-// Record `r`, due as `d`, in the layer `l`; `line` lines of the layer came before it.
+// Record `row`, due as `d`, in the layer `l`; `line` lines of the layer came before it.
 #[tactic(auto, using(verdict::proofs::Parts::check_none))]
-fn judge_record(d: Due, file: &[u8], table: &[u32], l: Layer, line: usize, r: usize) -> Verdict
-    requires { r ≤ 6399936 }
-    ensures { result ≡ first_broken (block fifth r (link_checks d file.now table.now l line r)) }
+fn judge_record(d: Due, file: &[u8], table: &[u32], l: Layer, line: usize, row: u32) -> Verdict
+    ensures { result ≡ first_broken (block fifth row (link_checks d file.now table.now l line row)) }
 {
-    let row = r as u32;
     match d {
-        Due::Node(_, _) => judge_node(file, table, l, r, row),
-        Due::Line(_, _, _) => judge_line(file, table, l, r, row),
+        Due::Node(_, _) => judge_node(file, table, l, row),
+        Due::Line(_, _, _) => judge_line(file, table, l, row),
         Due::Coordinates(left) => {
             let q = current_line(table, l, line);
-            judge_points(file, l, q, r, left, row)
+            judge_points(file, l, q, row, left)
         }
-        Due::Loop(_, _, _) => judge_entries(file, l, r, row),
+        Due::Loop(_, _, _) => judge_entries(file, l, row),
         _ => Ok(()),
     }
 }
@@ -417,7 +384,7 @@ pub fn stage_four(file: &[u8], table: &[u32], b: Bases) -> Verdict
             table,
             x.layer,
             x.state.layer.line,
-            x.records + 1,
+            (x.records + 1) as u32,
         )?;
         x = layers::behind(file, table, b, x);
         x = layers::past_quiet(file, x, between(file, table, x.layer, x.state));

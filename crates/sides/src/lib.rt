@@ -4,7 +4,7 @@
 // The contracts cite `specs/`: `Sides` has the rules of the stage, `Marking` the marks that spare searches.
 #![tactic(auto)]
 
-ghost use Rattle.std.specs.Prelude.{◌≡◌, ◌≤◌};
+ghost use Rattle.std.specs.Prelude.{◌≡◌, List, ℕ, ◌≤◌};
 ghost use Rattle.verdict.specs.Rules.{Broken, first_broken, block};
 ghost use Rattle.records.specs.Columns.{span_from};
 ghost use Rattle.sides.specs.Sides.{lists, side_listed, list_checks, line_list_checks, seventh, stage_six};
@@ -13,6 +13,7 @@ ghost use Rattle.sides.specs.Marking.{mark_at, Marks, put_mark, bears, LineCount
 use layers::{Bases, Layer};
 use records::Columns;
 use rules::Due;
+use std::marker::Model;
 use verdict::{Refusal, Verdict};
 
 // ---- marks
@@ -23,21 +24,6 @@ fn mark_at(back: bool, n: usize) -> usize
     ensures { result ≡ mark_at back n }
 {
     2 * n + usize::from(back)
-}
-
-// Marks every entry of the area whose A is record `a` with `a`.
-fn mark_area(file: &[u8], a: usize, marks: &mut [usize])
-    requires { Marks file.now marks.old }
-    ensures { Marks file.now marks.new }
-{
-    for e in 0..entries::area_slots(file, a) {
-        let v = links::slot_of(file, a + 1, e);
-        put_mark(
-            marks,
-            mark_at(!permitted::natural(v), permitted::size(v)),
-            a,
-        );
-    }
 }
 
 // Puts `a` at place `i`, if there is one.
@@ -51,14 +37,12 @@ fn put_mark(marks: &mut [usize], i: usize, a: usize)
     }
 }
 
-// Marks every entry of a layer's areas.
-fn mark_layer(file: &[u8], table: &[u32], l: Layer, marks: &mut [usize])
-    requires { Marks file.now marks.old }
-    ensures { Marks file.now marks.new }
+// Whether +n or, backwards, -n bears the mark `a`.
+#[tactic(auto, unfolding(crate::specs::Marking::bears))]
+fn bears(marks: &[usize], back: bool, n: usize, a: usize) -> bool
+    ensures { result ≡ bears marks.now back n a }
 {
-    for i in 0..l.areas as usize {
-        mark_area(file, layers::area_word(table, l, i), marks);
-    }
+    n <= 999999 && 0 < a && marks.get(mark_at(back, n)) == Some(&a)
 }
 
 // ---- lines
@@ -71,106 +55,147 @@ fn lists(file: &[u8], a: usize, back: bool, n: usize) -> bool
     (0..slots).any(|e| links::entry_is(back, n, links::slot_of(file, a + 1, e)))
 }
 
-// Whether +n or, backwards, -n bears the mark `a`.
-#[tactic(auto, unfolding(crate::specs::Marking::bears))]
-fn bears(marks: &[usize], back: bool, n: usize, a: usize) -> bool
-    ensures { result ≡ bears marks.now back n a }
-{
-    n <= 999999 && 0 < a && marks.get(mark_at(back, n)) == Some(&a)
-}
-
-// The same answer, without a search where the entry bears the area's mark.
-#[tactic(auto, using(crate::proofs::Marked::bears_listed))]
-fn has_entry(file: &[u8], a: usize, back: bool, n: usize, marks: &[usize]) -> bool
-    requires { Marks file.now marks.now }
-    ensures { result ≡ lists file.now a back n }
-{
-    bears(marks, back, n, a) || lists(file, a, back, n)
-}
-
-// Whether the area in the columns `c` of the L at record `r` has line `n`'s entry; area 0 is nobody.
-#[tactic(auto, unfolding(crate::specs::Sides::side_listed))]
-fn side_listed(
-    file: &[u8],
-    table: &[u32],
-    l: Layer,
-    r: usize,
-    c: Columns,
-    back: bool,
-    n: usize,
-    marks: &[usize],
-) -> bool
-    requires { Marks file.now marks.now }
-    ensures { result ≡ side_listed file.now table.now l r (span_from c.0 c.1) back n }
-{
-    let v = records::value_at(file, r, c);
-    permitted::is_zero(v) || has_entry(file, layers::area_of(table, l, v), back, n, marks)
-}
-
-// The refusal of the L at record `r` whose area in the columns `c` doesn't list it.
-fn unlisted(r: usize, c: Columns) -> Verdict
-    requires { (r ≤ 6399936) × (c.0 ≤ 74) }
-    ensures { result ≡ Broken 18 r c.0 }
+// The refusal of the L at record `row` whose area in the columns `c` doesn't list it.
+fn unlisted(row: u32, c: Columns) -> Verdict
+    requires { c.0 ≤ 74 }
+    ensures { result ≡ Broken 18 row c.0 }
 {
     Err(Refusal {
         number: 18,
-        place: r as u32,
+        place: row,
         column: c.0 as u32,
     })
 }
 
-// Both sides of line `n`, whose L is record `r`.
-#[tactic(auto, unfolding(crate::specs::Sides::list_checks, verdict::specs::Rules::first_broken, verdict::specs::Rules::block))]
-fn judge_line(file: &[u8], table: &[u32], l: Layer, r: usize, n: usize, marks: &[usize]) -> Verdict
-    requires { (r ≤ 6399936) × Marks file.now marks.now }
-    ensures { result ≡ first_broken (block seventh r (list_checks file.now table.now l r n)) }
-{
-    if !side_listed(file, table, l, r, records::LEFT_AREA, true, n, marks) {
-        return unlisted(r, records::LEFT_AREA);
+// ---- a file and its marks
+
+// A file, and the marks that spare searches of it. A clause sees the file alone.
+#[derive(Drop)]
+struct MarkedFile<'a> {
+    file: &'a [u8],
+    marks: [usize; 20000],
+}
+
+impl<'a> Model for MarkedFile<'a> {
+    ghost Value = { List ℕ };
+
+    ghost view = { λ m. m.file.now };
+
+    ghost invariant = { λ m. Marks m.file.now m.marks };
+}
+
+impl<'a> MarkedFile<'a> {
+    // The file with no mark.
+    fn unmarked(file: &'a [u8]) -> MarkedFile<'a>
+        ensures { result ≡ file.now }
+    {
+        MarkedFile {
+            file,
+            marks: [0; 20000],
+        }
     }
-    if !side_listed(file, table, l, r, records::RIGHT_AREA, false, n, marks) {
-        return unlisted(r, records::RIGHT_AREA);
+
+    // Marks every entry of the area whose A is record `a` with `a`.
+    fn mark_area(&mut self, a: usize)
+        ensures { self.new ≡ self.old }
+    {
+        let file = self.file;
+        for e in 0..entries::area_slots(file, a) {
+            let v = links::slot_of(file, a + 1, e);
+            put_mark(
+                &mut self.marks,
+                mark_at(!permitted::natural(v), permitted::size(v)),
+                a,
+            );
+        }
     }
-    Ok(())
+
+    // Marks every entry of a layer's areas.
+    fn mark_layer(&mut self, table: &[u32], l: Layer)
+        ensures { self.new ≡ self.old }
+    {
+        for i in 0..l.areas as usize {
+            self.mark_area(layers::area_word(table, l, i));
+        }
+    }
+
+    // Behind an H, marks the entries of its layer `l`.
+    fn mark_behind(&mut self, d: Due, table: &[u32], l: Layer)
+        ensures { self.new ≡ self.old }
+    {
+        if layers::is_layer(d) {
+            self.mark_layer(table, l);
+        }
+    }
+
+    // The answer of `lists`, without a search where the entry bears the area's mark.
+    #[tactic(auto, using(crate::proofs::Marked::bears_listed))]
+    fn has_entry(&self, a: usize, back: bool, n: usize) -> bool
+        ensures { result ≡ lists self.now a back n }
+    {
+        bears(&self.marks, back, n, a) || lists(self.file, a, back, n)
+    }
+
+    // Whether the area in the columns `c` of the L at record `r` has line `n`'s entry; area 0 is nobody.
+    #[tactic(auto, unfolding(crate::specs::Sides::side_listed))]
+    fn side_listed(
+        &self,
+        table: &[u32],
+        l: Layer,
+        r: usize,
+        c: Columns,
+        back: bool,
+        n: usize,
+    ) -> bool
+        ensures { result ≡ side_listed self.now table.now l r (span_from c.0 c.1) back n }
+    {
+        let v = records::value_at(self.file, r, c);
+        permitted::is_zero(v) || self.has_entry(layers::area_of(table, l, v), back, n)
+    }
+
+    // Both sides of line `n`, whose L is record `row`.
+    #[tactic(auto, unfolding(crate::specs::Sides::list_checks, verdict::specs::Rules::first_broken, verdict::specs::Rules::block))]
+    fn judge_line(&self, table: &[u32], l: Layer, row: u32, n: usize) -> Verdict
+        ensures { result ≡ first_broken (block seventh row (list_checks self.now table.now l row n)) }
+    {
+        let r = row as usize;
+        if !self.side_listed(table, l, r, records::LEFT_AREA, true, n) {
+            return unlisted(row, records::LEFT_AREA);
+        }
+        if !self.side_listed(table, l, r, records::RIGHT_AREA, false, n) {
+            return unlisted(row, records::RIGHT_AREA);
+        }
+        Ok(())
+    }
+
+    // Record `row`, due as `d`, in the layer `l`.
+    #[tactic(auto, using(verdict::proofs::Parts::check_none))]
+    fn judge_record(&self, d: Due, table: &[u32], l: Layer, row: u32) -> Verdict
+        requires { LineCountable d }
+        ensures { result ≡ first_broken (block seventh row (line_list_checks d self.now table.now l row)) }
+    {
+        match d {
+            Due::Line(_, last, _) => self.judge_line(table, l, row, last + 1),
+            _ => Ok(()),
+        }
+    }
 }
 
 // ---- the stage
-
-// Record `r`, due as `d`, in the layer `l`.
-#[tactic(auto, using(verdict::proofs::Parts::check_none))]
-fn judge_record(d: Due, file: &[u8], table: &[u32], l: Layer, r: usize, marks: &[usize]) -> Verdict
-    requires { (r ≤ 6399936) × LineCountable d × Marks file.now marks.now }
-    ensures { result ≡ first_broken (block seventh r (line_list_checks d file.now table.now l r)) }
-{
-    match d {
-        Due::Line(_, last, _) => judge_line(file, table, l, r, last + 1, marks),
-        _ => Ok(()),
-    }
-}
-
-// Behind an H, marks the entries of its layer `l`.
-fn mark_behind(d: Due, file: &[u8], table: &[u32], l: Layer, marks: &mut [usize])
-    requires { Marks file.now marks.old }
-    ensures { Marks file.now marks.new }
-{
-    if layers::is_layer(d) {
-        mark_layer(file, table, l, marks);
-    }
-}
 
 // Stage 6: both sides of every line.
 pub fn stage_six(file: &[u8], table: &[u32], b: Bases) -> Verdict
     ensures { result ≡ first_broken (stage_six file.now table.now b) }
 {
     let n = walk::records_of(file);
-    let mut marks = [0usize; 20000];
+    let mut marked = MarkedFile::unmarked(file);
     let mut x = layers::at_first(table, b);
     // a quiet run is one step, so no range counts this
     while x.records < n {
         let d = walk::due(x.state);
-        judge_record(d, file, table, x.layer, x.records + 1, &marks)?;
+        marked.judge_record(d, table, x.layer, (x.records + 1) as u32)?;
         x = layers::behind(file, table, b, x);
-        mark_behind(d, file, table, x.layer, &mut marks);
+        marked.mark_behind(d, table, x.layer);
         x = layers::past_quiet(file, x, n);
     }
     Ok(())

@@ -7,4 +7,4 @@ use Rattle.links.proofs.LineLaws.{entry_slot}
 use Rattle.links.proofs.judge_entries.Given as goal
 
 abbrev pub invariant-loop-i : goal.invariant-loop-i
-invariant-loop-i l = first_broken (rows l.i (slot_rules fifth l.row (entry_slot l.file l.l l.r))) ≡ Fine
+invariant-loop-i l = first_broken (rows l.i (slot_rules fifth l.row (entry_slot l.file l.l l.row))) ≡ Fine

@@ -9,9 +9,9 @@ use Rattle.links.proofs.judge_node.Goals as goal
 use Rattle.links.proofs.judge_node.Goals.{After-first_repeat-at}
 
 -- what the scan says of the node's slots
-scanned : (c : After-first_repeat-at) → FirstRepeat (node_entry c.args.file.now c.args.r) 0 9 c.first_repeat-at.result
+scanned : (c : After-first_repeat-at) → FirstRepeat (node_entry c.args.file.now c.args.row) 0 9 c.first_repeat-at.result
 scanned c =
-    let s = c.first_repeat-at.ensures (node_entry c.args.file.now c.args.r) (λ i v l p. search (rules, passed_on)) (omega arith) in
+    let s = c.first_repeat-at.ensures (node_entry c.args.file.now c.args.row) (λ i v l p. search (rules, passed_on)) (omega arith) in
     rw (sub-zero c.first_repeat-at.result) at s.1
 
 pub judge_slot-requires : goal.judge_slot-requires

@@ -7,4 +7,4 @@ use Rattle.links.proofs.Scans.{slot_rules}
 use Rattle.links.proofs.judge_node.Given as goal
 
 abbrev pub invariant-loop-i : goal.invariant-loop-i
-invariant-loop-i l = (l.i ≤ l.at) × (first_broken (rows l.i (slot_rules fifth l.row (node_slot l.file l.table l.l l.r))) ≡ Fine)
+invariant-loop-i l = (l.i ≤ l.at) × (first_broken (rows l.i (slot_rules fifth l.row (node_slot l.file l.table l.l l.row))) ≡ Fine)
