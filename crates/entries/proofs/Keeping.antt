@@ -9,7 +9,7 @@ use native.Mathlib.Omega.{arith}
 use lib.Dec.{leb}
 use lib.IntN.{ℤ, pos, nat_abs}
 use lib.ListN.{length, take, set, get_or}
-use lib.Seq.{sets, length-sets}
+use lib.Seq.{sets}
 use lib.Signed.{mag}
 use mir.Facts.{to_z-of_z}
 use mir.Syntax.{w64}
@@ -140,20 +140,14 @@ module _ (file t : List ℕ) (l : Layer) where
           kept_named l _ n e ∙ at (n - 1) (omega (arith, line_size l.lines (pos n) e)) ∙ sym (measure_named n e)
       by n false e = kept_unnamed l _ n e ∙ sym (measure_unnamed n e)
 
-  -- the answer r of `keep_measures` to the list ms, and the list ks that it leaves
-  module _ (ms : List ℤ) {r : ℕ} {ks : List ℤ} (h : (r ≡ min l.lines (length ms)) × (ks ≡ sets ms 0 (walked_to file t l r))) where
-    pub kept_length : length ks ≡ length ms
-    kept_length = rw h.1 (length-sets ms 0 (walked_to file t l r))
+  -- the first n are the list then
+  pub walked_front : (ms : List ℤ) {n : ℕ} {ks : List ℤ} → ks ≡ sets ms 0 (walked_to file t l n) → n ≤ length ms → take n ks ≡ walked_to file t l n
+  unfolding walked_to
+  walked_front ms {n} e h = rw (e, first_front (λ (i : ℕ). measure_by added_up file (get_or t (l.line + i) 0)) ms n h)
 
-    pub kept_room : r ≤ length ks
-    kept_room = omega (arith, kept_length, h.0)
-
-    -- WITH ROOM FOR ALL LINES THAT A LAYER CAN HAVE, they are kept
-    pub kept_lines : 9999 ≤ length ms → SoundLayer file t l → Kept file t l (take r ks)
-    unfolding walked_to
-    kept_lines q s =
-        let e : r ≡ l.lines = h.0 ∙ min-eq_left (omega (arith, s.few)) in
-        rw (h.1, first_front (λ (i : ℕ). measure_by added_up file (get_or t (l.line + i) 0)) ms r (omega (arith, e, s.few)), e) (walked_kept s)
+  -- A LAYER'S LINES ARE KEPT by the list ks that `LineMeasures::keep` leaves: there is room for all that a layer can have
+  pub kept_lines : {ks : List ℤ} → ks ≡ walked_to file t l (min l.lines 9999) → SoundLayer file t l → Kept file t l ks
+  kept_lines e s = rw (e, min-eq_left s.few) (walked_kept s)
 
   -- by the list every loop has its measure
   entry_kept : (ms : List ℤ) → Kept file t l ms → (e : Entry) → entry_measure (kept_measure l ms) e ≡ entry_measure (measure_of file t l) e

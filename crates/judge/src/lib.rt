@@ -23,6 +23,7 @@ ghost use Rattle.judge.specs.Outcomes.{judged_of, table_judged, told_behind, out
 ghost use Rattle.judge.specs.Outcomes.{layer_told, sums_told, sums_of, table_after_sums, outcome_of_all, table_after_all, pairs_to, sums_after};
 ghost use Rattle.judge.specs.Measuring.{Measurable, kept_area, outside_at, Summable, SummableTo};
 
+use entries::LineMeasures;
 use layers::{Bases, Layer};
 use verdict::{Refusal, Verdict};
 use walk::{Counts, Refused};
@@ -111,21 +112,28 @@ fn asked(number: u32, kept: bool) -> Verdict
 
 // The measure of the area whose A is record `a`, the sum of its loops', by the line measures `kept` of its
 // layer.
-fn area_measure(file: &[u8], l: Layer, kept: &[i64], a: usize) -> i64
+fn area_measure(file: &[u8], l: Layer, kept: &LineMeasures, a: usize) -> i64
     requires { (a ≤ 4294967295) × Measurable file.now (kept_measure l kept.now) a }
     ensures { result ≡ kept_area file.now l kept.now a }
 {
     let mut sum: i64 = 0;
     let mut f = a + 1;
     for _ in 0..entries::loops_at(file, a) {
-        sum += entries::loop_measure(file, l, kept, f);
+        sum += kept.loop_measure(file, l, f);
         f += entries::loop_records(file, f);
     }
     sum
 }
 
 // The measures of a layer's areas, from place `at` on.
-fn fill_layer(file: &[u8], table: &[u32], l: Layer, kept: &[i64], at: usize, measures: &mut [i64])
+fn fill_layer(
+    file: &[u8],
+    table: &[u32],
+    l: Layer,
+    kept: &LineMeasures,
+    at: usize,
+    measures: &mut [i64],
+)
     requires { (at + l.areas ≤ length measures.old) × Kept file.now table.now l kept.now × Summable file.now table.now l }
     ensures { measures.new ≡ sets measures.old at (first_of (λ a. area_of_layer file.now table.now l (suc a)) l.areas) }
 {
@@ -139,18 +147,18 @@ fn fill_measures(file: &[u8], table: &[u32], b: Bases, n: usize, measures: &mut 
     requires { SummableTo file.now table.now b n × (words_before table.now areas_word n ≤ length measures.old) }
     ensures { measures.new ≡ filled (measures_to file.now table.now b n) measures.old }
 {
-    let mut kept = [0i64; 9999];
+    let mut kept = LineMeasures::none();
     let mut at: usize = 0;
     for i in 0..n {
         let l = layers::layer_in(table, b, i);
-        let have = entries::keep_measures(file, table, l, &mut kept);
-        fill_layer(file, table, l, &kept[..have], at, measures);
+        kept.keep(file, table, l);
+        fill_layer(file, table, l, &kept, at, measures);
         at += l.areas as usize;
     }
 }
 
 // The sum of a layer's areas' measures.
-fn areas_sum(file: &[u8], table: &[u32], l: Layer, kept: &[i64]) -> i64
+fn areas_sum(file: &[u8], table: &[u32], l: Layer, kept: &LineMeasures) -> i64
     requires { Kept file.now table.now l kept.now × Summable file.now table.now l }
     ensures { result ≡ areas_sum file.now table.now l }
 {
@@ -163,7 +171,7 @@ fn areas_sum(file: &[u8], table: &[u32], l: Layer, kept: &[i64]) -> i64
 
 // What line `n` adds to the outside sum: its measure, where only its left area is 0; taken away, where
 // only its right one is.
-fn outside_at(file: &[u8], table: &[u32], l: Layer, kept: &[i64], n: usize) -> i64
+fn outside_at(file: &[u8], table: &[u32], l: Layer, kept: &LineMeasures, n: usize) -> i64
     requires { (n ≤ 9999) × Kept file.now table.now l kept.now }
     ensures { result ≡ outside_at file.now table.now l n }
 {
@@ -172,14 +180,14 @@ fn outside_at(file: &[u8], table: &[u32], l: Layer, kept: &[i64], n: usize) -> i
     let left = permitted::is_zero(records::value_at(file, r, records::LEFT_AREA));
     let right = permitted::is_zero(records::value_at(file, r, records::RIGHT_AREA));
     match (left, right) {
-        (true, false) => entries::line_measure(l, kept, v),
-        (false, true) => -entries::line_measure(l, kept, v),
+        (true, false) => kept.line_measure(l, v),
+        (false, true) => -kept.line_measure(l, v),
         _ => 0,
     }
 }
 
 // A layer's outside sum.
-fn outside_sum(file: &[u8], table: &[u32], l: Layer, kept: &[i64]) -> i64
+fn outside_sum(file: &[u8], table: &[u32], l: Layer, kept: &LineMeasures) -> i64
     requires { Kept file.now table.now l kept.now × Summable file.now table.now l }
     ensures { result ≡ outside_sum file.now table.now l }
 {
@@ -190,14 +198,13 @@ fn outside_sum(file: &[u8], table: &[u32], l: Layer, kept: &[i64]) -> i64
     sum
 }
 
-// The sum of a layer's areas' measures, and its outside sum; `table` is the table of an accepted file.
-// `measures` has a place for each line; what they hold before does not matter.
-fn sums_in(file: &[u8], table: &[u32], l: Layer, measures: &mut [i64]) -> (i64, i64)
-    requires { Summable file.now table.now l × (9999 ≤ length measures.old) }
+// The sum of a layer's areas' measures, and its outside sum; `table` is the table of an accepted file. What
+// `kept` held doesn't matter.
+fn sums_in(file: &[u8], table: &[u32], l: Layer, kept: &mut LineMeasures) -> (i64, i64)
+    requires { Summable file.now table.now l }
     ensures { result ≡ (areas_sum file.now table.now l, outside_sum file.now table.now l) }
 {
-    let have = entries::keep_measures(file, table, l, measures);
-    let kept = &measures[..have];
+    kept.keep(file, table, l);
     (
         areas_sum(file, table, l, kept),
         outside_sum(file, table, l, kept),
@@ -209,9 +216,9 @@ fn fill_sums(file: &[u8], table: &[u32], b: Bases, n: usize, sums: &mut [i64])
     requires { SummableTo file.now table.now b n × (2 * n ≤ length sums.old) }
     ensures { sums.new ≡ filled (pairs_to file.now table.now b n) sums.old }
 {
-    let mut measures = [0i64; 9999];
+    let mut kept = LineMeasures::none();
     for i in 0..n {
-        let (areas, outside) = sums_in(file, table, layers::layer_in(table, b, i), &mut measures);
+        let (areas, outside) = sums_in(file, table, layers::layer_in(table, b, i), &mut kept);
         sums[2 * i] = areas;
         sums[2 * i + 1] = outside;
     }
@@ -309,10 +316,10 @@ fn judge_layer(file: &[u8], table: &mut [u32], layer: u32) -> Result<(i64, i64),
     let counts = judge_file(file, table)?;
     let i = layer as usize;
     asked(22, 1 <= i && i <= counts.layers)?;
-    let mut measures = [0i64; 9999];
+    let mut kept = LineMeasures::none();
     let words = &table[..counts.words];
     let l = layers::layer_in(words, bases_of(counts), i - 1);
-    Ok(sums_in(file, words, l, &mut measures))
+    Ok(sums_in(file, words, l, &mut kept))
 }
 
 // Judges a file and gives the two sums of layer number `layer`, 1 being the file's first: the sum of its

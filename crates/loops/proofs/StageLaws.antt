@@ -1,14 +1,13 @@
 -- What stage 5 keeps of lines and knows of an area, from record to record. Assumes nothing.
-use mathlib.Core.Bool.{Bool, true, false, cond, false≢true}
+use mathlib.Core.Bool.{Bool, true, false, cond}
 use mathlib.Core.List.{List, []}
-use mathlib.Core.Path.{◌≡◌, refl, sym, ◌∙◌}
-use Prim.Native.Nat.{ℕ, zero, suc, ◌+◌, ◌-◌, ◌≤◌, ◌<◌, min}
+use mathlib.Core.Path.{◌≡◌, refl, ◌∙◌}
+use Prim.Native.Nat.{ℕ, zero, suc, ◌+◌, ◌-◌, ◌<◌, min}
 use native.Mathlib.Numerals.{add-one}
 use native.Mathlib.Omega.{arith}
 use lib.Dec.{ltb}
 use lib.IntN.{ℤ}
-use lib.ListN.{length, take, get_or}
-use lib.Seq.{sets}
+use lib.ListN.{get_or}
 use borrow.Author.Tests.{le-ltb, ltb-true, ltb-false}
 use Rattle.records.specs.View.{record_of}
 use Rattle.rules.specs.declared.Due.{Due}
@@ -28,21 +27,10 @@ use Rattle.layers.specs.Standing.{standing_at}
 use Rattle.layers.proofs.Passing.{counts_step}
 use Rattle.layers.proofs.Walks.{state_is, rows_are, layer_is, state_behind, rows_behind, layer_behind}
 use Rattle.entries.specs.Keeping.{walked_to, Kept, SoundLayer}
-use Rattle.entries.proofs.Keeping.{kept_room, kept_lines}
+use Rattle.entries.proofs.Keeping.{kept_lines}
 use Rattle.loops.specs.Loops.{area_record, area_checks, areas_at}
-use Rattle.loops.specs.Scanning.{Unrepeated, KeptFor, KeptBehind, SoundTable, KnownBehind}
+use Rattle.loops.specs.Scanning.{Unrepeated, KeptFor, SoundTable, KnownBehind}
 use Rattle.loops.proofs.Repeats.{unrepeated_none}
-
--- ---- line measures
-
-module _ (file t : List ℕ) (l : Layer) (have : ℕ) (ms : List ℤ) where
-  -- behind an H there are n, ns, of its layer
-  pub kept_anew : {n : ℕ} {ns : List ℤ} → (n ≡ min l.lines (length ms)) × (ns ≡ sets ms 0 (walked_to file t l n)) → KeptBehind true file t l have ms n ns
-  kept_anew h = record {
-    room = kept_room file t l ms h;
-    new = λ e. kept_lines file t l ms h;
-    old = λ e. absurd (false≢true (sym e));
-  }
 
 -- ---- before the first H nothing but an M or an H is due
 
@@ -150,19 +138,16 @@ module _ (file t : List ℕ) (b : Bases) {x : Standing} (e : x ≡ standing_at f
       let g = (grown file (records_of file) (x.records + 1) (omega arith)).layers in
       rw (layer_is file t b q) (h.layers ((counts_at file (x.records + 1)).layers - 1) (omega (arith, c, rows_are file t b q, g)))
 
-  kept_by : (z : Bool) {have n : ℕ} {ms ns : List ℤ} → KeptBehind z file t y.layer have ms n ns → 9999 ≤ length ms
-      → (z ≡ true → SoundLayer file t y.layer) → y.rows ≡ x.rows + cond z 1 0 → y.layer ≡ cond z (layer_in t b x.rows) x.layer
-      → (0 < x.rows → Kept file t x.layer (take have ms)) → 0 < y.rows → Kept file t y.layer (take n ns)
-  kept_by true k r s i g h p = k.new refl r (s refl)
-  kept_by false k r s i g h p =
-      let o = k.old refl in
-      rw (o.0, o.1, g) (h (omega arith))
+  -- the line measures that are kept are those of the next record's layer: behind an H, its lines'
+  pub kept_new : {ms : List ℤ} → is_layer d ≡ true → ms ≡ walked_to file t y.layer (min y.layer.lines 9999) → x.records < records_of file
+      → SoundTable file t b → Kept file t y.layer ms
+  kept_new u p l s = kept_lines file t y.layer p (layer_sound l s u)
 
-  -- the line measures that are kept are those of the next record's layer
-  pub kept_next : {have n : ℕ} {ms ns : List ℤ} → KeptBehind (is_layer d) file t y.layer have ms n ns → 9999 ≤ length ms
-      → x.records < records_of file → SoundTable file t b → (0 < x.rows → Kept file t x.layer (take have ms))
-      → 0 < y.rows → Kept file t y.layer (take n ns)
-  kept_next k r l s = kept_by (is_layer d) k r (layer_sound l s) (rw f (rows_behind file t b e q)) (rw f (layer_behind file t b e q))
+  -- behind another, those that were
+  pub kept_on : {ms : List ℤ} → is_layer d ≡ false → (0 < x.rows → Kept file t x.layer ms) → 0 < y.rows → Kept file t y.layer ms
+  kept_on u h p =
+      let r : y.rows ≡ x.rows + 0 = rows_behind file t b e q ∙ rw (← f, u) in
+      rw (layer_behind file t b e q, ← f, u) (h (omega (arith, p, r)))
 
   -- the slots that are known are those of its area
   pub known_next : {n : ℕ} → KnownBehind d file t x.layer x.state.layer.area n → Unrepeated file (area_record t y.layer y.state.layer.area) n

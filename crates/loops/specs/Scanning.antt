@@ -1,6 +1,6 @@
 -- What is known of an area's entries without a scan, and what is kept of a layer's lines. It serves the code and is no part of a promise.
 -- Assumes nothing.
-use Rattle.std.specs.Prelude.{Bool, true, false, cond, List, ◌≡◌, ℕ, ◌+◌, ◌*◌, ◌≤◌, ◌<◌, ℤ, get_or, take}
+use Rattle.std.specs.Prelude.{Bool, true, false, cond, List, ◌≡◌, ℕ, ◌+◌, ◌*◌, ◌<◌, ℤ, get_or}
 use Rattle.std.proofs.Math.ListN as ListN
 use Rattle.permitted.specs.Permitted.{natural, size, is_zero}
 use Rattle.rules.specs.declared.Due.{Due}
@@ -38,12 +38,6 @@ KeptFor (due.Line layer last letters) file t l ms = Unit {0}
 KeptFor (due.Coordinates left) file t l ms = Unit {0}
 KeptFor (due.Area layer last) file t l ms = Unit {0}
 KeptFor (due.Loop last count left) file t l ms = Kept file t l ms
-
--- what is kept behind a record: another layer's line measures behind an H, if there is room for all that a layer can have; else what was
-pub record KeptBehind (another : Bool) (file t : List ℕ) (l : Layer) (have : ℕ) (before : List ℤ) (r : ℕ) (after : List ℤ) : Type 0 where
-  pub room : r ≤ ListN.length after
-  pub new : another ≡ true → 9999 ≤ ListN.length before → SoundLayer file t l → Kept file t l (take r after)
-  pub old : another ≡ false → (r ≡ have) × (after ≡ before)
 
 -- the lines of the file's layers, where the table t says that they stand, are known to be well formed
 pub record SoundTable (file t : List ℕ) (b : Bases) : Type 0 where

@@ -5,16 +5,16 @@
 // The contracts cite `specs/Loops.antt`.
 #![tactic(auto)]
 
-ghost use Rattle.std.specs.Prelude.{◌≡◌, not, ◌+◌, ◌*◌, ◌-◌, ◌≤◌, ◌<◌, length};
+ghost use Rattle.std.specs.Prelude.{◌≡◌, not, ◌+◌, ◌*◌, ◌-◌, ◌≤◌, ◌<◌};
 ghost use Rattle.records.specs.Columns.{loop_entries, slot_column};
 ghost use Rattle.verdict.specs.Rules.{Broken, first_broken, block, spread};
-ghost use Rattle.layers.specs.Passing.{is_layer};
 ghost use Rattle.links.specs.Links.{slot_of};
 ghost use Rattle.links.specs.Scanning.{clean, FirstRepeat};
 ghost use Rattle.entries.specs.Keeping.{kept_loop, Kept};
 ghost use Rattle.loops.specs.Loops.{entry_before, joins, slot_from, loop_slot, winds, wind_checks, first_record, area_record, loop_checks, area_checks, sixth, stage_five};
-ghost use Rattle.loops.specs.Scanning.{mark_of, Unrepeated, Marking, KeptFor, KeptBehind, SoundTable, KnownBehind};
+ghost use Rattle.loops.specs.Scanning.{mark_of, Unrepeated, Marking, KeptFor, SoundTable, KnownBehind};
 
+use entries::LineMeasures;
 use layers::{Bases, Layer};
 use rules::Due;
 use verdict::{Refusal, Verdict};
@@ -175,7 +175,7 @@ fn winds(serial: i32, m: i64) -> bool
 // The way round of the loop that begins at record `r`, by the line measures `kept` of its layer; nothing of
 // a later record.
 #[tactic(auto, unfolding(crate::specs::Loops::wind_checks, verdict::specs::Rules::first_broken, verdict::specs::Rules::block))]
-fn judge_winding(file: &[u8], l: Layer, kept: &[i64], left: usize, r: usize) -> Verdict
+fn judge_winding(file: &[u8], l: Layer, kept: &LineMeasures, left: usize, r: usize) -> Verdict
     requires { r ≤ 6399936 }
     ensures { result ≡ first_broken (block sixth r (wind_checks file.now (kept_loop file.now l kept.now r) r left)) }
 {
@@ -183,7 +183,7 @@ fn judge_winding(file: &[u8], l: Layer, kept: &[i64], left: usize, r: usize) -> 
         return Ok(());
     }
     let serial = records::value_at(file, r, records::LOOP_SERIAL);
-    let m = entries::loop_measure(file, l, kept, r);
+    let m = kept.loop_measure(file, l, r);
     if !winds(serial, m) {
         return Err(Refusal {
             number: 16,
@@ -219,7 +219,7 @@ fn judge_loop(
     file: &[u8],
     table: &[u32],
     l: Layer,
-    kept: &[i64],
+    kept: &LineMeasures,
     area: usize,
     known: usize,
     count: usize,
@@ -244,7 +244,7 @@ fn judge_record(
     file: &[u8],
     table: &[u32],
     l: Layer,
-    kept: &[i64],
+    kept: &LineMeasures,
     area: usize,
     known: usize,
     r: usize,
@@ -257,18 +257,6 @@ fn judge_record(
             judge_loop(file, table, l, kept, area, known, count, left, r)
         }
         _ => Ok(()),
-    }
-}
-
-// The line measures that are kept behind a record that was due as `d`, and how many: behind an H those of
-// its layer `l`, else the `have` that were.
-fn kept_behind(d: Due, file: &[u8], table: &[u32], l: Layer, have: usize, kept: &mut [i64]) -> usize
-    requires { have ≤ length kept.old }
-    ensures { KeptBehind (is_layer d) file.now table.now l have kept.old result kept.new }
-{
-    match d {
-        Due::Layer(_) => entries::keep_measures(file, table, l, kept),
-        _ => have,
     }
 }
 
@@ -300,9 +288,8 @@ pub fn stage_five(file: &[u8], table: &[u32], b: Bases) -> Verdict
     ensures { SoundTable file.now table.now b → result ≡ first_broken (stage_five file.now table.now b) }
 {
     let n = walk::records_of(file);
-    let mut kept = [0i64; 9999];
+    let mut kept = LineMeasures::none();
     let mut marks = [0usize; 20000];
-    let mut have = 0;
     let mut known = 0;
     let mut x = layers::at_first(table, b);
     // a quiet run is one step, so no range counts this
@@ -313,7 +300,7 @@ pub fn stage_five(file: &[u8], table: &[u32], b: Bases) -> Verdict
             file,
             table,
             x.layer,
-            &kept[..have],
+            &kept,
             x.state.layer.area,
             known,
             x.records + 1,
@@ -328,7 +315,9 @@ pub fn stage_five(file: &[u8], table: &[u32], b: Bases) -> Verdict
             &mut marks,
         );
         x = layers::behind(file, table, b, x);
-        have = kept_behind(d, file, table, x.layer, have, &mut kept);
+        if layers::is_layer(d) {
+            kept.keep(file, table, x.layer);
+        }
         x = layers::past_quiet(file, x, n);
     }
     Ok(())

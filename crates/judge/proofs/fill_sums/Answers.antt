@@ -6,10 +6,8 @@ use Rattle.judge.proofs.fill_sums.Goals as goal
 
 pub loop-i-init : goal.loop-i-init
 unfolding pairs_to
-loop-i-init c = (refl, refl)
+loop-i-init c = refl
 
 pub loop-i-preserved : goal.loop-i-preserved
-loop-i-preserved c = (
-  search rules,
-  pair_put _ _ _ _ _ _ c.requires.1 c.loop-i.invariant.1 c.loop-i-test.true c.layer_in.ensures c.sums_in-areas.ensures (search rules) (search rules),
-)
+loop-i-preserved c =
+    pair_put _ _ _ _ _ _ c.requires.1 c.loop-i.invariant c.loop-i-test.true c.layer_in.ensures c.sums_in-areas.ensures (search rules) (search rules)

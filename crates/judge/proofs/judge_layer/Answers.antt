@@ -6,7 +6,6 @@ use mathlib.Core.List.{[], ◌∷◌}
 use Prim.Native.Nat.{◌≤◌}
 use lib.Dec.{leb}
 use lib.Seq.{length-take-le}
-use borrow.Author.Rules.{rules}
 use borrow.Author.Tests.{leb-true, le-leb, lt-leb}
 use Rattle.std.proofs.lemmas.Result.{err_from_is_err_and}
 use Rattle.verdict.specs.Rules.{Verdict, Fine, check, block, first_broken}
@@ -75,7 +74,7 @@ pub sums_in-requires : goal.sums_in-requires
 sums_in-requires c =
     let j = c.in_ok-counts.ensures in
     let t = there (goal.at.sums_in-requires c).After-asked c.in_ok-asked.ensures in
-    (layer_summable _ _ j.0 (judged_words _ _ j.0 _ refl j.1) c.bases_of.ensures _ c.layer_in-l.ensures t.0 t.1, search rules)
+    layer_summable _ _ j.0 (judged_words _ _ j.0 _ refl j.1) c.bases_of.ensures _ c.layer_in-l.ensures t.0 t.1
 
 pub returns : goal.returns
 returns c =

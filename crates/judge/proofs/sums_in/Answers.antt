@@ -1,24 +1,16 @@
 -- `judge::sums_in` meets its contract: the lines' measures are kept once, for both sums. Assumes nothing.
-use mathlib.Core.Path.{sym, ◌∙◌, ap₂}
-use lib.Seq.{length-take-le}
+use mathlib.Core.Path.{◌∙◌, ap₂}
 use lib.IntN.{ℤ}
 use mir.Facts.{to_z-of_z}
 use mir.Syntax.{w64}
-use Rattle.entries.proofs.Keeping.{kept_room, kept_lines}
+use Rattle.entries.proofs.Keeping.{kept_lines}
 use Rattle.judge.proofs.sums_in.Goals as goal
 
-pub slice_bounds-kept-end-2 : goal.slice_bounds-kept-end-2
-slice_bounds-kept-end-2 c = sym (length-take-le _ _ (kept_room _ _ _ _ c.keep_measures-have.ensures))
-
 pub areas_sum-requires : goal.areas_sum-requires
-areas_sum-requires c =
-    let u = c.requires in
-    (kept_lines _ _ _ _ c.keep_measures-have.ensures u.1 u.0.sound, u.0)
+areas_sum-requires c = (kept_lines _ _ _ c.keep.ensures c.requires.sound, c.requires)
 
 pub outside_sum-requires : goal.outside_sum-requires
-outside_sum-requires c =
-    let u = c.requires in
-    (kept_lines _ _ _ _ c.keep_measures-have.ensures u.1 u.0.sound, u.0)
+outside_sum-requires c = (kept_lines _ _ _ c.keep.ensures c.requires.sound, c.requires)
 
 pub returns : goal.returns
 returns c =

@@ -1,6 +1,5 @@
-use mathlib.Core.Path.{◌≡◌, refl}
+use mathlib.Core.Path.{refl, sym, ◌∙◌}
 use native.Mathlib.Omega.{arith}
-use lib.ListN.{length}
 use borrow.Author.Rules.{rules}
 use Rattle.std.proofs.lemmas.Result.{err_from_is_err_and}
 use Rattle.walk.specs.States.{counts_at}
@@ -8,8 +7,9 @@ use Rattle.layers.proofs.Walks.{stands, records_are, rows_are, stands_behind, st
 use Rattle.layers.proofs.Stages.{passed_first, passed_more, passed_quiet, stage_stops, stage_done}
 use Rattle.loops.specs.Loops.{areas_at, sixth, stage_five}
 use Rattle.loops.proofs.Repeats.{unrepeated_none}
-use Rattle.loops.proofs.StageLaws.{kept_for, kept_next, known_next, quiet_none}
+use Rattle.loops.proofs.StageLaws.{kept_for, kept_new, kept_on, known_next, quiet_none}
 use Rattle.loops.proofs.stage_five.Goals as goal
+use Rattle.loops.proofs.stage_five.Goals.{then-is_layer, else-is_layer}
 
 pub loop-x-init : goal.loop-x-init
 unfolding counts_at
@@ -17,8 +17,6 @@ loop-x-init c =
     let e = c.at_first-x.ensures _ in record {
       standing = stands _ _ _ e (omega arith);
       passed = λ h. passed_first sixth (areas_at _ _) _ _ _ e;
-      room = search rules;
-      all_kept = search rules;
       all_marks = search rules;
       lines = λ h p. absurd (omega (arith, p, rows_are _ _ _ e));
       slots = unrepeated_none _ _;
@@ -45,19 +43,19 @@ loop-x-preserved c =
     let e = i.standing.here in
     let m = rw c.records_of-n.ensures.0 at c.loop-x-test.true in
     let y = c.behind-x.ensures e m in
-    let p = stands_behind _ _ _ i.standing m y in
-    let k : length c.kept_behind-have.new.kept ≡ 9999 = search rules in record {
+    let p = stands_behind _ _ _ i.standing m y in record {
       standing = stands_past _ _ _ p _ c.past_quiet-x.ensures;
       passed = λ s.
           let h = c.in_ok-judge_record.ensures (kept_for _ _ _ e c.due-d.ensures _ (i.lines s)) in
           let f = passed_more sixth (areas_at _ _) _ _ _ e y (rw c.due-d.ensures at h) refl (i.passed s) in
           passed_quiet sixth (areas_at _ _) _ _ _ p.here _ c.past_quiet-x.ensures (quiet_none _ _) f;
-      room = omega (arith, c.kept_behind-have.ensures.room);
-      all_kept = k;
       all_marks = search rules;
       lines = λ s.
           rw c.past_quiet-x.ensures
-          (kept_next _ _ _ e y c.due-d.ensures c.kept_behind-have.ensures (omega (arith, i.all_kept)) m s (i.lines s));
+          (elim c.if-is_layer.branch [
+            | then-is_layer w ↦ λ h. kept_new _ _ _ e y c.due-d.ensures (sym c.is_layer.ensures ∙ w.if-is_layer.true) (w.kept-is ∙ w.keep.ensures) m s
+            | else-is_layer w ↦ rw w.kept-is (kept_on _ _ _ e y c.due-d.ensures (sym c.is_layer.ensures ∙ w.if-is_layer.false) (i.lines s))
+          ]);
       slots = rw c.past_quiet-x.ensures (known_next _ _ _ e y c.due-d.ensures c.known_behind-known.ensures);
     }
 
