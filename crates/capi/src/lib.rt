@@ -52,7 +52,7 @@ impl From<Record> for Value {
 }
 
 // What reading finds: a refusal's number with its place, record and column, or 0 at 0, 0; and the
-// value.
+// value. It is C's layout, so it is no `Result`.
 #[repr(C)]
 #[derive(Clone, Copy)]
 pub struct Found {
@@ -116,7 +116,7 @@ pub extern "C" fn stragumella_position(mesh: i32, x: i32, y: i32) -> Placed
 
 // ---- records
 
-// The kind that a number stands for, if it stands for one.
+// The kind that a number stands for, if it stands for one: the header's numbers, which are C's interface.
 #[tactic(auto, unfolding(crate::specs::Values::meant_by))]
 fn kind_of(n: u32) -> Option<Kind>
     ensures { result ≡ meant_by n }

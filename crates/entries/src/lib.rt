@@ -5,7 +5,8 @@
 // measures are.
 #![tactic(auto)]
 
-ghost use Rattle.std.specs.Prelude.{◌≡◌, [], ◌≤◌, min};
+ghost use Rattle.std.specs.Prelude.{◌≡◌, [], ◌≤◌, min, length};
+ghost use Rattle.std.proofs.lemmas.List.Edits.{sets};
 ghost use Rattle.permitted.specs.Permitted.{size};
 ghost use Rattle.entries.specs.Entries.{records_for, count_at, loops_at, slots_of};
 ghost use Rattle.entries.specs.Loops.{slot_measure};
@@ -65,6 +66,18 @@ pub fn area_slots(file: &[u8], a: usize) -> usize
 
 // ---- measures
 
+// Measures the first lines of a layer, as many as there is room for, and says how many. It reads their
+// coordinates without a test, so what it keeps are the measures of lines that are well formed.
+pub fn keep_measures(file: &[u8], table: &[u32], l: Layer, kept: &mut [i64]) -> usize
+    ensures { (result ≡ min l.lines (length kept.old)) × (kept.new ≡ sets kept.old 0 (walked_to file.now table.now l result)) }
+{
+    let n = kept.len().min(l.lines as usize);
+    for i in 0..n {
+        kept[i] = measures::line_measure(file, layers::line_word(table, l, i));
+    }
+    n
+}
+
 // A kept measure. One that no line of an accepted file can have counts as 0, so that no sum can grow too
 // large.
 #[tactic(auto, unfolding(crate::specs::Keeping::possible_of))]
@@ -76,6 +89,37 @@ fn possible(m: i64) -> i64
     } else {
         0
     }
+}
+
+// The measure that is kept of the line that the entry `v` names; 0 where it names none, or none is kept.
+#[tactic(auto, using(crate::proofs::Keeping::unnamed_told, layers::proofs::Answers::line_counted))]
+pub fn line_measure(l: Layer, kept: &[i64], v: i32) -> i64
+    ensures { result ≡ kept_measure l kept.now (size v) }
+{
+    if !layers::names_line(l.lines, v) {
+        return 0;
+    }
+    possible(kept.get(permitted::size(v) - 1).copied().unwrap_or(0))
+}
+
+// The measure of an entry: its line's, taken away for a line that is walked backwards.
+#[tactic(auto, using(crate::proofs::Summing::entry_laws))]
+fn entry_measure(l: Layer, kept: &[i64], v: i32) -> i64
+    ensures { result ≡ slot_measure (kept_measure l kept.now) v }
+{
+    let m = line_measure(l, kept, v);
+    if permitted::natural(v) { m } else { -m }
+}
+
+// The measure of the loop whose first record is `f`, by the measures that were kept of its layer's lines.
+pub fn loop_measure(file: &[u8], l: Layer, kept: &[i64], f: usize) -> i64
+    ensures { result ≡ kept_loop file.now l kept.now f }
+{
+    let mut sum = 0;
+    for e in 0..12 * loop_records(file, f) {
+        sum += entry_measure(l, kept, links::slot_of(file, f, e));
+    }
+    sum
 }
 
 // The measures of a layer's first lines, as many as there is room for: clauses see them as a list.
@@ -106,47 +150,31 @@ impl LineMeasures {
         }
     }
 
-    // Measures the lines of a layer in place of those that were kept. It reads their coordinates without a
-    // test, so what it keeps are the measures of lines that are well formed.
+    // Measures the lines of a layer in place of those that were kept.
     pub fn keep(&mut self, file: &[u8], table: &[u32], l: Layer)
         ensures { self.new ≡ walked_to file.now table.now l (min l.lines 9999) }
     {
-        let n = self.measures.len().min(l.lines as usize);
-        for i in 0..n {
-            self.measures[i] = measures::line_measure(file, layers::line_word(table, l, i));
-        }
-        self.count = n;
+        self.count = keep_measures(file, table, l, &mut self.measures);
     }
 
-    // The measure that is kept of the line that the entry `v` names; 0 where it names none, or none is kept.
-    #[tactic(auto, using(crate::proofs::Keeping::unnamed_told, layers::proofs::Answers::line_counted))]
+    // The measures that are kept.
+    pub fn as_slice(&self) -> &[i64]
+        ensures { result.now ≡ self.now }
+    {
+        &self.measures[..self.count]
+    }
+
+    // `line_measure` by these.
     pub fn line_measure(&self, l: Layer, v: i32) -> i64
         ensures { result ≡ kept_measure l self.now (size v) }
     {
-        if !layers::names_line(l.lines, v) {
-            return 0;
-        }
-        let kept = &self.measures[..self.count];
-        possible(kept.get(permitted::size(v) - 1).copied().unwrap_or(0))
+        line_measure(l, self.as_slice(), v)
     }
 
-    // The measure of an entry: its line's, taken away for a line that is walked backwards.
-    #[tactic(auto, using(crate::proofs::Summing::entry_laws))]
-    fn entry_measure(&self, l: Layer, v: i32) -> i64
-        ensures { result ≡ slot_measure (kept_measure l self.now) v }
-    {
-        let m = self.line_measure(l, v);
-        if permitted::natural(v) { m } else { -m }
-    }
-
-    // The measure of the loop whose first record is `f`, by the measures that were kept of its layer's lines.
+    // `loop_measure` by these.
     pub fn loop_measure(&self, file: &[u8], l: Layer, f: usize) -> i64
         ensures { result ≡ kept_loop file.now l self.now f }
     {
-        let mut sum = 0;
-        for e in 0..12 * loop_records(file, f) {
-            sum += self.entry_measure(l, links::slot_of(file, f, e));
-        }
-        sum
+        loop_measure(file, l, self.as_slice(), f)
     }
 }

@@ -30,7 +30,7 @@ use walk::{Counts, Refused};
 
 // What is answered: a refusal's number and place, or 0 at 0, 0; the file's meshes, layers, nodes, lines,
 // areas and records, 0 where it is refused; and the words that it needs where the table is too short (9),
-// 0 elsewhere.
+// 0 elsewhere. It is C's layout, so it is no `Result`; nor are the sums below.
 #[repr(C)]
 #[derive(Clone, Copy)]
 pub struct Outcome {
@@ -331,7 +331,8 @@ pub fn layer_sums(file: &[u8], table: &mut [u32], layer: u32) -> Sums
     sums_of(judge_layer(file, table, layer))
 }
 
-// Judges a file, asks for two places for each layer, and fills the sums in.
+// Judges a file, asks for two places for each layer, and fills the sums in. Kept beside `judge_measures`: each
+// promises a buffer of its own.
 fn judge_sums(file: &[u8], table: &mut [u32], sums: &mut [i64]) -> Result<Counts, Refused>
     ensures told { result ≡ told_behind file.now (length table.old) (pair_rule (length sums.old)) }
     ensures table { table.new ≡ table_after_all file.now (length sums.old) table.old }

@@ -14,7 +14,8 @@ ghost use Rattle.layers.specs.Standing.{standing_at, Goes, quiet_in, past_by};
 use rules::Due;
 use walk::State;
 
-// Where the lines and the areas of all layers begin in the table.
+// Where the lines and the areas of all layers begin in the table: any two numbers of a caller. They are kept in 32
+// bits, beside the indices of the same name in `walk`, so that no sum with them is too large.
 #[derive(Clone, Copy)]
 pub struct Bases {
     pub lines: u32,

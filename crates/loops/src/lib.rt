@@ -21,7 +21,8 @@ use verdict::{Refusal, Verdict};
 
 // ---- repeated entries
 
-// Where an entry leaves its mark.
+// Where an entry leaves its mark. Kept beside `mark_at` of `sides`, which goes by a line: neither crate stands on
+// the other.
 fn mark_of(v: i32) -> usize
     ensures { result ≡ mark_of v }
 {

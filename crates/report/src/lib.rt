@@ -145,7 +145,7 @@ pub fn check_text(input: &[u8]) -> Page
     }
 }
 
-// What `measure` prints of an input.
+// What `measure` prints of an input. Kept beside `check_text`: each promises a text of its own.
 pub fn measure_text(input: &[u8]) -> Page
     ensures { result ≡ measure_text input.now }
 {
@@ -192,7 +192,7 @@ pub fn check<R: Read, W: Write, E: Write>(
     )
 }
 
-// The program `measure`, likewise.
+// The program `measure`, likewise. Kept beside `check`: each promises a text of its own.
 pub fn measure<R: Read, W: Write, E: Write>(
     source: &mut R,
     output: &mut W,

@@ -27,6 +27,7 @@ pub fn read_input<R: Read, E: Write>(
     ensures bytes { Taken (R.remaining source.old) (R.remaining source.new) result input.new }
 {
     let mut n: usize = 0;
+    // a read gives as much as it likes, so no range counts this
     while n < input.len() {
         match source.read(&mut input[n..]) {
             Ok(0) => return Ok(n),

@@ -16,7 +16,8 @@ use verdict::{Refusal, Verdict};
 use walk::State;
 
 // What follows a record: how many records, the totals of the H records among them, and the line counts of
-// the loops.
+// the loops. How large they may be is kept in the clauses of what adds to them: it grows with each record, so it is no
+// invariant of the type.
 #[derive(Clone, Copy)]
 struct Sums {
     records: usize,

@@ -2,7 +2,8 @@
 // the first broken one with its number and its place.
 #![tactic(auto)]
 
-// A broken rule: its refusal number, and its place, a record and a column.
+// A broken rule: its refusal number, and its place, a record and a column. RULES 6.2 names a refusal by its number,
+// and definitions, laws and C go by it, so it is kept and is no enum.
 #[derive(Clone, Copy)]
 pub struct Refusal {
     pub number: u32,

@@ -11,8 +11,8 @@ use Rattle.entries.specs.Loops.{slot_measure}
 use Rattle.entries.specs.Keeping.{kept_loop}
 use Rattle.entries.proofs.Keeping.{most, kept_none, kept_small}
 use Rattle.entries.proofs.Summing.{sum_fits, sum_small, sum_is, slot_small, loop_more}
-use Rattle.entries.proofs.LineMeasures.loop_measure.Goals as goal
-use Rattle.entries.proofs.LineMeasures.loop_measure.Goals.{After-entry_measure-sum}
+use Rattle.entries.proofs.loop_measure.Goals as goal
+use Rattle.entries.proofs.loop_measure.Goals.{After-entry_measure-sum}
 
 pub loop-e-init : goal.loop-e-init
 unfolding loop_measure entries_to sum
@@ -37,7 +37,7 @@ loop-e-preserved c =
       sum_small n l.invariant.0 (entry-small (goal.at.loop-e-preserved c).After-entry_measure-sum),
       sum_is n l.invariant.0 (entry-small (goal.at.loop-e-preserved c).After-entry_measure-sum)
           ∙ ap₂ ◌+ℤ◌ l.invariant.1 (told (slot_measure _) c.slot_of.type_inv c.slot_of.ensures c.entry_measure-sum.ensures)
-          ∙ sym (loop_more _ (kept_none a.l a.self.now) a.file.now a.f l.e),
+          ∙ sym (loop_more _ (kept_none a.l a.kept.now) a.file.now a.f l.e),
     )
 
 pub returns : goal.returns
