@@ -227,7 +227,8 @@ fn fill_sums(file: &[u8], table: &[u32], b: Bases, n: usize, sums: &mut [i64])
 // ---- the calls
 
 // What a call answers: the counts and records of acceptance, or the refusal by its number, with the need
-// where it is told.
+// where it is told. How large the counts are is kept as a clause, as in `walk`: it grows with each record, so it is no
+// invariant of `Counts`.
 fn outcome_of(file: &[u8], judged: Result<Counts, Refused>) -> Outcome
     requires { IfOk judged Countable }
     ensures { result ≡ outcome_told judged (records_of file.now) }

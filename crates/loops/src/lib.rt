@@ -61,12 +61,13 @@ fn unrepeated(file: &[u8], a: usize, marks: &mut [usize]) -> usize
     n
 }
 
-// The first slot of the loop record `r` that repeats an earlier one of the area whose A is record `a`, or
+// The first slot of the loop record `row` that repeats an earlier one of the area whose A is record `a`, or
 // 12; without a scan where the first `known` slots of the area are known to repeat none.
-fn repeat_in(file: &[u8], a: usize, r: usize, known: usize) -> usize
-    requires { (a ≤ 4294967295) × (r ≤ 6399936) × Unrepeated file.now a known }
-    ensures { FirstRepeat (slot_of file.now (a + 1)) (12 * (r - (a + 1))) 12 result }
+fn repeat_in(file: &[u8], a: usize, row: u32, known: usize) -> usize
+    requires { (a ≤ 4294967295) × Unrepeated file.now a known }
+    ensures { FirstRepeat (slot_of file.now (a + 1)) (12 * (row - (a + 1))) 12 result }
 {
+    let r = row as usize;
     let from = 12 * r.saturating_sub(a + 1);
     if from + 12 <= known {
         return 12;
@@ -99,14 +100,14 @@ fn joins(file: &[u8], table: &[u32], l: Layer, f: usize, e: usize, v: i32) -> bo
 }
 
 // A refusal of slot `i`.
-fn broken(number: u32, r: usize, i: usize) -> Verdict
-    requires { (r ≤ 6399936) × (i < 12) }
-    ensures { result ≡ Broken number r (slot_column loop_entries i) }
+fn broken(number: u32, row: u32, i: usize) -> Verdict
+    requires { i < 12 }
+    ensures { result ≡ Broken number row (slot_column loop_entries i) }
 {
-    links::slot_broken(number, r as u32, records::LOOP_ENTRIES, i)
+    links::slot_broken(number, row, records::LOOP_ENTRIES, i)
 }
 
-// Slot `i` of the loop record `r`, of the area `area`, in the loop whose first record is `f`; `again` says
+// Slot `i` of the loop record `row`, of the area `area`, in the loop whose first record is `f`; `again` says
 // that it repeats an earlier one of the area, whose A is record `a`.
 #[tactic(auto, using(crate::proofs::SlotLaws::slot_judged, links::proofs::Scans::slot_first), unfolding(crate::specs::Loops::area_on_hand))]
 fn judge_slot(
@@ -116,31 +117,32 @@ fn judge_slot(
     a: usize,
     area: usize,
     f: usize,
-    r: usize,
+    row: u32,
     i: usize,
     again: bool,
 ) -> Verdict
-    requires { (i < 12) × (r ≤ 6399936) × (again ≡ not (clean (slot_of file.now (a + 1)) (slot_from (a + 1) r i))) }
-    ensures { result ≡ first_broken (block sixth r (loop_slot file.now table.now l a area f r i)) }
+    requires { (i < 12) × (again ≡ not (clean (slot_of file.now (a + 1)) (slot_from (a + 1) row i))) }
+    ensures { result ≡ first_broken (block sixth row (loop_slot file.now table.now l a area f row i)) }
 {
     if again {
-        return broken(13, r, i);
+        return broken(13, row, i);
     }
+    let r = row as usize;
     let v = links::slot_of(file, r, i);
     if permitted::is_zero(v) {
         return Ok(());
     }
     if !joins(file, table, l, f, 12 * r.saturating_sub(f) + i, v) {
-        return broken(15, r, i);
+        return broken(15, row, i);
     }
     let right = links::on_hand(file, table, l, records::RIGHT_AREA, records::LEFT_AREA, v);
     if !permitted::is(right, area) {
-        return broken(17, r, i);
+        return broken(17, row, i);
     }
     Ok(())
 }
 
-// The slots of the loop record `r`; slot `at` is the first that repeats an earlier one.
+// The slots of the loop record `row`; slot `at` is the first that repeats an earlier one.
 fn judge_slots(
     file: &[u8],
     table: &[u32],
@@ -148,14 +150,14 @@ fn judge_slots(
     a: usize,
     area: usize,
     f: usize,
-    r: usize,
+    row: u32,
     at: usize,
 ) -> Verdict
-    requires { (r ≤ 6399936) × FirstRepeat (slot_of file.now (a + 1)) (12 * (r - (a + 1))) 12 at }
-    ensures { result ≡ first_broken (block sixth r (spread 12 (loop_slot file.now table.now l a area f r))) }
+    requires { FirstRepeat (slot_of file.now (a + 1)) (12 * (row - (a + 1))) 12 at }
+    ensures { result ≡ first_broken (block sixth row (spread 12 (loop_slot file.now table.now l a area f row))) }
 {
     for i in 0..12 {
-        judge_slot(file, table, l, a, area, f, r, i, i == at)?;
+        judge_slot(file, table, l, a, area, f, row, i, i == at)?;
     }
     Ok(())
 }
@@ -173,22 +175,22 @@ fn winds(serial: i32, m: i64) -> bool
     m < 0
 }
 
-// The way round of the loop that begins at record `r`, by the line measures `kept` of its layer; nothing of
+// The way round of the loop that begins at record `row`, by the line measures `kept` of its layer; nothing of
 // a later record.
 #[tactic(auto, unfolding(crate::specs::Loops::wind_checks, verdict::specs::Rules::first_broken, verdict::specs::Rules::block))]
-fn judge_winding(file: &[u8], l: Layer, kept: &LineMeasures, left: usize, r: usize) -> Verdict
-    requires { r ≤ 6399936 }
-    ensures { result ≡ first_broken (block sixth r (wind_checks file.now (kept_loop file.now l kept.now r) r left)) }
+fn judge_winding(file: &[u8], l: Layer, kept: &LineMeasures, left: usize, row: u32) -> Verdict
+    ensures { result ≡ first_broken (block sixth row (wind_checks file.now (kept_loop file.now l kept.now row) row left)) }
 {
     if 0 < left {
         return Ok(());
     }
+    let r = row as usize;
     let serial = records::value_at(file, r, records::LOOP_SERIAL);
     let m = kept.loop_measure(file, l, r);
     if !winds(serial, m) {
         return Err(Refusal {
             number: 16,
-            place: r as u32,
+            place: row,
             column: 1,
         });
     }
@@ -214,7 +216,7 @@ fn area_record(table: &[u32], l: Layer, area: usize) -> usize
     layers::area_word(table, l, area.saturating_sub(1))
 }
 
-// The loop record `r` of the area `area`, of which the first `known` slots are known to repeat none.
+// The loop record `row` of the area `area`, of which the first `known` slots are known to repeat none.
 #[tactic(auto, using(crate::proofs::SlotLaws::wind_kept, crate::proofs::SlotLaws::loop_stops, crate::proofs::SlotLaws::loop_passes))]
 fn judge_loop(
     file: &[u8],
@@ -225,20 +227,29 @@ fn judge_loop(
     known: usize,
     count: usize,
     left: usize,
-    r: usize,
+    row: u32,
 ) -> Verdict
-    requires { (r ≤ 6399936) × Unrepeated file.now (area_record table.now l area) known }
-    ensures { Kept file.now table.now l kept.now → result ≡ first_broken (block sixth r (loop_checks file.now table.now l area count left r)) }
+    requires { Unrepeated file.now (area_record table.now l area) known }
+    ensures { Kept file.now table.now l kept.now → result ≡ first_broken (block sixth row (loop_checks file.now table.now l area count left row)) }
 {
-    judge_winding(file, l, kept, left, r)?;
+    judge_winding(file, l, kept, left, row)?;
     let a = area_record(table, l, area);
-    let at = repeat_in(file, a, r, known);
-    judge_slots(file, table, l, a, area, first_record(r, count, left), r, at)
+    let at = repeat_in(file, a, row, known);
+    judge_slots(
+        file,
+        table,
+        l,
+        a,
+        area,
+        first_record(row as usize, count, left),
+        row,
+        at,
+    )
 }
 
 // ---- the stage
 
-// Record `r`, due as `d`, in the layer `l`; its last area is `area`.
+// Record `row`, due as `d`, in the layer `l`; its last area is `area`.
 #[tactic(auto, using(verdict::proofs::Parts::check_none))]
 fn judge_record(
     d: Due,
@@ -248,14 +259,14 @@ fn judge_record(
     kept: &LineMeasures,
     area: usize,
     known: usize,
-    r: usize,
+    row: u32,
 ) -> Verdict
-    requires { (r ≤ 6399936) × Unrepeated file.now (area_record table.now l area) known }
-    ensures { KeptFor d file.now table.now l kept.now → result ≡ first_broken (block sixth r (area_checks d file.now table.now l area r)) }
+    requires { Unrepeated file.now (area_record table.now l area) known }
+    ensures { KeptFor d file.now table.now l kept.now → result ≡ first_broken (block sixth row (area_checks d file.now table.now l area row)) }
 {
     match d {
         Due::Loop(_, count, left) => {
-            judge_loop(file, table, l, kept, area, known, count, left, r)
+            judge_loop(file, table, l, kept, area, known, count, left, row)
         }
         _ => Ok(()),
     }
@@ -304,7 +315,7 @@ pub fn stage_five(file: &[u8], table: &[u32], b: Bases) -> Verdict
             &kept,
             x.state.layer.area,
             known,
-            x.records + 1,
+            (x.records + 1) as u32,
         )?;
         known = known_behind(
             d,

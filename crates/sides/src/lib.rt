@@ -55,7 +55,9 @@ fn lists(file: &[u8], a: usize, back: bool, n: usize) -> bool
     (0..slots).any(|e| links::entry_is(back, n, links::slot_of(file, a + 1, e)))
 }
 
-// The refusal of the L at record `row` whose area in the columns `c` doesn't list it.
+// The refusal of the L at record `row` whose area in the columns `c` doesn't list it. The bound on the column is kept
+// as a clause, here and where else one is refused: `records::value_at` answers for every column, so it is no invariant
+// of `Columns`.
 fn unlisted(row: u32, c: Columns) -> Verdict
     requires { c.0 ≤ 74 }
     ensures { result ≡ Broken 18 row c.0 }

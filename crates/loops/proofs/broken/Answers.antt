@@ -4,4 +4,4 @@ use Rattle.links.proofs.LineLaws.{slot_told}
 use Rattle.loops.proofs.broken.Goals as goal
 
 pub returns : goal.returns
-returns c = slot_told loop_entries c.requires.1 c.slot_broken.ensures
+returns c = slot_told loop_entries c.requires c.slot_broken.ensures

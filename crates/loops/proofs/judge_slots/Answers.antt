@@ -13,7 +13,7 @@ loop-i-init c = (search rules, rows_none _)
 
 pub judge_slot-requires : goal.judge_slot-requires
 judge_slot-requires c =
-    (c.loop-i-test.true, c.requires.0, repeats_at (slot_of _ _) _ 12 _ _ c.requires.1 c.loop-i-test.true c.loop-i.invariant.0)
+    (c.loop-i-test.true, repeats_at (slot_of _ _) _ 12 _ _ c.requires c.loop-i-test.true c.loop-i.invariant.0)
 
 pub returns-in_err-judge_slot : goal.returns-in_err-judge_slot
 returns-in_err-judge_slot c =
@@ -24,7 +24,7 @@ returns-in_err-judge_slot c =
 pub loop-i-preserved : goal.loop-i-preserved
 loop-i-preserved c =
     let e = c.in_ok-judge_slot.ensures in (
-      goes_past (slot_of _ _) _ 12 _ _ c.requires.1 c.loop-i-test.true c.loop-i.invariant.0 (slot_clean _ _ _ _ _ _ _ _ (sym e)),
+      goes_past (slot_of _ _) _ 12 _ _ c.requires c.loop-i-test.true c.loop-i.invariant.0 (slot_clean _ _ _ _ _ _ _ _ (sym e)),
       rows_pass _ _ c.loop-i.invariant.1 e refl,
     )
 

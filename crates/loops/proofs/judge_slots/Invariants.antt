@@ -8,4 +8,4 @@ use Rattle.loops.specs.Loops.{loop_slot, sixth}
 use Rattle.loops.proofs.judge_slots.Given as goal
 
 abbrev pub invariant-loop-i : goal.invariant-loop-i
-invariant-loop-i l = (l.i ≤ l.at) × (first_broken (rows l.i (slot_rules sixth l.r (loop_slot l.file l.table l.l l.a l.area l.f l.r))) ≡ Fine)
+invariant-loop-i l = (l.i ≤ l.at) × (first_broken (rows l.i (slot_rules sixth l.row (loop_slot l.file l.table l.l l.a l.area l.f l.row))) ≡ Fine)
