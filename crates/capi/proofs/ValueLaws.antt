@@ -10,7 +10,7 @@ use Rattle.records.specs.declared.Kind.TheVariants.{Mesh, Layer, Node, Line, Coo
 use Rattle.records.specs.declared.Misread.{Misread}
 use Rattle.std.specs.Prelude.{Option, Some, None, Result, Ok, Err}
 use Rattle.records.specs.declared.Record.{Record}
-use Rattle.records.specs.Reading.{reading_of}
+use Rattle.records.specs.Reading.{value_told, reading_of}
 use Rattle.records.specs.Writing.{record_bytes, fits_all}
 use Rattle.records.proofs.RecordLaws.{Sized, written_then_read, read_then_written, reading_nonzero, value_sized}
 use Rattle.capi.specs.declared.Value.{Value}
@@ -80,10 +80,10 @@ pub found_sized : (n : ℕ) (s : List ℕ) (k : Kind) → Sized (meant_record k 
 unfolding found_of
 found_sized n s k = by (meant_by n)
   where
-    in_kind : (j : Kind) (x : Result Record Misread) → ((r : Record) → x ≡ Ok r → Sized r) → Sized (meant_record k (found_in j x).value)
-    in_kind j (Ok r) h = let z = h r refl in record { numbers = z.numbers; name = z.name; marks = z.marks }
-    in_kind j (Err m) h = record { numbers = refl; name = refl; marks = refl }
+    in_kind : (j : Kind) (x : Result Record Misread) → Sized (value_told j x) → Sized (meant_record k (found_in j x).value)
+    in_kind j (Ok r) z = record { numbers = z.numbers; name = z.name; marks = z.marks }
+    in_kind j (Err m) z = record { numbers = z.numbers; name = z.name; marks = z.marks }
 
     by : (m : Option Kind) → Sized (meant_record k (found_by m s).value)
-    by (Some j) = in_kind j (reading_of j s) (λ r e. value_sized j s e)
+    by (Some j) = in_kind j (reading_of j s) (value_sized j s)
     by None = record { numbers = refl; name = refl; marks = refl }

@@ -11,7 +11,7 @@ ghost use Rattle.dues.specs.Dues.{due_at};
 ghost use Rattle.judge.specs.Outcomes.{outcome_of, table_after, measures_after, sums_of, table_after_sums};
 ghost use Rattle.judge.specs.Outcomes.{outcome_of_all, table_after_all, sums_after};
 ghost use Rattle.positions.specs.Degrees.{position_of};
-ghost use Rattle.capi.specs.Values.{meant_by, kind_number, owed_number, given_value, refused_found, no_kind, found_of, WrittenValue};
+ghost use Rattle.capi.specs.Values.{meant_by, kind_number, owed_number, given_value, no_kind, found_of, WrittenValue};
 
 use judge::{Outcome, Sums};
 use positions::Placed;
@@ -148,16 +148,16 @@ fn number_of(k: Kind) -> u32
     }
 }
 
-// A refused reading: record 1, and the kind's number with all else 0.
-fn refused(kind: u32, number: u32, column: u32) -> Found
-    ensures { result ≡ refused_found kind number column }
+// The answer where the number stands for no kind.
+fn no_kind() -> Found
+    ensures { result ≡ no_kind }
 {
     Found {
-        number,
+        number: 3,
         place: 1,
-        column,
+        column: 1,
         value: Value {
-            kind,
+            kind: 0,
             numbers: [0; 16],
             name: [0; 40],
             marks: [0; 2],
@@ -173,7 +173,7 @@ pub extern "C" fn stragumella_read_record(kind: u32, bytes: &[u8]) -> Found
     ensures { result ≡ found_of kind bytes.now }
 {
     let Some(kind) = kind_of(kind) else {
-        return refused(0, 3, 1);
+        return no_kind();
     };
     match record_reader::read_record(kind, bytes) {
         Ok(record) => Found {
@@ -182,7 +182,12 @@ pub extern "C" fn stragumella_read_record(kind: u32, bytes: &[u8]) -> Found
             column: 0,
             value: Value::from(record),
         },
-        Err(misread) => refused(number_of(kind), misread.number, misread.column as u32),
+        Err(misread) => Found {
+            number: misread.number,
+            place: misread.place,
+            column: misread.column as u32,
+            value: Value::from(Record::zeroed(kind)),
+        },
     }
 }
 

@@ -2,7 +2,7 @@
 -- all kept it is each line's measure. Assumes nothing.
 use mathlib.Core.Bool.{Bool, true, false, cond}
 use mathlib.Core.List.{List}
-use mathlib.Core.Path.{◌≡◌, refl, sym, ◌∙◌}
+use mathlib.Core.Path.{◌≡◌, refl, sym, ◌∙◌, ap}
 use Prim.Native.Nat.{ℕ, ◌+◌, ◌-◌, ◌^◌, ◌≤◌, ◌<◌, min}
 use native.Mathlib.Nat.{zero-add, min-eq_left}
 use native.Mathlib.Omega.{arith}
@@ -146,8 +146,16 @@ module _ (file t : List ℕ) (l : Layer) where
   walked_front ms {n} e h = rw (e, first_front (λ (i : ℕ). measure_by added_up file (get_or t (l.line + i) 0)) ms n h)
 
   -- A LAYER'S LINES ARE KEPT by the list ks that `LineMeasures::keep` leaves: there is room for all that a layer can have
-  pub kept_lines : {ks : List ℤ} → ks ≡ walked_to file t l (min l.lines 9999) → SoundLayer file t l → Kept file t l ks
-  kept_lines e s = rw (e, min-eq_left s.few) (walked_kept s)
+  pub kept_all : {ks : List ℤ} → ks ≡ walked_to file t l (min l.lines 9999) → SoundLayer file t l → Kept file t l ks
+  kept_all e s = rw (e, min-eq_left s.few) (walked_kept s)
+
+  -- the answer r of `keep_measures` to the list ms, and the list ks that it leaves
+  module _ (ms : List ℤ) {r : ℕ} {ks : List ℤ} (h : (r ≡ min l.lines (length ms)) × (ks ≡ sets ms 0 (walked_to file t l r))) where
+    -- WITH ROOM FOR ALL LINES THAT A LAYER CAN HAVE, they are kept: what stands in front is the list that `keep` leaves
+    pub kept_lines : 9999 ≤ length ms → SoundLayer file t l → Kept file t l (take r ks)
+    kept_lines q s =
+        let e : r ≡ l.lines = h.0 ∙ min-eq_left (omega (arith, q, s.few)) in
+        kept_all (walked_front ms h.1 (omega (arith, q, s.few)) ∙ ap (walked_to file t l) (e ∙ sym (min-eq_left s.few))) s
 
   -- by the list every loop has its measure
   entry_kept : (ms : List ℤ) → Kept file t l ms → (e : Entry) → entry_measure (kept_measure l ms) e ≡ entry_measure (measure_of file t l) e

@@ -15,8 +15,8 @@ use Rattle.verdict.proofs.Parts.{◌or_else◌, in_turn, fine_broken, both_fine,
 use Rattle.walk.specs.declared.Counts.{Counts}
 use Rattle.walk.specs.declared.Refused.{Refused}
 use Rattle.walk.specs.Row.{areas_word}
-use Rattle.walk.specs.States.{Countable, counts_at}
-use Rattle.walk.specs.Stages.{records_of, stage_one, stage_two, room_rule, walked_of, verdict_in, need_of, early}
+use Rattle.walk.specs.States.{Countable, no_counts, counts_at}
+use Rattle.walk.specs.Stages.{records_of, stage_one, stage_two, room_rule, walked_of, verdict_in, counts_in, need_of, early}
 use Rattle.walk.specs.Table.{table_of, filled, tabled_by}
 use Rattle.walk.proofs.Walking.{countable}
 use Rattle.walk.proofs.Judging.{records_small, walked_verdict, walked_fine, ended}
@@ -34,6 +34,7 @@ use Rattle.ground.specs.Layers.{areas_sum, outside_sum, measures_to}
 use Rattle.ground.proofs.Kept.{Passed}
 use Rattle.ground.proofs.Soundness.{table_sound}
 use Rattle.ground.proofs.Limits.{area_small, areas_small, outside_small}
+use Rattle.judge.specs.declared.Outcome.{Outcome}
 use Rattle.judge.specs.Rulebook.{late, rules_of, eighth, layer_rule, call_verdict, sums_verdict}
 use Rattle.judge.specs.Outcomes.{judged_of, table_by, table_judged, asked_by, told_behind, outcome_told, outcome_by, outcome_behind, table_behind, lent_by}
 use Rattle.judge.specs.Outcomes.{measures_of, layer_told, sums_told, sums_by, sums_of, pairs_to, all_sums_of}
@@ -86,11 +87,15 @@ one_number x {r} = by x.holds
 module _ (file : List ℕ) (room : ℕ) {c : Counts} (e : Ok c ≡ judged_of file room) where
   judged_fine : first_broken (rules_of file room) ≡ Fine
   unfolding judged_of
-  judged_fine = (accepted_by _ _ _ e).0
+  judged_fine = (accepted_by _ _ e).0
+
+  -- they are those of stages 1 and 2, which are kept: so those of all records
+  told : c ≡ counts_in (walked_of file)
+  unfolding judged_of
+  told = (accepted_by _ _ e).1
 
   pub judged_counts : c ≡ counts_at file (records_of file)
-  unfolding judged_of
-  judged_counts = (accepted_by _ _ _ e).1
+  judged_counts = told ∙ (walked_fine file (walked_kept file room judged_fine)).2
 
   judged_passed : Passed file
   judged_passed = passed file room judged_fine
@@ -157,63 +162,101 @@ module _ (file : List ℕ) (room : ℕ) {c : Counts} (e : Ok c ≡ judged_of fil
 -- ---- what a call finds that is lent a table of `room` words and asks `last` of the counts behind all stages
 
 module _ (file : List ℕ) (room : ℕ) (last : Counts → Check) where
+  -- the counts of a file that it accepts are those of all records
+  counts_kept : call_verdict file room last ≡ Fine → counts_in (walked_of file) ≡ counts_at file (records_of file)
+  counts_kept h = (walked_fine file (walked_kept file room (rules_fine file room last h))).2
+
   -- a refusal of the stages stands; behind none what is asked speaks
-  call_is : call_verdict file room last ≡ asked_by (first_broken (rules_of file room)) (last (counts_at file (records_of file)))
+  call_is : call_verdict file room last ≡ asked_by (first_broken (rules_of file room)) (last (counts_in (walked_of file)))
   unfolding call_verdict
-  call_is = in_turn (rules_of file room) _ ∙ by (first_broken (rules_of file room))
+  call_is = in_turn (rules_of file room) _ ∙ by (first_broken (rules_of file room)) refl
     where
-      by : (v : Verdict) → v or_else first_broken (block eighth 0 (last (counts_at file (records_of file)) ∷ [])) ≡ asked_by v (last (counts_at file (records_of file)))
-      by (Ok _) = refl
-      by (Err r) = refl
+      by : (v : Verdict) → first_broken (rules_of file room) ≡ v
+          → v or_else first_broken (block eighth 0 (last (counts_at file (records_of file)) ∷ [])) ≡ asked_by v (last (counts_in (walked_of file)))
+      by (Ok _) h = let e = (walked_fine file (walked_kept file room h)).2 in rw e
+      by (Err r) h = refl
+
+  -- the answer v of the call
+  module _ {v : Verdict} (a : v ≡ asked_by (first_broken (rules_of file room)) (last (counts_in (walked_of file)))) where
+    asked_is : v ≡ call_verdict file room last
+    asked_is = a ∙ sym call_is
+
+    -- what the call finds has this verdict
+    pub call_told : tabled_by v (counts_in (walked_of file)) ≡ told_behind file room last
+    unfolding told_behind
+    call_told = rw asked_is
+
+    -- accepted, the counts are those of all records; refused, they are not told
+    pub outcome_is : {o : Outcome} → o ≡ outcome_by v (counts_in (walked_of file)) (records_of file) (counts_in (walked_of file)).words
+        → o ≡ outcome_behind file room last
+    unfolding outcome_behind need_of
+    outcome_is h = rw (← asked_is) (h ∙ by v asked_is)
+      where
+        by : (u : Verdict) → u ≡ call_verdict file room last
+            → outcome_by u (counts_in (walked_of file)) (records_of file) (counts_in (walked_of file)).words
+            ≡ outcome_by u (counts_at file (records_of file)) (records_of file) (need_of file)
+        by (Ok _) q = let e = counts_kept (sym q) in rw e
+        by (Err r) q = refl
+
+    -- refused, a lent buffer is as it was
+    pub lent_refused : {r : Refusal} → v ≡ Err r → (zs ds : List ℤ) → ds ≡ lent_by (call_verdict file room last) zs ds
+    lent_refused q zs ds = rw (← asked_is, q)
+
+    -- accepted, the figures zs stand in it
+    pub lent_kept : v ≡ Fine → (zs ds : List ℤ) {after : List ℤ} → after ≡ filled zs ds → after ≡ lent_by (call_verdict file room last) zs ds
+    lent_kept q zs ds h = rw (← asked_is, q) h
 
   -- the counts that are told can be told
   pub told_countable : {t : Result Counts Refused} → t ≡ told_behind file room last → IfOk t Countable
   unfolding told_behind
-  told_countable e = rw e (by (call_verdict file room last))
+  told_countable e = rw e (by (call_verdict file room last) refl)
     where
-      by : (v : Verdict) → IfOk (tabled_by v (counts_at file (records_of file)) (need_of file)) Countable
-      by (Ok _) = countable file (records_of file) (records_small file)
-      by (Err r) = tt
+      by : (v : Verdict) → call_verdict file room last ≡ v → IfOk (tabled_by v (counts_in (walked_of file))) Countable
+      by (Ok _) h = let e = counts_kept h in rw e (countable file (records_of file) (records_small file))
+      by (Err r) h = tt
 
-  pub outcome_is : {t : Result Counts Refused} → t ≡ told_behind file room last → outcome_told t (records_of file) ≡ outcome_behind file room last
-  unfolding told_behind outcome_behind
-  outcome_is e = rw e (by (call_verdict file room last))
+  -- what is found, by refusal numbers: of the counts that are told with 9 the words are
+  pub outcome_found : {t : Result Counts Refused} → t ≡ told_behind file room last → outcome_told t (records_of file) ≡ outcome_behind file room last
+  unfolding told_behind
+  outcome_found e = rw e (outcome_is call_is (by (call_verdict file room last)))
     where
+      words : (c : Counts) (nine : Bool) → (cond nine c no_counts).words ≡ cond nine c.words 0
+      words c true = refl
+      words c false = refl
+
       by : (v : Verdict)
-          → outcome_told (tabled_by v (counts_at file (records_of file)) (need_of file)) (records_of file)
-          ≡ outcome_by v (counts_at file (records_of file)) (records_of file) (need_of file)
+          → outcome_told (tabled_by v (counts_in (walked_of file))) (records_of file)
+          ≡ outcome_by v (counts_in (walked_of file)) (records_of file) (counts_in (walked_of file)).words
       by (Ok _) = refl
-      by (Err r) = refl
+      by (Err r) = let e = words (counts_in (walked_of file)) (eqb r.number 9) in rw e
 
   -- all stages refuse
   module _ {x : Refused} (e : Err x ≡ judged_of file room) where
     rules_broken : first_broken (rules_of file room) ≡ Err x.refusal
     unfolding judged_of
-    rules_broken = refused_by _ _ _ e
+    rules_broken = refused_by _ _ e
 
-    call_stops : call_verdict file room last ≡ Err x.refusal
-    call_stops = rw (call_is, rules_broken)
+    -- then nothing is asked, and this is the call's answer
+    pub stages_are : Err x.refusal ≡ asked_by (first_broken (rules_of file room)) (last (counts_in (walked_of file)))
+    stages_are = rw rules_broken
 
     pub stages_told : Err x ≡ told_behind file room last
-    unfolding judged_of told_behind
-    stages_told = e ∙ ap (λ v. tabled_by v (counts_at file (records_of file)) (need_of file)) (rules_broken ∙ sym call_stops)
-
-    pub stages_lent : (zs ds : List ℤ) → ds ≡ lent_by (call_verdict file room last) zs ds
-    stages_lent zs ds = rw call_stops
+    unfolding judged_of
+    stages_told = e ∙ rw rules_broken (call_told stages_are)
 
   -- they give the counts
   module _ {c : Counts} (e : Ok c ≡ judged_of file room) where
-    asked_is : {v : Verdict} → v ≡ first_broken (block eighth 0 (last c ∷ [])) → call_verdict file room last ≡ v
-    asked_is a = rw (call_is, judged_fine file room e, ← judged_counts file room e, a)
+    -- then the answer to what is asked is the call's answer
+    pub asked_are : {v : Verdict} → v ≡ first_broken (block eighth 0 (last c ∷ []))
+        → v ≡ asked_by (first_broken (rules_of file room)) (last (counts_in (walked_of file)))
+    asked_are a = rw (judged_fine file room e, ← told file room e) a
 
     -- what is asked is not so: a number but 9
-    module _ {r : Refusal} (a : Err r ≡ first_broken (block eighth 0 (last c ∷ []))) where
-      pub asked_told : eqb (last c).number 9 ≡ false → Err (record { refusal = r; need = 0 }) ≡ told_behind file room last
-      unfolding told_behind
-      asked_told m = rw (asked_is a, one_number (last c) a, m)
-
-      pub asked_lent : (zs ds : List ℤ) → ds ≡ lent_by (call_verdict file room last) zs ds
-      asked_lent zs ds = rw (asked_is a)
+    pub asked_told : {r : Refusal} → Err r ≡ first_broken (block eighth 0 (last c ∷ [])) → eqb (last c).number 9 ≡ false
+        → Err (record { refusal = r; counts = no_counts }) ≡ told_behind file room last
+    asked_told {r} a m =
+        let n : eqb r.number 9 ≡ false = rw (one_number (last c) a) m in
+        rw n at (call_told (asked_are a))
 
     -- it is so
     module _ (a : Fine ≡ first_broken (block eighth 0 (last c ∷ []))) where
@@ -221,11 +264,7 @@ module _ (file : List ℕ) (room : ℕ) (last : Counts → Check) where
       last_kept = check_fine eighth 0 _ _ _ (sym a)
 
       pub kept_told : Ok c ≡ told_behind file room last
-      unfolding told_behind
-      kept_told = rw (asked_is a, ← judged_counts file room e)
-
-      pub kept_lent : (zs ds : List ℤ) {after : List ℤ} → after ≡ filled zs ds → after ≡ lent_by (call_verdict file room last) zs ds
-      kept_lent zs ds h = rw (asked_is a) h
+      kept_told = rw (told file room e) (call_told (asked_are a))
 
 -- a refusal above 9 leaves the table where it stands
 asked_table : (file words : List ℕ) (v : Verdict) (x : Check) → leb x.number 9 ≡ false → table_by v file words ≡ table_by (asked_by v x) file words
@@ -237,16 +276,17 @@ asked_table file words (Ok _) x h = by x.holds
     by false = rw h
 asked_table file words (Err r) x h = refl
 
-pub table_told : (file words : List ℕ) (last : Counts → Check) → leb (last (counts_at file (records_of file))).number 9 ≡ false
+-- so the table that stands behind the stages is the one behind the call
+pub table_told : (file words : List ℕ) (last : Counts → Check) → leb (last (counts_in (walked_of file))).number 9 ≡ false
     → {after : List ℕ} → after ≡ table_judged file words → after ≡ table_behind file last words
 unfolding table_judged table_behind
-table_told file words last m h = h ∙ rw (call_is file (length words) last) (asked_table file words (first_broken (rules_of file (length words))) (last (counts_at file (records_of file))) m)
+table_told file words last m h = h ∙ rw (call_is file (length words) last) (asked_table file words (first_broken (rules_of file (length words))) (last (counts_in (walked_of file))) m)
 
 -- what the layer sums answer
 pub sums_are : (file : List ℕ) (room i : ℕ) {t : Result (ℤ × ℤ) Refused} → t ≡ layer_told (told_behind file room (layer_rule i)) file i → sums_told t ≡ sums_of file room i
 unfolding told_behind sums_of
 sums_are file room i e = rw e (by (sums_verdict file room i))
   where
-    by : (v : Verdict) → sums_told (layer_told (tabled_by v (counts_at file (records_of file)) (need_of file)) file i) ≡ sums_by v file i
+    by : (v : Verdict) → sums_told (layer_told (tabled_by v (counts_in (walked_of file))) file i) ≡ sums_by v file i
     by (Ok _) = refl
     by (Err r) = refl

@@ -16,8 +16,8 @@ use Rattle.verdict.proofs.Orders.{and_both}
 use Rattle.verdict.proofs.Numbers.{between, unlike, up_to9, ten_to18, between_both, Numbered, append_numbered, broken_number}
 use Rattle.walk.specs.declared.Counts.{Counts}
 use Rattle.walk.specs.declared.Refused.{Refused}
-use Rattle.walk.specs.States.{counts_at}
-use Rattle.walk.specs.Stages.{records_of, stage_one, stage_two, room_rule, walked_of, verdict_in, need_of, early}
+use Rattle.walk.specs.States.{no_counts, counts_at}
+use Rattle.walk.specs.Stages.{records_of, stage_one, stage_two, room_rule, walked_of, verdict_in, counts_in, early}
 use Rattle.walk.specs.Table.{table_of, filled, filled_by, tabled_by, tabled_of}
 use Rattle.walk.proofs.Walking.{counts_small}
 use Rattle.walk.proofs.Judging.{records_small, walked_verdict, walked_fine}
@@ -98,15 +98,15 @@ module _ (file : List ℕ) {t : List ℕ} {c : Counts} {b : Bases} (f : t ≡ ta
           (goes_on (stage_four file (table_of file) (bases_in file)) _ refl (four_is i)
           (goes_on (stage_five file (table_of file) (bases_in file)) _ refl (five_is j) (rw (← f, ← bases_are) k)))
 
--- ---- an answer by the verdict v, the counts c and the need n
+-- ---- an answer by the verdict v and the counts c
 
-pub refused_by : (v : Verdict) (c : Counts) (n : ℕ) {x : Refused} → Err x ≡ tabled_by v c n → v ≡ Err x.refusal
-refused_by (Ok _) c n e = let z : ◌≡◌ {A = ℕ} 0 1 = cc in absurd (omega arith)
-refused_by (Err r) c n e = cc
+pub refused_by : (v : Verdict) (c : Counts) {x : Refused} → Err x ≡ tabled_by v c → v ≡ Err x.refusal
+refused_by (Ok _) c e = let z : ◌≡◌ {A = ℕ} 0 1 = cc in absurd (omega arith)
+refused_by (Err r) c e = cc
 
-pub accepted_by : (v : Verdict) (c : Counts) (n : ℕ) {d : Counts} → Ok d ≡ tabled_by v c n → (v ≡ Fine) × (d ≡ c)
-accepted_by (Ok _) c n e = (refl, cc)
-accepted_by (Err r) c n e = let z : ◌≡◌ {A = ℕ} 0 1 = cc in absurd (omega arith)
+pub accepted_by : (v : Verdict) (c : Counts) {d : Counts} → Ok d ≡ tabled_by v c → (v ≡ Fine) × (d ≡ c)
+accepted_by (Ok _) c e = (refl, cc)
+accepted_by (Err r) c e = let z : ◌≡◌ {A = ℕ} 0 1 = cc in absurd (omega arith)
 
 -- ---- all stages, behind refusal 9, where a table is lent that holds `words`
 
@@ -115,7 +115,7 @@ module _ (file words : List ℕ) where
   module _ {x : Refused} (e : Err x ≡ tabled_of file (length words)) where
     early_is : first_broken (early file (length words)) ≡ Err x.refusal
     unfolding tabled_of
-    early_is = refused_by _ _ _ e
+    early_is = refused_by _ _ e
 
     early_stands : first_broken (early file (length words)) ≡ first_broken (rules_of file (length words))
     unfolding rules_of
@@ -123,7 +123,7 @@ module _ (file words : List ℕ) where
 
     pub early_judged : Err x ≡ judged_of file (length words)
     unfolding tabled_of judged_of
-    early_judged = e ∙ ap (λ v. tabled_by v (counts_at file (records_of file)) (need_of file)) early_stands
+    early_judged = e ∙ ap (λ v. tabled_by v (counts_in (walked_of file))) early_stands
 
     pub early_table : {after : List ℕ} → after ≡ filled_by (first_broken (early file (length words))) file words → after ≡ table_judged file words
     unfolding table_judged
@@ -137,7 +137,12 @@ module _ (file words : List ℕ) where
   module _ {c : Counts} (e : Ok c ≡ tabled_of file (length words)) where
     early_kept : first_broken (early file (length words)) ≡ Fine
     unfolding tabled_of
-    early_kept = (accepted_by _ _ _ e).0
+    early_kept = (accepted_by _ _ e).0
+
+    -- what is told are the counts of stages 1 and 2
+    told : c ≡ counts_in (walked_of file)
+    unfolding tabled_of
+    told = (accepted_by _ _ e).1
 
     kept : verdict_in (walked_of file) ≡ Fine
     unfolding early
@@ -147,8 +152,7 @@ module _ (file words : List ℕ) where
     two_kept = (walked_fine file kept).1
 
     pub all_counts : c ≡ counts_at file (records_of file)
-    unfolding tabled_of
-    all_counts = (accepted_by _ _ _ e).1
+    all_counts = told ∙ (walked_fine file kept).2
 
     table_words : length (table_of file) ≡ c.words
     table_words = table_need file kept ∙ need_words file kept ∙ sym (ap (λ (c : Counts). c.words) all_counts)
@@ -168,7 +172,7 @@ module _ (file words : List ℕ) where
     unfolding rules_of
     late_is k = goes_on (early file (length words)) (late file) refl (sym early_kept) k
 
-    pub late_broken : {r : Refusal} → Err r ≡ first_broken (late file) → Err (record { refusal = r; need = 0 }) ≡ judged_of file (length words)
+    pub late_broken : {r : Refusal} → Err r ≡ first_broken (late file) → Err (record { refusal = r; counts = no_counts }) ≡ judged_of file (length words)
     unfolding judged_of
     late_broken {r} k =
         let above = late_above file k in
@@ -176,7 +180,7 @@ module _ (file words : List ℕ) where
 
     pub late_kept : Fine ≡ first_broken (late file) → Ok c ≡ judged_of file (length words)
     unfolding judged_of
-    late_kept k = rw (← late_is k, all_counts)
+    late_kept k = rw (← late_is k, ← told)
 
     pub late_table : {v : Verdict} → v ≡ first_broken (late file) → {after : List ℕ}
         → after ≡ filled_by (first_broken (early file (length words))) file words → after ≡ table_judged file words

@@ -14,7 +14,7 @@ use Rattle.verdict.specs.Rules.{Verdict, Fine, Check, block, told_of, first_brok
 use Rattle.walk.specs.declared.Counts.{Counts}
 use Rattle.walk.specs.declared.Refused.{Refused}
 use Rattle.walk.specs.States.{no_counts, counts_at}
-use Rattle.walk.specs.Stages.{records_of, need_of}
+use Rattle.walk.specs.Stages.{records_of, counts_in, walked_of, need_of}
 use Rattle.walk.specs.Table.{table_of, filled, tabled_by}
 use Rattle.layers.specs.declared.Bases.{Bases}
 use Rattle.layers.specs.declared.Layer.{Layer}
@@ -27,9 +27,9 @@ use Rattle.judge.specs.Rulebook.{rules_of, eighth, measure_rule, layer_rule, pai
 
 -- ---- all stages
 
--- RULES 6.1: what all stages say: the counts of a file that keeps them, or the refusal, with the need where it is 9
+-- RULES 6.1: what all stages say: the counts of a file that keeps them, or the refusal, with the counts where it is 9
 unfoldable pub judged_of : List ℕ → ℕ → Result Counts Refused
-judged_of file room = tabled_by (first_broken (rules_of file room)) (counts_at file (records_of file)) (need_of file)
+judged_of file room = tabled_by (first_broken (rules_of file room)) (counts_in (walked_of file))
 
 -- RULES 8.3: refused with 1 to 9, all words are as they were; refused later, or accepted, the table stands in front, the rest is as it was
 abbrev pub table_by : Verdict → List ℕ → List ℕ → List ℕ
@@ -70,11 +70,11 @@ abbrev pub outcome_by : Verdict → Counts → ℕ → ℕ → Outcome
 outcome_by (Ok _) c records n = outcome_with Fine c records n
 outcome_by (Err r) c records n = outcome_with (Err r) no_counts 0 n
 
--- RULES 6.1, 9.1: behind all stages and what a call asks, the counts of acceptance, or the refusal, with the need where it is 9
+-- RULES 6.1, 9.1: behind all stages and what a call asks, the counts of acceptance, or the refusal, with the counts where it is 9
 unfoldable pub told_behind : List ℕ → ℕ → (Counts → Check) → Result Counts Refused
-told_behind file room last = tabled_by (call_verdict file room last) (counts_at file (records_of file)) (need_of file)
+told_behind file room last = tabled_by (call_verdict file room last) (counts_in (walked_of file))
 
--- RULES 9.1: this by refusal numbers, with r records of acceptance; the counts are 0 if refused
+-- RULES 9.1: this by refusal numbers, with r records of acceptance; the counts are 0 if refused, and the need is the words that are told with 9
 abbrev pub outcome_told : Result Counts Refused → ℕ → Outcome
 outcome_told (Ok c) r = outcome_by Fine c r 0
 outcome_told (Err x) r = record {
@@ -87,7 +87,7 @@ outcome_told (Err x) r = record {
   lines = 0;
   areas = 0;
   records = 0;
-  need = x.need;
+  need = x.counts.words;
 }
 
 -- RULES 9.1, 9.11: counted over the whole file

@@ -256,7 +256,7 @@ fn outcome_of(file: &[u8], judged: Result<Counts, Refused>) -> Outcome
             lines: 0,
             areas: 0,
             records: 0,
-            need: r.need as u64,
+            need: r.counts.words as u64,
         },
     }
 }

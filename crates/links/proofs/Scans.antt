@@ -1,6 +1,6 @@
 -- Rows of slots, of an N or of an area: which slots are clean, at which one the scan for a repeated entry stops, and slots that are judged
 -- one by one. Assumes nothing.
-use mathlib.Core.Bool.{Bool, true, false, not, not-not, ◌||◌, false≢true}
+use mathlib.Core.Bool.{Bool, true, false, not, ◌||◌, false≢true}
 use mathlib.Core.List.{List}
 use mathlib.Core.Logic.{⊎_elim}
 use mathlib.Core.Path.{◌≡◌, refl, sym, ◌∙◌}

@@ -5,7 +5,19 @@ use Rattle.walk.specs.declared.State.{State}
 use Rattle.walk.specs.Quiet.{quiet_due}
 use Rattle.permitted.specs.Permitted.{is_zero}
 use Rattle.layers.specs.declared.Layer.{Layer}
-use Rattle.links.specs.Links.{repeats, link_checks, fifth}
+use Rattle.links.specs.declared.Owner.{Owner}
+use Rattle.links.specs.declared.Owner.TheVariants.{Node, Area}
+use Rattle.links.specs.Links.{repeats, node_entry, slot_of, link_checks, fifth}
+
+-- the slots of the N at record f; or those of the loop records from f on
+abbrev pub slot_by : Owner → List ℕ → ℕ → ℕ → ℤ
+slot_by Node = node_entry
+slot_by Area = slot_of
+
+-- RULES 4.3, 4.7: how many of them a record has
+abbrev pub slot_count : Owner → ℕ
+slot_count Node = 9
+slot_count Area = 12
 
 -- slot e of the row of slots f is no entry, or repeats none
 unfoldable pub clean : (ℕ → ℤ) → ℕ → Bool

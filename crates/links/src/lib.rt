@@ -10,7 +10,7 @@ ghost use Rattle.permitted.specs.Permitted.{size};
 ghost use Rattle.records.specs.View.{number_in};
 ghost use Rattle.records.specs.Columns.{span_from, slot_start};
 ghost use Rattle.links.specs.Links.{entry_is, node_entry, hand_in, meets, node_slot, node_checks, listed, link_fits, line_end_checks, side_checks, line_checks, at_node, first_point_checks, last_point_checks, point_checks, slot_of, entry_checks, link_checks, fifth, stage_four};
-ghost use Rattle.links.specs.Scanning.{clean, FirstRepeat, Between};
+ghost use Rattle.links.specs.Scanning.{slot_by, slot_count, clean, FirstRepeat, Between};
 
 use layers::{Bases, Layer};
 use records::{Columns, Slots};
@@ -75,9 +75,26 @@ pub fn slot_of(file: &[u8], f: usize, e: usize) -> i32
     records::slot_at(file, f + e / 12, records::LOOP_ENTRIES, e % 12)
 }
 
+// Whose slots they are: those of an N; or those of the loop records of an area.
+#[derive(Clone, Copy)]
+pub enum Owner {
+    Node,
+    Area,
+}
+
+// How many of them a record has.
+fn slot_count(o: Owner) -> usize
+    ensures { (result ≡ slot_count o) × (result ≤ 12) }
+{
+    match o {
+        Owner::Node => 9,
+        Owner::Area => 12,
+    }
+}
+
 // Of the slots from number `from` to the one before `to`, the first that repeats an earlier slot of the
 // row; or `to`. The contract speaks of every row `f` whose slots `slot` reads.
-pub fn first_repeat<F: Fn(usize) -> i32>(from: usize, to: usize, slot: F) -> usize
+fn scan_slots<F: Fn(usize) -> i32>(from: usize, to: usize, slot: F) -> usize
     requires { F.IsAlwaysCallable slot }
     ensures { (f : ℕ → ℤ) → ((i : ℕ) (v : ℤ) → i < to → F.post slot i v → v ≡ f i) → from ≤ to → (from ≤ result) × FirstRepeat f from (to - from) (result - from) }
 {
@@ -95,6 +112,21 @@ pub fn first_repeat<F: Fn(usize) -> i32>(from: usize, to: usize, slot: F) -> usi
         }
     }
     at
+}
+
+// Of the slots of one record, from slot `from` on, the first that repeats an earlier slot; or how many
+// they are. `f` is the record where the slots begin.
+pub fn first_repeat(o: Owner, file: &[u8], f: usize, from: usize) -> usize
+    ensures { from ≤ 4294967295 → FirstRepeat (slot_by o file.now f) from (slot_count o) result }
+{
+    let n = slot_count(o);
+    if 4294967295 < from {
+        return n;
+    }
+    match o {
+        Owner::Node => scan_slots(from, from + n, |i| node_entry(file, f, i)) - from,
+        Owner::Area => scan_slots(from, from + n, |i| slot_of(file, f, i)) - from,
+    }
 }
 
 // ---- N
@@ -154,7 +186,7 @@ fn judge_slot(file: &[u8], table: &[u32], l: Layer, row: u32, i: usize, again: b
 fn judge_node(file: &[u8], table: &[u32], l: Layer, row: u32) -> Verdict
     ensures { result ≡ first_broken (block fifth row (node_checks file.now table.now l row)) }
 {
-    let at = first_repeat(0, 9, |i| node_entry(file, row as usize, i));
+    let at = first_repeat(Owner::Node, file, row as usize, 0);
     for i in 0..9 {
         judge_slot(file, table, l, row, i, i == at)?;
     }

@@ -27,7 +27,7 @@ use Rattle.layers.specs.Standing.{standing_at}
 use Rattle.layers.proofs.Passing.{counts_step}
 use Rattle.layers.proofs.Walks.{state_is, rows_are, layer_is, state_behind, rows_behind, layer_behind}
 use Rattle.entries.specs.Keeping.{walked_to, Kept, SoundLayer}
-use Rattle.entries.proofs.Keeping.{kept_lines}
+use Rattle.entries.proofs.Keeping.{kept_all}
 use Rattle.loops.specs.Loops.{area_record, area_checks, areas_at}
 use Rattle.loops.specs.Scanning.{Unrepeated, KeptFor, SoundTable, KnownBehind}
 use Rattle.loops.proofs.Repeats.{unrepeated_none}
@@ -141,7 +141,7 @@ module _ (file t : List ℕ) (b : Bases) {x : Standing} (e : x ≡ standing_at f
   -- the line measures that are kept are those of the next record's layer: behind an H, its lines'
   pub kept_new : {ms : List ℤ} → is_layer d ≡ true → ms ≡ walked_to file t y.layer (min y.layer.lines 9999) → x.records < records_of file
       → SoundTable file t b → Kept file t y.layer ms
-  kept_new u p l s = kept_lines file t y.layer p (layer_sound l s u)
+  kept_new u p l s = kept_all file t y.layer p (layer_sound l s u)
 
   -- behind another, those that were
   pub kept_on : {ms : List ℤ} → is_layer d ≡ false → (0 < x.rows → Kept file t x.layer ms) → 0 < y.rows → Kept file t y.layer ms

@@ -16,6 +16,7 @@ ghost use Rattle.loops.specs.Scanning.{mark_of, Unrepeated, Marking, KeptFor, So
 
 use entries::LineMeasures;
 use layers::{Bases, Layer};
+use links::Owner;
 use rules::Due;
 use verdict::{Refusal, Verdict};
 
@@ -64,7 +65,7 @@ fn unrepeated(file: &[u8], a: usize, marks: &mut [usize]) -> usize
 // The first slot of the loop record `row` that repeats an earlier one of the area whose A is record `a`, or
 // 12; without a scan where the first `known` slots of the area are known to repeat none.
 fn repeat_in(file: &[u8], a: usize, row: u32, known: usize) -> usize
-    requires { (a ≤ 4294967295) × Unrepeated file.now a known }
+    requires { (a ≤ 4294967295) × (row ≤ 6399936) × Unrepeated file.now a known }
     ensures { FirstRepeat (slot_of file.now (a + 1)) (12 * (row - (a + 1))) 12 result }
 {
     let r = row as usize;
@@ -72,7 +73,7 @@ fn repeat_in(file: &[u8], a: usize, row: u32, known: usize) -> usize
     if from + 12 <= known {
         return 12;
     }
-    links::first_repeat(from, from + 12, |e| links::slot_of(file, a + 1, e)) - from
+    links::first_repeat(Owner::Area, file, a + 1, from)
 }
 
 // ---- slots
@@ -229,7 +230,7 @@ fn judge_loop(
     left: usize,
     row: u32,
 ) -> Verdict
-    requires { Unrepeated file.now (area_record table.now l area) known }
+    requires { (row ≤ 6399936) × Unrepeated file.now (area_record table.now l area) known }
     ensures { Kept file.now table.now l kept.now → result ≡ first_broken (block sixth row (loop_checks file.now table.now l area count left row)) }
 {
     judge_winding(file, l, kept, left, row)?;
@@ -261,7 +262,7 @@ fn judge_record(
     known: usize,
     row: u32,
 ) -> Verdict
-    requires { Unrepeated file.now (area_record table.now l area) known }
+    requires { (row ≤ 6399936) × Unrepeated file.now (area_record table.now l area) known }
     ensures { KeptFor d file.now table.now l kept.now → result ≡ first_broken (block sixth row (area_checks d file.now table.now l area row)) }
 {
     match d {

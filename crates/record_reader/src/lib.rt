@@ -9,11 +9,15 @@ ghost use Rattle.records.specs.Reading.{refused_at, fields_of, reading_of};
 
 use records::{Field, Kind, Misread, Record};
 
-// A refusal at a column.
+// A refusal at a column of the one record, which is record 1.
 fn refused(number: u32, column: usize) -> Result<Record, Misread>
     ensures { result ≡ refused_at number column }
 {
-    Err(Misread { number, column })
+    Err(Misread {
+        number,
+        place: 1,
+        column,
+    })
 }
 
 // The fields of 74 bytes along the layout of the kind: the first ill-formed one, or the value.

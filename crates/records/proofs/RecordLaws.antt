@@ -13,7 +13,7 @@ use borrow.Author.Tests.{eq-eqb, eqb-true}
 use Rattle.records.specs.Layout.{layout_of, start_of, numbers_of, bytes_of, marks_of, total}
 use Rattle.records.specs.Reading.{letters_fault, head_letters, letters_in, in_layer_five, numbers_in, name_in, marks_in, over, first_fault}
 use Rattle.records.specs.Reading.{zeros, no_name, unmarked}
-use Rattle.records.specs.Reading.{Fault, code_in, fault_of, fault_at, refused_at, value_in, fields_by, fields_of, reading_of}
+use Rattle.records.specs.Reading.{Fault, code_in, fault_of, fault_at, refused_at, value_told, value_in, fields_by, fields_of, reading_of}
 use Rattle.records.specs.Writing.{second_letter, field_text, text_of, fits, record_bytes, of_layer_five, fields_fit, letters_fit, fits_all}
 use Rattle.permitted.specs.Permitted.{is_zero, is}
 use Rattle.records.specs.declared.Kind.{Kind}
@@ -203,14 +203,19 @@ value_is k s {r} e =
     let q : ◌≡◌ {A = Answer} (Ok r) (Ok (value_in k s)) = sym e ∙ accepted_value k s (accepts k s e) in
     cc
 
--- what is read has all its entries
-pub value_sized : (k : Kind) (s : List ℕ) {r : Record} → reading_of k s ≡ Ok r → Sized r
-value_sized k s e =
+-- a value's entries are put into those of the named kind with all else 0, and that is what a refusal has
+sized_by : (k : Kind) (s : List ℕ) (x : Answer) → reading_of k s ≡ x → Sized (value_told k x)
+sized_by k s (Ok r) e =
     rw (value_is k s e) (record {
       numbers = length-sets zeros 0 (over numbers_in (layout_of k) s);
       name = length-sets no_name 0 (over name_in (layout_of k) s);
       marks = length-sets unmarked 0 (over marks_in (layout_of k) s);
     })
+sized_by k s (Err m) e = record { numbers = refl; name = refl; marks = refl }
+
+-- what is read has all its entries, also where it is refused
+pub value_sized : (k : Kind) (s : List ℕ) → Sized (value_told k (reading_of k s))
+value_sized k s = sized_by k s (reading_of k s) refl
 
 -- 72 columns and the two bytes behind them
 line_is : (s : List ℕ) → length s ≡ 74 → get_or s 72 0 ≡ 13 → get_or s 73 0 ≡ 10 → take 72 s ++ (13 ∷ 10 ∷ []) ≡ s
@@ -316,7 +321,7 @@ fault_not (f ∷ fs) s e = first_not (fault_of f s) (start_of f) (first_fault fs
 
 number_is : {n c : ℕ} {m : Misread} → refused_at n c ≡ Err m → n ≡ m.number
 number_is {n} {c} {m} e =
-    let q : ◌≡◌ {A = Misread} (record { number = n; column = c }) m = cc in
+    let q : ◌≡◌ {A = Misread} (record { number = n; place = 1; column = c }) m = cc in
     ap (λ (y : Misread). y.number) q
 
 answer_not : (x : ℕ) → (1 ≡ x → ⊥) → (2 ≡ x → ⊥) → (k : Kind) (s : List ℕ) (t u v : Bool) (n c : ℕ) → (1 ≤ n → n ≡ x → ⊥)

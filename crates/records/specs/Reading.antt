@@ -5,7 +5,8 @@
 --   code_in s c w     the code in the w columns of the record s from column c on
 --   numbers_in, name_in, marks_in  what the field adds to the record's numbers, its name and its marks
 --   first_fault L s  the first refusal along the layout L, with its column
---   reading_of k s    the answer to a record of kind k: its value, or a refusal's number and column
+--   reading_of k s    the answer to a record of kind k: its value, or a refusal's number and place
+--   value_told k x    the value of the answer x to a record of kind k, also where it is a refusal
 use Rattle.std.specs.Prelude.{Bool, true, false, cond, ◌&&◌, ◌||◌, List, [], ◌∷◌, ◌++◌, ℕ, zero, suc, eqb, ℤ, pos, length, get_or, replicate}
 use Rattle.std.specs.Prelude.{Option, Some, None, Result, Ok, Err}
 use Rattle.std.proofs.lemmas.List.Edits.{sets}
@@ -134,9 +135,17 @@ no_name = replicate 40 0
 abbrev pub unmarked : List ℕ
 unmarked = replicate 2 0
 
--- RULES 9.4: a refused reading has a number and a column
+-- RULES 9.4: a refused reading has a number and a place; the record's number is 1
 abbrev pub refused_at : ℕ → ℕ → Result Record Misread
-refused_at n c = Err (record { number = n; column = c })
+refused_at n c = Err (record { number = n; place = 1; column = c })
+
+-- RULES 9.4: refused, the value is the named kind with all else 0
+abbrev pub zeroed : Kind → Record
+zeroed k = record { kind = k; numbers = zeros; name = no_name; marks = unmarked; letters = 0 }
+
+abbrev pub value_told : Kind → Result Record Misread → Record
+value_told k (Ok r) = r
+value_told k (Err m) = zeroed k
 
 -- RULES 4.8: a record's value is its kind, its numbers, its name bytes, its marks and its letters
 abbrev pub value_in : Kind → List ℕ → Record

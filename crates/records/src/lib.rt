@@ -1,5 +1,5 @@
 // The records of a file (RULES 4, and the view of RULES 9.6): the kinds, their layouts, and the numbers
-// of a record. The layout of each kind stands once, in the functions named after the kinds; the crates
+// of a record. The layout of each kind stands once, in the constant named after the kind; the crates
 // `record_reader` and `record_writer` go along it. Every public function takes every input.
 //
 // The contracts cite `specs/`: `Layout` has the layouts, `Reading` and `Writing` say what a record's
@@ -8,7 +8,7 @@
 
 ghost use Rattle.std.specs.Prelude.{◌≡◌, ◌≤◌, get_or};
 ghost use Rattle.records.specs.Layout.{layout_of};
-ghost use Rattle.records.specs.Reading.{letters_right, head_letters, is_head, letters_in, in_layer_five, code_in};
+ghost use Rattle.records.specs.Reading.{zeroed, letters_right, head_letters, is_head, letters_in, in_layer_five, code_in};
 ghost use Rattle.records.specs.View.{record_of, number_in};
 ghost use Rattle.records.specs.Columns.{slot_start, slot_in};
 
@@ -131,10 +131,27 @@ pub struct Record {
     pub letters: u32,
 }
 
-// Why a record that is read alone is refused: the refusal's number, and the column (RULES 9.4).
+impl Record {
+    // The kind with all else 0: the value of a refused reading (RULES 9.4).
+    pub fn zeroed(kind: Kind) -> Record
+        ensures { result ≡ zeroed kind }
+    {
+        Record {
+            kind,
+            numbers: [0; 16],
+            name: [0; 40],
+            marks: [0; 2],
+            letters: 0,
+        }
+    }
+}
+
+// Why a record that is read alone is refused: the refusal's number, and its place, record 1 and the column
+// (RULES 9.4). The value of the reading is then `Record::zeroed` of the kind that the caller named.
 #[derive(Clone, Copy, Debug, PartialEq, Eq)]
 pub struct Misread {
     pub number: u32,
+    pub place: u32,
     pub column: usize,
 }
 

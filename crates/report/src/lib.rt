@@ -5,7 +5,7 @@
 // The contracts cite `specs/`: `Texts` has the text of every input.
 #![tactic(auto)]
 
-ghost use Rattle.std.specs.Prelude.{◌≡◌, ◌++◌, ◌+◌, ◌≤◌, length, OnOk, IfSome};
+ghost use Rattle.std.specs.Prelude.{◌≡◌, [], ◌++◌, ◌+◌, ◌≤◌, length, OnOk, IfSome};
 ghost use Rattle.std.specs.Io.KnownBytes.{Appends};
 ghost use Rattle.walk.specs.Stages.{records_of};
 ghost use Rattle.report.specs.Texts.{status_too_long, refused_text, ok_text, shown_in, area_text, areas_text, check_text, measure_text};
@@ -28,36 +28,34 @@ pub struct Shown {
     pub code: usize,
 }
 
-// ---- what is said of an outcome
+// ---- what is said of an outcome, on a page with nothing on it
 
 // All that is said of an input that is too long.
-fn too_long_page() -> Page
-    ensures { result ≡ status_too_long }
+fn put_too_long(page: &mut Page)
+    requires { page.old ≡ [] }
+    ensures { page.new ≡ status_too_long }
 {
-    let mut page = Page::new();
     page.put(b"status=toolong\n");
-    page
 }
 
 // A refused file's four lines.
 #[tactic(auto, using(std::proofs::Common::append_assoc), unfolding(crate::specs::Texts::refused_text))]
-fn refused_page(o: Outcome) -> Page
-    ensures { result ≡ refused_text o }
+fn put_refused(page: &mut Page, o: Outcome)
+    requires { page.old ≡ [] }
+    ensures { page.new ≡ refused_text o }
 {
-    let mut page = Page::new();
     page.put(b"status=refused\n");
     page.put_line(b"number=", o.number);
     page.put_line(b"record=", o.place);
     page.put_line(b"column=", o.column);
-    page
 }
 
 // An accepted file's seven lines.
 #[tactic(auto, using(std::proofs::Common::append_assoc), unfolding(crate::specs::Texts::ok_text))]
-fn ok_page(o: Outcome) -> Page
-    ensures { result ≡ ok_text o }
+fn put_ok(page: &mut Page, o: Outcome)
+    requires { page.old ≡ [] }
+    ensures { page.new ≡ ok_text o }
 {
-    let mut page = Page::new();
     page.put(b"status=ok\n");
     page.put_line(b"meshes=", o.meshes);
     page.put_line(b"layers=", o.layers);
@@ -65,7 +63,6 @@ fn ok_page(o: Outcome) -> Page
     page.put_line(b"lines=", o.lines);
     page.put_line(b"areas=", o.areas);
     page.put_line(b"records=", o.records);
-    page
 }
 
 // ---- the areas
@@ -97,24 +94,23 @@ fn put_area(page: &mut Page, x: Shown, m: i64)
     page.put(b"\n");
 }
 
-// The lines of all areas, in file order; `measures` has their measures.
-fn areas_page(file: &[u8], measures: &[i64]) -> Page
-    requires { records_of file.now ≤ 885 }
-    ensures { result ≡ areas_text file.now measures.now (records_of file.now) }
+// The lines of all areas, in file order, on a page with nothing on it; `measures` has their measures.
+fn put_areas(page: &mut Page, file: &[u8], measures: &[i64])
+    requires empty { page.old ≡ [] }
+    requires few { records_of file.now ≤ 885 }
+    ensures { page.new ≡ areas_text file.now measures.now (records_of file.now) }
 {
-    let mut page = Page::new();
     let mut s = walk::at_start();
     let mut a: usize = 0;
     for k in 0..walk::records_of(file) {
         let t = records::record_view(file, k + 1);
         if let Due::Area(..) = walk::due(s) {
             let m = measures.get(a).copied().unwrap_or(0);
-            put_area(&mut page, shown_of(s, t), m);
+            put_area(page, shown_of(s, t), m);
             a += 1;
         }
         s = walk::next(s, t);
     }
-    page
 }
 
 // ---- the programs' texts
@@ -128,37 +124,41 @@ const WORDS: usize = walk::ROW_LENGTH * 885;
 
 const PLACES: usize = 443;
 
-// What `check` prints of an input.
-pub fn check_text(input: &[u8]) -> Page
-    ensures { result ≡ check_text input.now }
+// What `check` prints of an input: that text alone stands on the page then, whatever stood there.
+pub fn check_text(input: &[u8], page: &mut Page)
+    ensures { page.new ≡ check_text input.now }
 {
+    page.clear();
     if MOST < input.len() {
-        return too_long_page();
+        put_too_long(page);
+        return;
     }
     let mut table = [0u32; WORDS];
     let mut measures = [0i64; PLACES];
     let o = judge::load(input, &mut table, &mut measures);
     if o.number == 0 {
-        ok_page(o)
+        put_ok(page, o);
     } else {
-        refused_page(o)
+        put_refused(page, o);
     }
 }
 
-// What `measure` prints of an input. Kept beside `check_text`: each promises a text of its own.
-pub fn measure_text(input: &[u8]) -> Page
-    ensures { result ≡ measure_text input.now }
+// What `measure` prints of an input, likewise. Kept beside `check_text`: each promises a text of its own.
+pub fn measure_text(input: &[u8], page: &mut Page)
+    ensures { page.new ≡ measure_text input.now }
 {
+    page.clear();
     if MOST < input.len() {
-        return too_long_page();
+        put_too_long(page);
+        return;
     }
     let mut table = [0u32; WORDS];
     let mut measures = [0i64; PLACES];
     let o = judge::load(input, &mut table, &mut measures);
     if o.number == 0 {
-        areas_page(input, &measures)
+        put_areas(page, input, &measures);
     } else {
-        refused_page(o)
+        put_refused(page, o);
     }
 }
 
@@ -183,7 +183,8 @@ pub fn check<R: Read, W: Write, E: Write>(
         &mut input,
         b"check: standard input: not everything could be read",
     )?;
-    let page = check_text(&input[..n]);
+    let mut page = Page::new();
+    check_text(&input[..n], &mut page);
     streams::write_text(
         output,
         errors,
@@ -207,7 +208,8 @@ pub fn measure<R: Read, W: Write, E: Write>(
         &mut input,
         b"measure: standard input: not everything could be read",
     )?;
-    let page = measure_text(&input[..n]);
+    let mut page = Page::new();
+    measure_text(&input[..n], &mut page);
     streams::write_text(
         output,
         errors,

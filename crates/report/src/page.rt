@@ -24,13 +24,20 @@ impl Model for Page {
 
 impl Page {
     // A page with nothing on it.
-    pub(crate) fn new() -> Self
+    pub fn new() -> Self
         ensures { result ≡ [] }
     {
         Page {
             bytes: [0; 120000],
             used: 0,
         }
+    }
+
+    // Takes all off the page.
+    pub(crate) fn clear(&mut self)
+        ensures { self.new ≡ [] }
+    {
+        self.used = 0;
     }
 
     // The text on the page.

@@ -9,6 +9,7 @@ use native.Mathlib.Omega.{arith}
 use lib.Dec.{leb, eqb}
 use borrow.Author.Tests.{le-leb, lt-leb, leb-true, leb-false, eq-eqb, ne_eqb}
 use Rattle.records.specs.View.{record_of}
+use Rattle.records.specs.Columns.{layer_records}
 use Rattle.std.specs.Prelude.{Err}
 use Rattle.verdict.specs.declared.Refusal.{Refusal}
 use Rattle.verdict.specs.Rules.{Verdict, Fine, Broken, Rule, check, first_broken, block, rows}
@@ -25,7 +26,7 @@ use Rattle.walk.specs.Quiet.{is_quiet, Quiet}
 use Rattle.walk.proofs.Walking.{size_small}
 use Rattle.walk.proofs.Passing.{by_quiet, quiet_is, passed_due, passed_rows}
 use Rattle.totals.specs.declared.Sums.{Sums}
-use Rattle.totals.specs.Totals.{rank_number, rank_of, no_sums, one_more, added_for, sums_from, sums_behind}
+use Rattle.totals.specs.Totals.{rank_number, rank_of, no_sums, one_more, added_for, sums_from, sums_behind, total_check}
 use Rattle.totals.specs.Totals.{mesh_totals, layer_totals, area_totals, total_checks, fourth, stage_three}
 use Rattle.totals.specs.Adding.{Addable}
 use Rattle.totals.specs.declared.Rank.{Rank}
@@ -185,9 +186,16 @@ module _ (r c x y : ℕ) {m : ℕ} (e : m ≡ x) where
   pub total_kept : m ≡ y → Fine ≡ first_broken (block fourth r (check c 10 (eqb x y) ∷ []))
   total_kept h = check_none fourth r ∙ sym (check_kept fourth r c 10 (eqb x y) [] (rw (← e) (eq-eqb m y h)))
 
--- ---- records that bear no total
+-- ---- a record's totals, by the code's arms
 
--- any but an M, an H or an A
+-- an H has one: of what follows it in its layer
+pub layer_arm : (file : List ℕ) (k : ℕ) {d : Due} {t : List ℕ} {s : Sums} {v : Verdict} {last : ℕ}
+    → d ≡ Layer last → t ≡ record_of file (k + 1) → s ≡ sums_behind 1 file (k + 1)
+    → v ≡ first_broken (block fourth (k + 1) (total_check t layer_records s.records ∷ [])) → v ≡ first_broken (block fourth (k + 1) (total_checks d file k))
+unfolding layer_totals
+layer_arm file k e f g h = rw (e, ← f, ← g) h
+
+-- any but an M, an H or an A has none
 pub none_arm : (file : List ℕ) (k : ℕ) (d : Due) → ((last : ℕ) → d ≡ Mesh last → ⊥) → ((last : ℕ) → d ≡ Layer last → ⊥)
     → ((layer last : ℕ) → d ≡ Area layer last → ⊥) → Fine ≡ first_broken (block fourth (k + 1) (total_checks d file k))
 none_arm _ k (Mesh last) m h a = absurd (m last refl)

@@ -170,7 +170,7 @@ fn judge_mesh(t: &[u8], s: Sums, row: u32) -> Verdict
 
 // The totals of record `k + 1`, due as `d`; `next` is the state behind it. Counting begins behind the record,
 // so an M or an H is no part of its own total.
-#[tactic(auto, using(crate::proofs::Summing::none_arm), unfolding(crate::specs::Totals::layer_totals, crate::specs::Totals::area_totals))]
+#[tactic(auto, using(crate::proofs::Summing::layer_arm, crate::proofs::Summing::none_arm), unfolding(crate::specs::Totals::area_totals))]
 fn judge_totals(d: Due, file: &[u8], k: usize, next: State) -> Verdict
     requires { (k < 6399936) × (next ≡ state_at file.now (k + 1)) }
     ensures { result ≡ first_broken (block fourth (k + 1) (total_checks d file.now k)) }

@@ -13,7 +13,7 @@ use Rattle.verdict.proofs.Parts.{stands, goes_on, check_none, check_kept, check_
 use Rattle.verdict.proofs.Numbers.{unlike, given_unlike, broken_number}
 use Rattle.walk.specs.declared.Counts.{Counts}
 use Rattle.walk.specs.Row.{row_length}
-use Rattle.walk.specs.States.{counts_at}
+use Rattle.walk.specs.States.{no_counts, counts_at}
 use Rattle.walk.specs.Stages.{records_of, stage_one, stage_two, verdict_in, counts_in, walked_of, third, words_of, room_rule, early}
 use Rattle.walk.specs.Table.{filled, table_of, filled_by, tabled_of}
 use Rattle.walk.proofs.InOrder.{stages_numbered}
@@ -38,8 +38,8 @@ module _ (file : List ℕ) {r : Refusal} (e : Err r ≡ walked_of file) where
       (broken_number (unlike 9) (stage_one file ++ stage_two file)
       (λ a i. given_unlike 8 9 a.number (λ _ l _. absurd (omega arith)) (stages_numbered file a i)) (sym judged))
 
-  -- so nothing is said of the need
-  pub tabled_broken : (room : ℕ) → Err (record { refusal = r; need = 0 }) ≡ tabled_of file room
+  -- so no counts are told
+  pub tabled_broken : (room : ℕ) → Err (record { refusal = r; counts = no_counts }) ≡ tabled_of file room
   unfolding tabled_of
   tabled_broken room = rw (← early_broken room, not_nine)
 
@@ -52,9 +52,13 @@ module _ (file : List ℕ) {c : Counts} (e : Ok c ≡ walked_of file) where
   fine : Fine ≡ first_broken (stage_one file ++ stage_two file)
   fine = sym kept ∙ walked_verdict file
 
+  -- what is told are the counts of stages 1 and 2
+  told : c ≡ counts_in (walked_of file)
+  told = ap counts_in e
+
   -- the counts are those of all records
   pub all_counted : c ≡ counts_at file (records_of file)
-  all_counted = ap counts_in e ∙ (walked_fine file kept).2
+  all_counted = told ∙ (walked_fine file kept).2
 
   words_are : c.words ≡ words_of file
   unfolding words_of
@@ -68,9 +72,10 @@ module _ (file : List ℕ) {c : Counts} (e : Ok c ≡ walked_of file) where
         goes_on (stage_one file ++ stage_two file) (room_rule file room) refl fine
         (sym (check_broken third 0 0 9 (leb (words_of file) room) [] (rw (← words_are) (lt-leb c.words room l))))
 
-    pub tabled_short : Err (record { refusal = record { number = 9; place = 0; column = 0 }; need = c.words }) ≡ tabled_of file room
+    -- the counts are told with that
+    pub tabled_short : Err (record { refusal = record { number = 9; place = 0; column = 0 }; counts = c }) ≡ tabled_of file room
     unfolding tabled_of
-    tabled_short = rw (← short, need_is file e)
+    tabled_short = rw (← short, ← told)
 
   module _ (room : ℕ) (l : c.words ≤ room) where
     -- it is not
@@ -82,7 +87,7 @@ module _ (file : List ℕ) {c : Counts} (e : Ok c ≡ walked_of file) where
 
     pub tabled_long : Ok c ≡ tabled_of file room
     unfolding tabled_of
-    tabled_long = rw (← long_enough, ← all_counted)
+    tabled_long = rw (← long_enough, ← told)
 
     -- then it has room for all rows, lines and areas
     pub room_enough : row_length * c.layers + (c.lines + c.areas) ≤ room

@@ -9,14 +9,14 @@ use Rattle.std.specs.Prelude.{cond, List, [], ◌∷◌, ◌++◌, ℕ, zero, su
 use Rattle.records.specs.View.{record_of}
 use Rattle.records.specs.Reading.{head_letters}
 use Rattle.records.specs.Columns.{layer_nodes, layer_lines, layer_areas}
-use Rattle.verdict.specs.Rules.{Verdict, Fine, first_broken}
+use Rattle.verdict.specs.Rules.{Verdict, first_broken}
 use Rattle.rules.specs.declared.Due.{Due}
 use Rattle.rules.specs.declared.Due.TheVariants.{Mesh, Layer, Node, Line, Coordinates, Area, Loop}
 use Rattle.walk.specs.Row.{row_of}
-use Rattle.walk.specs.States.{size_at, due_of, state_at, counts_at}
+use Rattle.walk.specs.States.{size_at, due_of, state_at, no_counts}
 use Rattle.walk.specs.declared.Counts.{Counts}
 use Rattle.walk.specs.declared.Refused.{Refused}
-use Rattle.walk.specs.Stages.{records_of, need_of, early}
+use Rattle.walk.specs.Stages.{records_of, counts_in, walked_of, early}
 
 -- RULES 8.1: a layer's row
 abbrev pub row_words : Due → List ℕ → ℕ → List ℕ
@@ -67,10 +67,11 @@ abbrev pub filled_by : Verdict → List ℕ → List ℕ → List ℕ
 filled_by (Ok _) file words = filled (table_of file) words
 filled_by (Err r) file words = words
 
--- what is answered then: the counts; or the refusal, and for a table that is too short the need
-abbrev pub tabled_by : Verdict → Counts → ℕ → Result Counts Refused
-tabled_by (Ok _) c need = Ok c
-tabled_by (Err r) c need = Err (record { refusal = r; need = cond (eqb r.number 9) need 0 })
+-- what is answered then: the counts; or the refusal, and for a table that is too short the counts with it
+abbrev pub tabled_by : Verdict → Counts → Result Counts Refused
+tabled_by (Ok _) c = Ok c
+tabled_by (Err r) c = Err (record { refusal = r; counts = cond (eqb r.number 9) c no_counts })
 
+-- the counts are those of a file that keeps stages 1 and 2, and 0 of any other
 unfoldable pub tabled_of : List ℕ → ℕ → Result Counts Refused
-tabled_of file room = tabled_by (first_broken (early file room)) (counts_at file (records_of file)) (need_of file)
+tabled_of file room = tabled_by (first_broken (early file room)) (counts_in (walked_of file))

@@ -8,7 +8,7 @@
 ghost use Rattle.std.specs.Prelude.{◌≡◌, ◌+◌, ◌-◌, ◌*◌, ◌/◌, ◌≤◌, ◌<◌, min, length};
 ghost use Rattle.std.proofs.lemmas.List.Edits.{sets};
 ghost use Rattle.verdict.specs.Rules.{Broken, first_broken, block};
-ghost use Rattle.walk.specs.States.{size_in, due_of, start, layer_part, meshed, headed, next_of, Countable, counted_for, counts_at};
+ghost use Rattle.walk.specs.States.{size_in, due_of, start, layer_part, meshed, headed, next_of, no_counts, Countable, counted_for, counts_at};
 ghost use Rattle.walk.specs.Row.{row_length, row_of};
 ghost use Rattle.walk.specs.Stages.{records_of, end_checks, length_checks, stage_one, last_checks, stage_two, walked_by, walked_of, need_of, early};
 ghost use Rattle.walk.specs.Table.{table_of, filled, filled_by, tabled_of};
@@ -87,19 +87,22 @@ pub struct Counts {
     pub words: usize,
 }
 
-// What stages 1 and 2 and refusal 9 refuse: the refusal, and the words that the file needs, where the table is too
-// short (9), else 0.
+// What stages 1 and 2 and refusal 9 refuse: the refusal, and the counts of the file, its need among them, where the
+// table is too short (9), else 0.
 #[derive(Clone, Copy)]
 pub struct Refused {
     pub refusal: Refusal,
-    pub need: usize,
+    pub counts: Counts,
 }
 
 impl From<Refusal> for Refused {
-    ghost from_gives = { λ r x. x ≡ record { refusal = r; need = 0 } };
+    ghost from_gives = { λ r x. x ≡ record { refusal = r; counts = no_counts } };
 
     fn from(refusal: Refusal) -> Refused {
-        Refused { refusal, need: 0 }
+        Refused {
+            refusal,
+            counts: Counts::default(),
+        }
     }
 }
 
@@ -589,7 +592,7 @@ fn fill(file: &[u8], total: Counts, table: &mut [u32])
     }
 }
 
-// Stages 1 and 2, refusal 9, and then the table.
+// Stages 1 and 2, refusal 9, and then the table. The counts are told with 9 too.
 pub fn fill_table(file: &[u8], table: &mut [u32]) -> Result<Counts, Refused>
     ensures { (result ≡ tabled_of file.now (length table.old)) × (table.new ≡ filled_by (first_broken (early file.now (length table.old))) file.now table.old) }
 {
@@ -601,7 +604,7 @@ pub fn fill_table(file: &[u8], table: &mut [u32]) -> Result<Counts, Refused>
                 place: 0,
                 column: 0,
             },
-            need: counts.words,
+            counts,
         });
     }
     fill(file, counts, table);

@@ -1,7 +1,7 @@
 use mathlib.Core.Path.{refl}
 use native.Mathlib.Omega.{arith}
 use Rattle.layers.specs.Naming.{words_before}
-use Rattle.entries.proofs.Keeping.{kept_lines}
+use Rattle.entries.proofs.Keeping.{kept_all}
 use Rattle.judge.proofs.Adding.{none_filled, next_summable, room, at_more, layer_put}
 use Rattle.judge.proofs.fill_measures.Goals as goal
 
@@ -16,7 +16,7 @@ fill_layer-requires c =
     let e = c.layer_in-l.ensures in
     let u = next_summable _ _ _ c.requires.0 h e in (
       room _ _ _ _ _ _ c.requires l.invariant.0 l.invariant.1 h e,
-      kept_lines _ _ _ c.keep.ensures u.sound,
+      kept_all _ _ _ c.keep.ensures u.sound,
       u,
     )
 

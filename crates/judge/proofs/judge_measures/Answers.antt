@@ -9,7 +9,7 @@ use Rattle.judge.specs.Rulebook.{measure_rule}
 use Rattle.judge.specs.Outcomes.{measures_after}
 use Rattle.judge.proofs.Loading.{counts_few}
 use Rattle.judge.proofs.Calling.{judged_counts, judged_fit, judged_words, summable_to, areas_fit, measures_are}
-use Rattle.judge.proofs.Calling.{stages_told, stages_lent, asked_told, asked_lent, last_kept, kept_told, kept_lent, table_told}
+use Rattle.judge.proofs.Calling.{stages_are, stages_told, asked_are, asked_told, last_kept, kept_told, lent_refused, lent_kept, table_told}
 use Rattle.judge.proofs.judge_measures.Goals as goal
 
 pub returns-in_err-counts : goal.returns-in_err-counts
@@ -18,7 +18,7 @@ returns-in_err-counts c =
     let j = c.in_err-counts.ensures in
     let r = measure_rule (length c.args.measures.now) in
     let p = err_from_is_err_and c.from_residual.result c.from_residual.ensures.1 in
-    record { told = rw (p.1, p.2) (stages_told _ _ r j.0); table = table_told _ _ r refl j.1; measures = stages_lent _ _ r j.0 _ _ }
+    record { told = rw (p.1, p.2) (stages_told _ _ r j.0); table = table_told _ _ r refl j.1; measures = lent_refused _ _ r (stages_are _ _ r j.0) refl _ _ }
 
 pub returns-in_err-asked : goal.returns-in_err-asked
 unfolding measures_after
@@ -27,7 +27,7 @@ returns-in_err-asked c =
     let a = c.in_err-asked.ensures in
     let r = measure_rule (length c.args.measures.now) in
     let p = err_from_is_err_and c.from_residual-in_err-asked.result c.from_residual-in_err-asked.ensures.1 in
-    record { told = rw (p.1, p.2) (asked_told _ _ r j.0 a refl); table = table_told _ _ r refl j.1; measures = asked_lent _ _ r j.0 a _ _ }
+    record { told = rw (p.1, p.2) (asked_told _ _ r j.0 a refl); table = table_told _ _ r refl j.1; measures = lent_refused _ _ r (asked_are _ _ r j.0 a) refl _ _ }
 
 pub slice_bounds-fill_measures-end : goal.slice_bounds-fill_measures-end
 slice_bounds-fill_measures-end c = let j = c.in_ok-counts.ensures in judged_fit _ _ j.0 _ refl j.1
@@ -52,4 +52,4 @@ returns c =
     let a = c.in_ok-asked.ensures in
     let r = measure_rule (length c.args.measures.now) in
     let f = measures_are _ _ j.0 (judged_words _ _ j.0 _ refl j.1) c.bases_of.ensures in
-    record { told = kept_told _ _ r j.0 a; table = table_told _ _ r refl j.1; measures = kept_lent _ _ r j.0 a _ _ (rw f at c.fill_measures.ensures) }
+    record { told = kept_told _ _ r j.0 a; table = table_told _ _ r refl j.1; measures = lent_kept _ _ r (asked_are _ _ r j.0 a) refl _ _ (rw f at c.fill_measures.ensures) }

@@ -10,7 +10,7 @@ use Rattle.judge.specs.Rulebook.{pair_rule}
 use Rattle.judge.specs.Outcomes.{sums_after}
 use Rattle.judge.proofs.Loading.{counts_few}
 use Rattle.judge.proofs.Calling.{judged_counts, judged_fit, judged_words, summable_to, pairs_are}
-use Rattle.judge.proofs.Calling.{stages_told, stages_lent, asked_told, asked_lent, last_kept, kept_told, kept_lent, table_told}
+use Rattle.judge.proofs.Calling.{stages_are, stages_told, asked_are, asked_told, last_kept, kept_told, lent_refused, lent_kept, table_told}
 use Rattle.judge.proofs.judge_sums.Goals as goal
 
 pub returns-in_err-counts : goal.returns-in_err-counts
@@ -19,7 +19,7 @@ returns-in_err-counts c =
     let j = c.in_err-counts.ensures in
     let r = pair_rule (length c.args.sums.now) in
     let p = err_from_is_err_and c.from_residual.result c.from_residual.ensures.1 in
-    record { told = rw (p.1, p.2) (stages_told _ _ r j.0); table = table_told _ _ r refl j.1; sums = stages_lent _ _ r j.0 _ _ }
+    record { told = rw (p.1, p.2) (stages_told _ _ r j.0); table = table_told _ _ r refl j.1; sums = lent_refused _ _ r (stages_are _ _ r j.0) refl _ _ }
 
 pub overflow_mul-counts : goal.overflow_mul-counts
 overflow_mul-counts c = omega (arith, (counts_few _ (judged_counts _ _ c.in_ok-counts.ensures.0)).0)
@@ -31,7 +31,7 @@ returns-in_err-asked c =
     let a = c.in_err-asked.ensures in
     let r = pair_rule (length c.args.sums.now) in
     let p = err_from_is_err_and c.from_residual-in_err-asked.result c.from_residual-in_err-asked.ensures.1 in
-    record { told = rw (p.1, p.2) (asked_told _ _ r j.0 a refl); table = table_told _ _ r refl j.1; sums = asked_lent _ _ r j.0 a _ _ }
+    record { told = rw (p.1, p.2) (asked_told _ _ r j.0 a refl); table = table_told _ _ r refl j.1; sums = lent_refused _ _ r (asked_are _ _ r j.0 a) refl _ _ }
 
 pub slice_bounds-fill_sums-end : goal.slice_bounds-fill_sums-end
 slice_bounds-fill_sums-end c = let j = c.in_ok-counts.ensures in judged_fit _ _ j.0 _ refl j.1
@@ -56,4 +56,4 @@ returns c =
     let a = c.in_ok-asked.ensures in
     let r = pair_rule (length c.args.sums.now) in
     let f = pairs_are _ _ j.0 (judged_words _ _ j.0 _ refl j.1) c.bases_of.ensures in
-    record { told = kept_told _ _ r j.0 a; table = table_told _ _ r refl j.1; sums = kept_lent _ _ r j.0 a _ _ (rw f at c.fill_sums.ensures) }
+    record { told = kept_told _ _ r j.0 a; table = table_told _ _ r refl j.1; sums = lent_kept _ _ r (asked_are _ _ r j.0 a) refl _ _ (rw f at c.fill_sums.ensures) }

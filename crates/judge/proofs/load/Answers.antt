@@ -2,7 +2,7 @@
 use mathlib.Core.Path.{◌∙◌}
 use lib.ListN.{length}
 use Rattle.judge.specs.Rulebook.{measure_rule}
-use Rattle.judge.proofs.Calling.{told_countable, outcome_is}
+use Rattle.judge.proofs.Calling.{told_countable, outcome_found}
 use Rattle.judge.proofs.load.Goals as goal
 
 pub outcome_of-requires : goal.outcome_of-requires
@@ -11,4 +11,4 @@ outcome_of-requires c = told_countable _ _ (measure_rule (length c.args.measures
 pub returns : goal.returns
 returns c =
     let j = c.judge_measures.ensures in
-    (c.outcome_of.ensures ∙ outcome_is _ _ (measure_rule (length c.args.measures.now)) j.told, j.table, j.measures)
+    (c.outcome_of.ensures ∙ outcome_found _ _ (measure_rule (length c.args.measures.now)) j.told, j.table, j.measures)

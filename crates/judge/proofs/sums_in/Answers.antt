@@ -3,14 +3,14 @@ use mathlib.Core.Path.{◌∙◌, ap₂}
 use lib.IntN.{ℤ}
 use mir.Facts.{to_z-of_z}
 use mir.Syntax.{w64}
-use Rattle.entries.proofs.Keeping.{kept_lines}
+use Rattle.entries.proofs.Keeping.{kept_all}
 use Rattle.judge.proofs.sums_in.Goals as goal
 
 pub areas_sum-requires : goal.areas_sum-requires
-areas_sum-requires c = (kept_lines _ _ _ c.keep.ensures c.requires.sound, c.requires)
+areas_sum-requires c = (kept_all _ _ _ c.keep.ensures c.requires.sound, c.requires)
 
 pub outside_sum-requires : goal.outside_sum-requires
-outside_sum-requires c = (kept_lines _ _ _ c.keep.ensures c.requires.sound, c.requires)
+outside_sum-requires c = (kept_all _ _ _ c.keep.ensures c.requires.sound, c.requires)
 
 pub returns : goal.returns
 returns c =

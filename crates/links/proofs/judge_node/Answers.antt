@@ -1,7 +1,5 @@
-use native.Mathlib.Nat.{zero-add, sub-zero}
-use native.Mathlib.Omega.{arith}
-use borrow.Author.Rules.{rules}
-use Rattle.permitted.proofs.Signs.{passed_on}
+use native.Mathlib.Nat.{zero-add}
+use lib.Dec.{lit≤}
 use Rattle.links.specs.Links.{node_entry}
 use Rattle.links.specs.Scanning.{FirstRepeat}
 use Rattle.links.proofs.Scans.{repeats_at}
@@ -10,9 +8,7 @@ use Rattle.links.proofs.judge_node.Goals.{After-first_repeat-at}
 
 -- what the scan says of the node's slots
 scanned : (c : After-first_repeat-at) → FirstRepeat (node_entry c.args.file.now c.args.row) 0 9 c.first_repeat-at.result
-scanned c =
-    let s = c.first_repeat-at.ensures (node_entry c.args.file.now c.args.row) (λ i v l p. search (rules, passed_on)) (omega arith) in
-    rw (sub-zero c.first_repeat-at.result) at s.1
+scanned c = c.first_repeat-at.ensures (lit≤ tt)
 
 pub judge_slot-requires : goal.judge_slot-requires
 judge_slot-requires c =

@@ -9,5 +9,5 @@ pub returns : goal.returns
 returns g c =
     let r = c.in_ok-n.ensures in
     let all = c.read_input.auto.input ∙ length-replicate {A = ℕ} 65491 0 in
-    let text = c.text.ensures.text ∙ c.check_text-page.ensures in
+    let text = c.text.ensures.text ∙ c.check_text.ensures in
     on_ok_weaker _ (all_given check_settled _ _ _ _ _ _ _ all r.within.0 r.bytes text) c.write_text.ensures

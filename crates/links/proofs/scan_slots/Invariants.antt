@@ -1,11 +1,11 @@
--- `links::first_repeat` meets its contract: the inner loop finds no earlier slot like this one, or leaves both loops at it. Assumes nothing.
+-- `links::scan_slots` meets its contract: the inner loop finds no earlier slot like this one, or leaves both loops at it. Assumes nothing.
 use mathlib.Core.Bool.{true, false}
 use mathlib.Core.Path.{◌≡◌}
 use Prim.Native.Nat.{ℕ, ◌≤◌, ◌<◌}
 use lib.IntN.{ℤ}
 use Rattle.links.specs.Links.{equal}
 use Rattle.links.specs.Scanning.{clean}
-use Rattle.links.proofs.first_repeat.Given as goal
+use Rattle.links.proofs.scan_slots.Given as goal
 
 abbrev pub invariant-scan : goal.invariant-scan
 invariant-scan g l = record {

@@ -1,4 +1,4 @@
--- `report::areas_page` meets its contract: an A puts its line, with the measure that is counted up to it, and any other record puts none.
+-- `report::put_areas` meets its contract: an A puts its line, with the measure that is counted up to it, and any other record puts none.
 -- Assumes nothing.
 use mathlib.Core.Path.{◌≡◌, refl, sym, ◌∙◌, ap}
 use native.Mathlib.Omega.{arith}
@@ -12,8 +12,8 @@ use Rattle.walk.specs.States.{due_of, counts_at}
 use Rattle.walk.proofs.Walking.{at_none, next_state, counts_small}
 use Rattle.report.specs.Texts.{areas_text}
 use Rattle.report.proofs.Areas.{area_more, none_more}
-use Rattle.report.proofs.areas_page.Goals as goal
-use Rattle.report.proofs.areas_page.Goals.{in-Area, in_default}
+use Rattle.report.proofs.put_areas.Goals as goal
+use Rattle.report.proofs.put_areas.Goals.{in-Area, in_default}
 
 pub loop-k-init : goal.loop-k-init
 unfolding areas_text counts_at
@@ -21,15 +21,15 @@ loop-k-init c =
     record {
       state = c.at_start-s.ensures ∙ at_none _;
       areas = refl;
-      text = c.new-page.ensures;
-      room = omega (arith, ap length c.new-page.ensures);
+      text = c.requires.empty;
+      room = omega (arith, ap length c.requires.empty);
     }
 
 pub put_area-requires : goal.put_area-requires
-put_area-requires c = omega (arith, (counts_small c.args.file.now c.loop-k.k).areas, c.requires, c.records_of-k-end.ensures)
+put_area-requires c = omega (arith, (counts_small c.args.file.now c.loop-k.k).areas, c.requires.few, c.records_of-k-end.ensures)
 
 pub overflow_add-a : goal.overflow_add-a
-overflow_add-a c = omega (arith, (counts_small c.args.file.now c.loop-k.k).areas, c.requires, c.records_of-k-end.ensures)
+overflow_add-a c = omega (arith, (counts_small c.args.file.now c.loop-k.k).areas, c.requires.few, c.records_of-k-end.ensures)
 
 pub loop-k-preserved : goal.loop-k-preserved
 loop-k-preserved c =

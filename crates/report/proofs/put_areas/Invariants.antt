@@ -1,10 +1,10 @@
--- `report::areas_page` meets its contract: the loop carries the state, the areas and the text behind the records so far. Assumes nothing.
+-- `report::put_areas` meets its contract: the loop carries the state, the areas and the text behind the records so far. Assumes nothing.
 use mathlib.Core.Path.{◌≡◌}
 use Prim.Native.Nat.{◌*◌, ◌≤◌}
 use lib.ListN.{length}
 use Rattle.walk.specs.States.{state_at, counts_at}
 use Rattle.report.specs.Texts.{areas_text}
-use Rattle.report.proofs.areas_page.Given as goal
+use Rattle.report.proofs.put_areas.Given as goal
 
 abbrev pub invariant-loop-k : goal.invariant-loop-k
 invariant-loop-k l =
