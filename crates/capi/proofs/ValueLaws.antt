@@ -2,7 +2,7 @@
 -- caller named, and both round trips of records hold of the values. Assumes nothing.
 use mathlib.Core.Bool.{true}
 use mathlib.Core.List.{List}
-use mathlib.Core.Path.{◌≡◌, refl, ap, ◌∙◌}
+use mathlib.Core.Path.{◌≡◌, refl, ◌∙◌}
 use Prim.Native.Nat.{ℕ, zero, suc}
 use native.Mathlib.Omega.{arith}
 use Rattle.records.specs.declared.Kind.{Kind}
@@ -12,7 +12,7 @@ use Rattle.std.specs.Prelude.{Option, Some, None, Result, Ok, Err}
 use Rattle.records.specs.declared.Record.{Record}
 use Rattle.records.specs.Reading.{value_told, reading_of}
 use Rattle.records.specs.Writing.{record_bytes, fits_all}
-use Rattle.records.proofs.RecordLaws.{Sized, written_then_read, read_then_written, reading_nonzero, value_sized}
+use Rattle.records.proofs.RecordLaws.{Sized, written_then_read, read_then_written, reading_nonzero, value_sized, reading_kind}
 use Rattle.capi.specs.declared.Value.{Value}
 use Rattle.capi.specs.Values.{meant_by, kind_number, meant_record, given_value, found_in, found_by, found_of}
 
@@ -42,17 +42,17 @@ meant_number (suc (suc (suc (suc (suc (suc (suc (suc n)))))))) k e = let z : ◌
 
 -- ---- what is read has the number that the caller named, also where it is refused
 
-kind_in : (k : Kind) (x : Result Record Misread) → ((r : Record) → x ≡ Ok r → r.kind ≡ k) → (found_in k x).value.kind ≡ kind_number k
-kind_in k (Ok r) h = ap kind_number (h r refl)
-kind_in k (Err m) h = refl
+kind_in : (x : Result Record Misread) → (found_in x).value.kind ≡ kind_number (value_told x).kind
+kind_in (Ok r) = refl
+kind_in (Err m) = refl
 
 module _ (n : ℕ) (k : Kind) (e : meant_by n ≡ Some k) (s : List ℕ) where
-  found_in_lem : found_of n s ≡ found_in k (reading_of k s)
+  found_in_lem : found_of n s ≡ found_in (reading_of k s)
   unfolding found_of
   found_in_lem = rw e
 
   pub found_kind : (found_of n s).value.kind ≡ n
-  found_kind = rw (found_in_lem, kind_in k (reading_of k s) (λ r q. (read_then_written k s r q).2)) (meant_number n k e)
+  found_kind = rw (found_in_lem, kind_in (reading_of k s), reading_kind k s) (meant_number n k e)
 
 -- ---- the round trips
 
@@ -70,8 +70,8 @@ pub value_read_then_written : (n : ℕ) (k : Kind) (e : meant_by n ≡ Some k) (
     → (fits_all (meant_record k (found_of n s).value) ≡ true) × (record_bytes (meant_record k (found_of n s).value) ≡ s)
 value_read_then_written n k e s h = rw (found_in_lem n k e s) (by (reading_of k s) refl (rw (found_in_lem n k e s) at h))
   where
-    by : (x : Result Record Misread) → reading_of k s ≡ x → (found_in k x).number ≡ 0
-        → (fits_all (meant_record k (found_in k x).value) ≡ true) × (record_bytes (meant_record k (found_in k x).value) ≡ s)
+    by : (x : Result Record Misread) → reading_of k s ≡ x → (found_in x).number ≡ 0
+        → (fits_all (meant_record k (found_in x).value) ≡ true) × (record_bytes (meant_record k (found_in x).value) ≡ s)
     by (Ok r) q h = let w = read_then_written k s r q in rw (again r k w.2) (w.0, w.1)
     by (Err m) q h = absurd (reading_nonzero k s q h)
 
@@ -80,10 +80,10 @@ pub found_sized : (n : ℕ) (s : List ℕ) (k : Kind) → Sized (meant_record k 
 unfolding found_of
 found_sized n s k = by (meant_by n)
   where
-    in_kind : (j : Kind) (x : Result Record Misread) → Sized (value_told j x) → Sized (meant_record k (found_in j x).value)
-    in_kind j (Ok r) z = record { numbers = z.numbers; name = z.name; marks = z.marks }
-    in_kind j (Err m) z = record { numbers = z.numbers; name = z.name; marks = z.marks }
+    in_kind : (x : Result Record Misread) → Sized (value_told x) → Sized (meant_record k (found_in x).value)
+    in_kind (Ok r) z = record { numbers = z.numbers; name = z.name; marks = z.marks }
+    in_kind (Err m) z = record { numbers = z.numbers; name = z.name; marks = z.marks }
 
     by : (m : Option Kind) → Sized (meant_record k (found_by m s).value)
-    by (Some j) = in_kind j (reading_of j s) (value_sized j s)
+    by (Some j) = in_kind (reading_of j s) (value_sized j s)
     by None = record { numbers = refl; name = refl; marks = refl }

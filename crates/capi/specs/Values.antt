@@ -10,7 +10,7 @@ use Rattle.records.specs.declared.Kind.{Kind}
 use Rattle.records.specs.declared.Kind.TheVariants.{Mesh, Layer, Node, Line, Coordinates, Area, Loop}
 use Rattle.records.specs.declared.Record.{Record}
 use Rattle.records.specs.declared.Misread.{Misread}
-use Rattle.records.specs.Reading.{zeros, no_name, unmarked, zeroed, reading_of}
+use Rattle.records.specs.Reading.{zeros, no_name, unmarked, reading_of}
 use Rattle.records.specs.Writing.{Written}
 use Rattle.capi.specs.declared.Value.{Value}
 use Rattle.capi.specs.declared.Found.{Found}
@@ -48,9 +48,9 @@ given_value r = record { kind = kind_number r.kind; numbers = r.numbers; name = 
 -- ---- reading
 
 -- RULES 6.1: acceptance is number 0 at 0, 0; 9.4: refused, the value is the named kind with all else 0
-abbrev pub found_in : Kind → Result Record Misread → Found
-found_in k (Ok r) = record { number = 0; place = 0; column = 0; value = given_value r }
-found_in k (Err m) = record { number = m.number; place = m.place; column = m.column; value = given_value (zeroed k) }
+abbrev pub found_in : Result Record Misread → Found
+found_in (Ok r) = record { number = 0; place = 0; column = 0; value = given_value r }
+found_in (Err m) = record { number = m.number; place = m.place; column = m.column; value = given_value m.value }
 
 -- RULES 9.7: a number that stands for no kind is 3 at record 1, column 1, whatever the bytes: no letters are those of a kind that there isn't. All else is 0
 abbrev pub no_kind : Found
@@ -62,7 +62,7 @@ no_kind = record {
 }
 
 abbrev pub found_by : Option Kind → List ℕ → Found
-found_by (Some k) s = found_in k (reading_of k s)
+found_by (Some k) s = found_in (reading_of k s)
 found_by None s = no_kind
 
 -- RULES 9.4: a single record of the kind that the caller names

@@ -186,7 +186,7 @@ pub extern "C" fn stragumella_read_record(kind: u32, bytes: &[u8]) -> Found
             number: misread.number,
             place: misread.place,
             column: misread.column as u32,
-            value: Value::from(Record::zeroed(kind)),
+            value: Value::from(misread.value),
         },
     }
 }

@@ -104,13 +104,13 @@ module _ {L : List Field} {s : List ℕ} {ns : List ℤ} {nm ms : List ℕ} {n m
 
 -- ---- the answers, by the sort of the field
 
-bad : (k : Kind) (s : List ℕ) (x c : ℕ) (p : Fault) → first_fault (layout_of k) s ≡ fault_at x c p → (x ≡ 0 → ⊥) → refused_at x c ≡ fields_of k s
+bad : (k : Kind) (s : List ℕ) (x c : ℕ) (p : Fault) → first_fault (layout_of k) s ≡ fault_at x c p → (x ≡ 0 → ⊥) → refused_at k x c ≡ fields_of k s
 unfolding fields_of
 bad k s zero c p e h = absurd (h refl)
 bad k s (suc x) c p e h = rw e
 
 module _ (k : Kind) {s : List ℕ} {ns : List ℤ} {nm ms : List ℕ} {n m i j : ℕ} (g : Going (layout_of k) s ns nm ms n m i j) where
-  refuse : (f : Field) → Stands (layout_of k) j f → (x : ℕ) → fault_of f s ≡ x → (x ≡ 0 → ⊥) → refused_at x (start_of f) ≡ fields_of k s
+  refuse : (f : Field) → Stands (layout_of k) j f → (x : ℕ) → fault_of f s ≡ x → (x ≡ 0 → ⊥) → refused_at k x (start_of f) ≡ fields_of k s
   unfolding first_fault
   refuse f e x q h = bad k s x (start_of f) (first_fault (drop (j + 1) (layout_of k)) s) (g.fault ∙ rw (e, q)) h
 
@@ -123,7 +123,7 @@ module _ (k : Kind) {s : List ℕ} {ns : List ℤ} {nm ms : List ℕ} {n m i j :
       rw (d.0, d.1, d.2, d.3, y)
 
   module _ (a b c : ℕ) (e : Stands (layout_of k) j (Letters a b c)) {r : Bool} (q : r ≡ letters_right a b c (get_or s 0 0) (get_or s 1 0)) where
-    pub letters_refused : r ≡ false → refused_at 3 1 ≡ fields_of k s
+    pub letters_refused : r ≡ false → refused_at k 3 1 ≡ fields_of k s
     unfolding fault_of
     letters_refused z = refuse (Letters a b c) e 3 (rw (← q, z)) (λ x. omega arith)
 
@@ -132,7 +132,7 @@ module _ (k : Kind) {s : List ℕ} {ns : List ℤ} {nm ms : List ℕ} {n m i j :
     letters_next z = next g (Letters a b c) e n m i (omega arith) (omega arith) (omega arith) refl (rw (← q, z))
 
   module _ (c w : ℕ) (e : Stands (layout_of k) j (Number c w)) {r : Option ℤ} (q : r ≡ number_at s c w) where
-    pub number_refused : r ≡ None → refused_at 5 c ≡ fields_of k s
+    pub number_refused : r ≡ None → refused_at k 5 c ≡ fields_of k s
     unfolding fault_of
     number_refused z = refuse (Number c w) e 5 (rw (← q, z)) (λ x. omega arith)
 
@@ -141,7 +141,7 @@ module _ (k : Kind) {s : List ℕ} {ns : List ℤ} {nm ms : List ℕ} {n m i j :
     number_next v z = rw (← q, z) at (next g (Number c w) e (n + 1) m i refl (omega arith) (omega arith) refl (rw (← q, z)))
 
   module _ (c w : ℕ) (e : Stands (layout_of k) j (Code c w)) {r : Option codes.Code} (q : r ≡ code_in s c w) where
-    pub code_refused : r ≡ None → refused_at 5 c ≡ fields_of k s
+    pub code_refused : r ≡ None → refused_at k 5 c ≡ fields_of k s
     unfolding fault_of
     code_refused z = refuse (Code c w) e 5 (rw (← q, z)) (λ x. omega arith)
 
@@ -150,7 +150,7 @@ module _ (k : Kind) {s : List ℕ} {ns : List ℤ} {nm ms : List ℕ} {n m i j :
     code_next x z = rw (← q, z) at (next g (Code c w) e (n + 1) m (i + 1) refl (omega arith) refl refl (rw (← q, z)))
 
   module _ (c w : ℕ) (e : Stands (layout_of k) j (Name c w)) {r : Bool} (q : r ≡ text_at is_name s c w) where
-    pub name_refused : r ≡ false → refused_at 5 c ≡ fields_of k s
+    pub name_refused : r ≡ false → refused_at k 5 c ≡ fields_of k s
     unfolding fault_of
     name_refused z = refuse (Name c w) e 5 (rw (← q, z)) (λ x. omega arith)
 
@@ -175,7 +175,7 @@ module _ (k : Kind) {s : List ℕ} {ns : List ℤ} {nm ms : List ℕ} {n m i j :
         (name_stored z)
 
   module _ (c w : ℕ) (e : Stands (layout_of k) j (Blank c w)) {r : Bool} (q : r ≡ text_at is_blanks s c w) where
-    pub blank_refused : r ≡ false → refused_at 5 c ≡ fields_of k s
+    pub blank_refused : r ≡ false → refused_at k 5 c ≡ fields_of k s
     unfolding fault_of
     blank_refused z = refuse (Blank c w) e 5 (rw (← q, z)) (λ x. omega arith)
 

@@ -9,14 +9,15 @@ ghost use Rattle.records.specs.Reading.{refused_at, fields_of, reading_of};
 
 use records::{Field, Kind, Misread, Record};
 
-// A refusal at a column of the one record, which is record 1.
-fn refused(number: u32, column: usize) -> Result<Record, Misread>
-    ensures { result ≡ refused_at number column }
+// A refusal at a column of the one record, which is record 1; the value is the kind with all else 0.
+fn refused(kind: Kind, number: u32, column: usize) -> Result<Record, Misread>
+    ensures { result ≡ refused_at kind number column }
 {
     Err(Misread {
         number,
         place: 1,
         column,
+        value: Record::zeroed(kind),
     })
 }
 
@@ -35,19 +36,19 @@ fn read_fields(kind: Kind, s: &[u8]) -> Result<Record, Misread>
         match *field {
             Field::Letters(a, b, c) => {
                 if !records::letters_right(a, b, c, s[0], s[1]) {
-                    return refused(3, 1);
+                    return refused(kind, 3, 1);
                 }
             }
             Field::Number(c, w) => {
                 let Some(v) = numerals::read_number(s, c, w) else {
-                    return refused(5, c);
+                    return refused(kind, 5, c);
                 };
                 numbers[n] = v;
                 n += 1;
             }
             Field::Name(c, w) => {
                 if !texts::read_name(s, c, w) {
-                    return refused(5, c);
+                    return refused(kind, 5, c);
                 }
                 let at = c - 1;
                 name[m..m + w].copy_from_slice(&s[at..at + w]);
@@ -55,12 +56,12 @@ fn read_fields(kind: Kind, s: &[u8]) -> Result<Record, Misread>
             }
             Field::Blank(c, w) => {
                 if !texts::read_blank(s, c, w) {
-                    return refused(5, c);
+                    return refused(kind, 5, c);
                 }
             }
             Field::Code(c, w) => {
                 let Some(code) = records::read_code(s, c, w) else {
-                    return refused(5, c);
+                    return refused(kind, 5, c);
                 };
                 numbers[n] = code.value;
                 marks[q] = code.mark;
@@ -86,13 +87,13 @@ pub fn read_record(kind: Kind, s: &[u8]) -> Result<Record, Misread>
     ensures { result ≡ reading_of kind s.now }
 {
     if s.len() != 74 {
-        return refused(1, 1);
+        return refused(kind, 1, 1);
     }
     if s[72] != b'\r' {
-        return refused(2, 73);
+        return refused(kind, 2, 73);
     }
     if s[73] != b'\n' {
-        return refused(2, 74);
+        return refused(kind, 2, 74);
     }
     read_fields(kind, s)
 }

@@ -13,7 +13,7 @@ use borrow.Author.Tests.{eq-eqb, eqb-true}
 use Rattle.records.specs.Layout.{layout_of, start_of, numbers_of, bytes_of, marks_of, total}
 use Rattle.records.specs.Reading.{letters_fault, head_letters, letters_in, in_layer_five, numbers_in, name_in, marks_in, over, first_fault}
 use Rattle.records.specs.Reading.{zeros, no_name, unmarked}
-use Rattle.records.specs.Reading.{Fault, code_in, fault_of, fault_at, refused_at, value_told, value_in, fields_by, fields_of, reading_of}
+use Rattle.records.specs.Reading.{Fault, code_in, fault_of, fault_at, refused_at, zeroed, value_told, value_in, fields_by, fields_of, reading_of}
 use Rattle.records.specs.Writing.{second_letter, field_text, text_of, fits, record_bytes, of_layer_five, fields_fit, letters_fit, fits_all}
 use Rattle.permitted.specs.Permitted.{is_zero, is}
 use Rattle.records.specs.declared.Kind.{Kind}
@@ -45,7 +45,7 @@ abbrev Answer : Type 0
 Answer = Result Record Misread
 
 abbrev answer : Kind → List ℕ → Bool → Bool → Bool → ℕ → ℕ → Answer
-answer k s t u v n c = cond t (cond u (cond v (fields_by k s n c) (refused_at 2 74)) (refused_at 2 73)) (refused_at 1 1)
+answer k s t u v n c = cond t (cond u (cond v (fields_by k s n c) (refused_at k 2 74)) (refused_at k 2 73)) (refused_at k 1 1)
 
 -- a value is no refusal
 either : {m : Misread} {r : Record} → ◌≡◌ {A = Answer} (Err m) (Ok r) → ⊥
@@ -203,19 +203,44 @@ value_is k s {r} e =
     let q : ◌≡◌ {A = Answer} (Ok r) (Ok (value_in k s)) = sym e ∙ accepted_value k s (accepts k s e) in
     cc
 
--- a value's entries are put into those of the named kind with all else 0, and that is what a refusal has
-sized_by : (k : Kind) (s : List ℕ) (x : Answer) → reading_of k s ≡ x → Sized (value_told k x)
-sized_by k s (Ok r) e =
-    rw (value_is k s e) (record {
-      numbers = length-sets zeros 0 (over numbers_in (layout_of k) s);
-      name = length-sets no_name 0 (over name_in (layout_of k) s);
-      marks = length-sets unmarked 0 (over marks_in (layout_of k) s);
-    })
-sized_by k s (Err m) e = record { numbers = refl; name = refl; marks = refl }
+-- a value's entries are put into those of the named kind with all else 0, and a refused reading has these
+zeroed_sized : (k : Kind) → Sized (zeroed k)
+zeroed_sized k = record { numbers = refl; name = refl; marks = refl }
+
+value_in_sized : (k : Kind) (s : List ℕ) → Sized (value_in k s)
+value_in_sized k s = record {
+  numbers = length-sets zeros 0 (over numbers_in (layout_of k) s);
+  name = length-sets no_name 0 (over name_in (layout_of k) s);
+  marks = length-sets unmarked 0 (over marks_in (layout_of k) s);
+}
+
+sized_by : (k : Kind) (s : List ℕ) (t u v : Bool) (n c : ℕ) → Sized (value_told (answer k s t u v n c))
+sized_by k s true true true zero c = value_in_sized k s
+sized_by k s true true true (suc n) c = zeroed_sized k
+sized_by k s true true false n c = zeroed_sized k
+sized_by k s true false v n c = zeroed_sized k
+sized_by k s false u v n c = zeroed_sized k
 
 -- what is read has all its entries, also where it is refused
-pub value_sized : (k : Kind) (s : List ℕ) → Sized (value_told k (reading_of k s))
-value_sized k s = sized_by k s (reading_of k s) refl
+pub value_sized : (k : Kind) (s : List ℕ) → Sized (value_told (reading_of k s))
+unfolding reading_of fields_of
+value_sized k s =
+    sized_by k s (eqb (length s) 74) (eqb (get_or s 72 0) 13) (eqb (get_or s 73 0) 10)
+    (first_fault (layout_of k) s).number (first_fault (layout_of k) s).column
+
+kind_by : (k : Kind) (s : List ℕ) (t u v : Bool) (n c : ℕ) → (value_told (answer k s t u v n c)).kind ≡ k
+kind_by k s true true true zero c = refl
+kind_by k s true true true (suc n) c = refl
+kind_by k s true true false n c = refl
+kind_by k s true false v n c = refl
+kind_by k s false u v n c = refl
+
+-- it is of the named kind, also where it is refused
+pub reading_kind : (k : Kind) (s : List ℕ) → (value_told (reading_of k s)).kind ≡ k
+unfolding reading_of fields_of
+reading_kind k s =
+    kind_by k s (eqb (length s) 74) (eqb (get_or s 72 0) 13) (eqb (get_or s 73 0) 10)
+    (first_fault (layout_of k) s).number (first_fault (layout_of k) s).column
 
 -- 72 columns and the two bytes behind them
 line_is : (s : List ℕ) → length s ≡ 74 → get_or s 72 0 ≡ 13 → get_or s 73 0 ≡ 10 → take 72 s ++ (13 ∷ 10 ∷ []) ≡ s
@@ -319,9 +344,9 @@ unfolding first_fault
 fault_not [] s e = omega arith
 fault_not (f ∷ fs) s e = first_not (fault_of f s) (start_of f) (first_fault fs s) (field_not f s) (fault_not fs s) e
 
-number_is : {n c : ℕ} {m : Misread} → refused_at n c ≡ Err m → n ≡ m.number
-number_is {n} {c} {m} e =
-    let q : ◌≡◌ {A = Misread} (record { number = n; place = 1; column = c }) m = cc in
+number_is : {k : Kind} {n c : ℕ} {m : Misread} → refused_at k n c ≡ Err m → n ≡ m.number
+number_is {k} {n} {c} {m} e =
+    let q : ◌≡◌ {A = Misread} (record { number = n; place = 1; column = c; value = zeroed k }) m = cc in
     ap (λ (y : Misread). y.number) q
 
 answer_not : (x : ℕ) → (1 ≡ x → ⊥) → (2 ≡ x → ⊥) → (k : Kind) (s : List ℕ) (t u v : Bool) (n c : ℕ) → (1 ≤ n → n ≡ x → ⊥)

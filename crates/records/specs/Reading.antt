@@ -135,17 +135,18 @@ no_name = replicate 40 0
 abbrev pub unmarked : List ℕ
 unmarked = replicate 2 0
 
--- RULES 9.4: a refused reading has a number and a place; the record's number is 1
-abbrev pub refused_at : ℕ → ℕ → Result Record Misread
-refused_at n c = Err (record { number = n; place = 1; column = c })
-
 -- RULES 9.4: refused, the value is the named kind with all else 0
 abbrev pub zeroed : Kind → Record
 zeroed k = record { kind = k; numbers = zeros; name = no_name; marks = unmarked; letters = 0 }
 
-abbrev pub value_told : Kind → Result Record Misread → Record
-value_told k (Ok r) = r
-value_told k (Err m) = zeroed k
+-- RULES 9.4: a refused reading has a number, a place and that value; the record's number is 1
+abbrev pub refused_at : Kind → ℕ → ℕ → Result Record Misread
+refused_at k n c = Err (record { number = n; place = 1; column = c; value = zeroed k })
+
+-- the value of a reading, accepted or refused
+abbrev pub value_told : Result Record Misread → Record
+value_told (Ok r) = r
+value_told (Err m) = m.value
 
 -- RULES 4.8: a record's value is its kind, its numbers, its name bytes, its marks and its letters
 abbrev pub value_in : Kind → List ℕ → Record
@@ -159,7 +160,7 @@ value_in k s = record {
 
 abbrev pub fields_by : Kind → List ℕ → ℕ → ℕ → Result Record Misread
 fields_by k s zero c = Ok (value_in k s)
-fields_by k s (suc n) c = refused_at (suc n) c
+fields_by k s (suc n) c = refused_at k (suc n) c
 
 unfoldable pub fields_of : Kind → List ℕ → Result Record Misread
 fields_of k s = fields_by k s (first_fault (layout_of k) s).number (first_fault (layout_of k) s).column
@@ -168,5 +169,5 @@ fields_of k s = fields_by k s (first_fault (layout_of k) s).number (first_fault 
 unfoldable pub reading_of : Kind → List ℕ → Result Record Misread
 reading_of k s =
     cond (eqb (length s) 74)
-    (cond (eqb (get_or s 72 0) 13) (cond (eqb (get_or s 73 0) 10) (fields_of k s) (refused_at 2 74)) (refused_at 2 73))
-    (refused_at 1 1)
+    (cond (eqb (get_or s 72 0) 13) (cond (eqb (get_or s 73 0) 10) (fields_of k s) (refused_at k 2 74)) (refused_at k 2 73))
+    (refused_at k 1 1)

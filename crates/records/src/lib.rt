@@ -122,7 +122,7 @@ pub const SLOT_WIDTH: usize = 5;
 
 // A record's value (RULES 4.8): its kind, its numbers in column order, its name bytes, the marks of its
 // codes and the letters of an H, 1 or 2. What the kind lacks is 0.
-#[derive(Clone, Copy)]
+#[derive(Clone, Copy, Debug, PartialEq, Eq)]
 pub struct Record {
     pub kind: Kind,
     pub numbers: [i32; 16],
@@ -146,13 +146,14 @@ impl Record {
     }
 }
 
-// Why a record that is read alone is refused: the refusal's number, and its place, record 1 and the column
-// (RULES 9.4). The value of the reading is then `Record::zeroed` of the kind that the caller named.
+// What a record that is read alone is refused with: the refusal's number, its place, which is record 1 and the
+// column, and the value of a refused reading (RULES 9.4).
 #[derive(Clone, Copy, Debug, PartialEq, Eq)]
 pub struct Misread {
     pub number: u32,
     pub place: u32,
     pub column: usize,
+    pub value: Record,
 }
 
 // ---- the layouts, in column order

@@ -1,3 +1,4 @@
+-- `links::scan_slots` meets its contract: a slot that is passed is clean, and the one at which both loops are left equals an earlier one. Assumes nothing.
 use mathlib.Core.Path.{◌≡◌, sym, ◌∙◌}
 use native.Mathlib.Omega.{arith}
 use borrow.Author.Tests.{eq-eqb, ne_eqb}
