@@ -166,13 +166,20 @@ module _ (file : List ℕ) (room : ℕ) (last : Counts → Check) where
   counts_kept : call_verdict file room last ≡ Fine → counts_in (walked_of file) ≡ counts_at file (records_of file)
   counts_kept h = (walked_fine file (walked_kept file room (rules_fine file room last h))).2
 
-  -- a refusal of the stages stands; behind none what is asked speaks
-  call_is : call_verdict file room last ≡ asked_by (first_broken (rules_of file room)) (last (counts_in (walked_of file)))
+  -- a refusal of the stages stands; behind none what is asked speaks, of the counts of all records
+  all_asked : call_verdict file room last ≡ asked_by (first_broken (rules_of file room)) (last (counts_at file (records_of file)))
   unfolding call_verdict
-  call_is = in_turn (rules_of file room) _ ∙ by (first_broken (rules_of file room)) refl
+  all_asked = in_turn (rules_of file room) _ ∙ by (first_broken (rules_of file room))
     where
-      by : (v : Verdict) → first_broken (rules_of file room) ≡ v
-          → v or_else first_broken (block eighth 0 (last (counts_at file (records_of file)) ∷ [])) ≡ asked_by v (last (counts_in (walked_of file)))
+      by : (v : Verdict) → v or_else first_broken (block eighth 0 (last (counts_at file (records_of file)) ∷ [])) ≡ asked_by v (last (counts_at file (records_of file)))
+      by (Ok _) = refl
+      by (Err r) = refl
+
+  -- where none refuses, these are the counts of stages 1 and 2
+  call_is : call_verdict file room last ≡ asked_by (first_broken (rules_of file room)) (last (counts_in (walked_of file)))
+  call_is = all_asked ∙ by (first_broken (rules_of file room)) refl
+    where
+      by : (v : Verdict) → first_broken (rules_of file room) ≡ v → asked_by v (last (counts_at file (records_of file))) ≡ asked_by v (last (counts_in (walked_of file)))
       by (Ok _) h = let e = (walked_fine file (walked_kept file room h)).2 in rw e
       by (Err r) h = refl
 
@@ -206,14 +213,15 @@ module _ (file : List ℕ) (room : ℕ) (last : Counts → Check) where
     pub lent_kept : v ≡ Fine → (zs ds : List ℤ) {after : List ℤ} → after ≡ filled zs ds → after ≡ lent_by (call_verdict file room last) zs ds
     lent_kept q zs ds h = rw (← asked_is, q) h
 
-  -- the counts that are told can be told
-  pub told_countable : {t : Result Counts Refused} → t ≡ told_behind file room last → IfOk t Countable
+  -- the counts that are told are those of all records
+  pub told_counts : {c : Counts} → Ok c ≡ told_behind file room last → c ≡ counts_at file (records_of file)
   unfolding told_behind
-  told_countable e = rw e (by (call_verdict file room last) refl)
-    where
-      by : (v : Verdict) → call_verdict file room last ≡ v → IfOk (tabled_by v (counts_in (walked_of file))) Countable
-      by (Ok _) h = let e = counts_kept h in rw e (countable file (records_of file) (records_small file))
-      by (Err r) h = tt
+  told_counts e = let a = accepted_by _ _ e in a.1 ∙ counts_kept a.0
+
+  -- so they can be told
+  pub told_countable : {t : Result Counts Refused} → t ≡ told_behind file room last → IfOk t Countable
+  told_countable {t = Ok c} e = rw (told_counts e) (countable file (records_of file) (records_small file))
+  told_countable {t = Err x} e = tt
 
   -- what is found, by refusal numbers: of the counts that are told with 9 the words are
   pub outcome_found : {t : Result Counts Refused} → t ≡ told_behind file room last → outcome_told t (records_of file) ≡ outcome_behind file room last
@@ -276,11 +284,17 @@ asked_table file words (Ok _) x h = by x.holds
     by false = rw h
 asked_table file words (Err r) x h = refl
 
--- so the table that stands behind the stages is the one behind the call
+-- so the table that stands behind the stages is the one behind the call: by the number that is asked of the counts of stages 1 and 2
 pub table_told : (file words : List ℕ) (last : Counts → Check) → leb (last (counts_in (walked_of file))).number 9 ≡ false
     → {after : List ℕ} → after ≡ table_judged file words → after ≡ table_behind file last words
 unfolding table_judged table_behind
 table_told file words last m h = h ∙ rw (call_is file (length words) last) (asked_table file words (first_broken (rules_of file (length words))) (last (counts_in (walked_of file))) m)
+
+-- or by the one that is asked of the counts of all records
+pub table_found : (file words : List ℕ) (last : Counts → Check) → leb (last (counts_at file (records_of file))).number 9 ≡ false
+    → {after : List ℕ} → after ≡ table_judged file words → after ≡ table_behind file last words
+unfolding table_judged table_behind
+table_found file words last m h = h ∙ rw (all_asked file (length words) last) (asked_table file words (first_broken (rules_of file (length words))) (last (counts_at file (records_of file))) m)
 
 -- what the layer sums answer
 pub sums_are : (file : List ℕ) (room i : ℕ) {t : Result (ℤ × ℤ) Refused} → t ≡ layer_told (told_behind file room (layer_rule i)) file i → sums_told t ≡ sums_of file room i
