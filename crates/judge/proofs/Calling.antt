@@ -284,13 +284,13 @@ asked_table file words (Ok _) x h = by x.holds
     by false = rw h
 asked_table file words (Err r) x h = refl
 
--- so the table that stands behind the stages is the one behind the call: by the number that is asked of the counts of stages 1 and 2
+-- so the table that stands behind the stages is the one behind the call, where what is asked has a number above 9: of the counts of stages 1 and 2
 pub table_told : (file words : List ℕ) (last : Counts → Check) → leb (last (counts_in (walked_of file))).number 9 ≡ false
     → {after : List ℕ} → after ≡ table_judged file words → after ≡ table_behind file last words
 unfolding table_judged table_behind
 table_told file words last m h = h ∙ rw (call_is file (length words) last) (asked_table file words (first_broken (rules_of file (length words))) (last (counts_in (walked_of file))) m)
 
--- or by the one that is asked of the counts of all records
+-- or of the counts of all records
 pub table_found : (file words : List ℕ) (last : Counts → Check) → leb (last (counts_at file (records_of file))).number 9 ≡ false
     → {after : List ℕ} → after ≡ table_judged file words → after ≡ table_behind file last words
 unfolding table_judged table_behind
