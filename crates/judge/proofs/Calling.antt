@@ -284,17 +284,21 @@ asked_table file words (Ok _) x h = by x.holds
     by false = rw h
 asked_table file words (Err r) x h = refl
 
--- so the table that stands behind the stages is the one behind the call, where what is asked has a number above 9: of the counts of stages 1 and 2
+-- so the table that stands behind the stages is the one behind the call, where what is asked, x, has a number above 9
+asked_stands : (file words : List ℕ) (last : Counts → Check) (x : Check) → call_verdict file (length words) last ≡ asked_by (first_broken (rules_of file (length words))) x
+    → leb x.number 9 ≡ false → {after : List ℕ} → after ≡ table_judged file words → after ≡ table_behind file last words
+unfolding table_judged table_behind
+asked_stands file words last x a m h = h ∙ rw a (asked_table file words (first_broken (rules_of file (length words))) x m)
+
+-- it is asked of the counts of stages 1 and 2
 pub table_told : (file words : List ℕ) (last : Counts → Check) → leb (last (counts_in (walked_of file))).number 9 ≡ false
     → {after : List ℕ} → after ≡ table_judged file words → after ≡ table_behind file last words
-unfolding table_judged table_behind
-table_told file words last m h = h ∙ rw (call_is file (length words) last) (asked_table file words (first_broken (rules_of file (length words))) (last (counts_in (walked_of file))) m)
+table_told file words last = asked_stands file words last _ (call_is file (length words) last)
 
 -- or of the counts of all records
 pub table_found : (file words : List ℕ) (last : Counts → Check) → leb (last (counts_at file (records_of file))).number 9 ≡ false
     → {after : List ℕ} → after ≡ table_judged file words → after ≡ table_behind file last words
-unfolding table_judged table_behind
-table_found file words last m h = h ∙ rw (all_asked file (length words) last) (asked_table file words (first_broken (rules_of file (length words))) (last (counts_at file (records_of file))) m)
+table_found file words last = asked_stands file words last _ (all_asked file (length words) last)
 
 -- what the layer sums answer
 pub sums_are : (file : List ℕ) (room i : ℕ) {t : Result (ℤ × ℤ) Refused} → t ≡ layer_told (told_behind file room (layer_rule i)) file i → sums_told t ≡ sums_of file room i
